@@ -1,0 +1,139 @@
+-- Legal histories, what a trail knows of them, and what they did with each task set. Newest entries come first.
+use Rattle.std.specs.Prelude.{◌≡◌, ℕ, ◌+◌, ◌<◌, Bool, true, false, cond, eqb, ◌&&◌, List, [], ◌∷◌, ◌++◌, Option, Some, None}
+use Rattle.slot_history.specs.declared.shape.Shape.{Shape}
+use Rattle.slot_history.specs.declared.act.Act.{Act}
+use Rattle.slot_history.specs.declared.act.Act.TheVariants.{LookOpen, ClaimRange, ClaimUsed, ShutWon, ShutLost, PayLast, MarkMarked, MarkMissed, SweepLast, ReserveGot, AdmitGot, Install, Release}
+use Rattle.slot_history.specs.declared.act.Entry.{Entry}
+use Rattle.slot_history.specs.declared.place.Place.{Place}
+use Rattle.slot_history.specs.States.{slot_of, id_at, held_at, is_inside}
+use Rattle.slot_history.specs.Steps.{site, state_after}
+use Rattle.slot_history.specs.Allowed.{IsAllowed}
+
+-- each call was allowed where it was made, and had its answer
+abbrev pub IsLegal : Shape → List Entry → Type 0
+IsLegal d [] = Unit {0}
+IsLegal d (e ∷ es) = (e.worker < d.workers) × IsAllowed d (state_after d es) e.worker e.act × IsLegal d es
+
+abbrev pub entry : ℕ → Act → Entry
+entry w a = record { worker = w; act = a }
+
+-- the entries of one worker
+abbrev pub own_calls : ℕ → List Entry → List Entry
+own_calls w [] = []
+own_calls w (e ∷ es) = cond (eqb w e.worker) (e ∷ own_calls w es) (own_calls w es)
+
+-- where a worker is after a history
+abbrev pub place_of : Shape → List Entry → ℕ → Place
+place_of d h w = (state_after d h).places w
+
+-- the history begins with what the trail has
+abbrev pub Begins : List Entry → List Entry → Type 0
+Begins h t = (more : List Entry) × (h ≡ more ++ t)
+
+-- After the call a of w, its trail `new` ends with this call and begins with the trail `old`; of w it has just its own
+-- calls, and it is a legal history.
+abbrev pub Called : Shape → ℕ → Act → List Entry → List Entry → Type 0
+Called d w a old new = (h : List Entry) × (new ≡ entry w a ∷ h) × Begins h old × (own_calls w h ≡ own_calls w old) × IsLegal d new
+
+-- ---- claims
+
+-- a range of tuples that was claimed, from one number up to below another, and by whom
+pub record Morsel : Type 0 where
+  pub worker : ℕ
+  pub from : ℕ
+  pub to : ℕ
+
+-- one more where the call is a claim that got a range, by a worker that is inside with the id
+abbrev pub claims_after : ℕ → Act → Place → ℕ → List Morsel → List Morsel
+claims_after w (ClaimRange n from to) p id ms = cond (is_inside p id) (record { worker = w; from = from; to = to } ∷ ms) ms
+claims_after w _ p id ms = ms
+
+-- the ranges that were claimed of an id, newest first
+abbrev pub claims_of : Shape → ℕ → List Entry → List Morsel
+claims_of d id [] = []
+claims_of d id (e ∷ es) = claims_after e.worker e.act (place_of d es e.worker) id (claims_of d id es)
+
+abbrev pub ranges_after : Act → Place → ℕ → List (ℕ × ℕ) → List (ℕ × ℕ)
+ranges_after (ClaimRange n from to) p id rs = cond (is_inside p id) ((from, to) ∷ rs) rs
+ranges_after _ p id rs = rs
+
+-- the ranges that w claimed of an id, newest first, each from one number up to below another
+abbrev pub ranges_of : Shape → ℕ → ℕ → List Entry → List (ℕ × ℕ)
+ranges_of d w id [] = []
+ranges_of d w id (e ∷ es) = cond (eqb w e.worker) (ranges_after e.act (place_of d es w) id (ranges_of d w id es)) (ranges_of d w id es)
+
+-- Claims, newest first, tile a total: the newest ends at the total and is not empty, and the earlier ones tile the
+-- number at which it begins. Without claims the total is 0.
+abbrev pub Tiles : List Morsel → ℕ → Type 0
+Tiles [] total = total ≡ 0
+Tiles (m ∷ ms) total = (m.to ≡ total) × (m.from < m.to) × Tiles ms m.from
+
+-- ---- task sets
+
+abbrev pub is_install : Act → ℕ → Bool
+is_install (Install jd) id = eqb jd id
+is_install _ id = false
+
+-- how many installs of an id there are
+abbrev pub installs_of : ℕ → List Entry → ℕ
+installs_of id [] = 0
+installs_of id (e ∷ es) = cond (is_install e.act id) 1 0 + installs_of id es
+
+-- the total with which an id was installed, if it was
+abbrev pub total_of : Shape → ℕ → List Entry → Option ℕ
+total_of d id [] = None
+total_of d id (e ∷ es) = cond (is_install e.act id) (held_at (place_of d es e.worker)).total (total_of d id es)
+
+-- the slot in which an id was installed, if it was
+abbrev pub slot_with : Shape → ℕ → List Entry → Option ℕ
+slot_with d id [] = None
+slot_with d id (e ∷ es) = cond (is_install e.act id) (Some (slot_of (place_of d es e.worker))) (slot_with d id es)
+
+-- each install is of a task set that the subject has, with its total; `totals` gives the totals of the subject
+abbrev pub IsOfTotals : (ℕ → Option ℕ) → Shape → List Entry → Type 0
+IsOfTotals totals d h = (id total : ℕ) → total_of d id h ≡ Some total → totals id ≡ Some total
+
+abbrev pub is_admit : Act → ℕ → Bool
+is_admit (AdmitGot p) q = eqb p q
+is_admit _ q = false
+
+-- how many times a query was admitted
+abbrev pub admits_of : ℕ → List Entry → ℕ
+admits_of q [] = 0
+admits_of q (e ∷ es) = cond (is_admit e.act q) 1 0 + admits_of q es
+
+abbrev pub is_last : Act → Bool
+is_last SweepLast = true
+is_last PayLast = true
+is_last _ = false
+
+-- how many calls were answered that the task set of an id is finalised now
+abbrev pub lasts_of : Shape → ℕ → List Entry → ℕ
+lasts_of d id [] = 0
+lasts_of d id (e ∷ es) = cond (is_last e.act && eqb (id_at (place_of d es e.worker)) id) 1 0 + lasts_of d id es
+
+-- a look that answers an id, or a claim, a shut or a mark of it, by a worker at this place
+abbrev pub touches : Act → Place → ℕ → Bool
+touches (LookOpen jd) p id = eqb jd id
+touches (ClaimRange n from to) p id = eqb (id_at p) id
+touches (ClaimUsed n) p id = eqb (id_at p) id
+touches ShutWon p id = eqb (id_at p) id
+touches ShutLost p id = eqb (id_at p) id
+touches MarkMarked p id = eqb (id_at p) id
+touches MarkMissed p id = eqb (id_at p) id
+touches _ p id = false
+
+-- a call that gives a slot to another task set: an install, a reservation or a release
+abbrev pub renews : Act → Bool
+renews (ReserveGot s) = true
+renews (Install id) = true
+renews Release = true
+renews _ = false
+
+-- A task set that was finalised was so once, and in place: at every moment from then on nobody is inside with it and no
+-- call touches it, and no call gives its slot away between its install and then.
+pub record FinalisedOnce (d : Shape) (id : ℕ) (h : List Entry) : Type 0 where
+  pub once : lasts_of d id h ≡ 1
+  pub none_inside : (early : List Entry) → Begins h early → 0 < lasts_of d id early → (v : ℕ) → is_inside (place_of d early v) id ≡ false
+  pub untouched : (e : Entry) (early : List Entry) → Begins h (e ∷ early) → 0 < lasts_of d id early → touches e.act (place_of d early e.worker) id ≡ false
+  pub in_place : (e : Entry) (early : List Entry) → Begins h (e ∷ early) → slot_with d id early ≡ Some (site e.act (place_of d early e.worker)) → renews e.act ≡ true → 0 < lasts_of d id early

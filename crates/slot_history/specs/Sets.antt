@@ -1,0 +1,16 @@
+-- Functions with one value changed, and sets of workers, which are tests of their numbers.
+use Rattle.std.specs.Prelude.{ℕ, zero, suc, ◌+◌, Bool, cond, eqb}
+
+-- f with x at k: all else stays
+abbrev pub upd : {A : Type 0} → (ℕ → A) → ℕ → A → ℕ → A
+upd f k x j = cond (eqb j k) x (f j)
+
+-- the least number below n that is in the set, or n where there is none
+abbrev pub least : ℕ → (ℕ → Bool) → ℕ
+least zero f = 0
+least (suc n) f = cond (f 0) 0 (suc (least n (λ k. f (suc k))))
+
+-- how many numbers below n are in the set
+abbrev pub count_of : ℕ → (ℕ → Bool) → ℕ
+count_of zero f = 0
+count_of (suc n) f = cond (f n) 1 0 + count_of n f

@@ -1,0 +1,204 @@
+-- The state of a slot and of the whole object.
+use Rattle.std.specs.Prelude.{◌≡◌, ◌⊎◌, ℕ, ◌+◌, ◌*◌, ◌/◌, ◌%◌, eqb, Bool, true, false, cond, not, ◌&&◌, Option, Some, None, unwrap_or}
+use Rattle.slot_history.specs.declared.shape.TheConstants.{STAGES}
+use Rattle.slot_history.specs.declared.place.Held.{Held}
+use Rattle.slot_history.specs.declared.place.Place.{Place}
+use Rattle.slot_history.specs.declared.place.Place.TheVariants.{Free, Entered, Astray, Inside, Used, Behind, Leading, Asking, Owing, Holding, Announcing}
+
+-- a task set in a slot: its id, its total, and how many tuples were asked for so far
+pub record TaskSet : Type 0 where
+  pub id : ℕ
+  pub total : ℕ
+  pub cursor : ℕ
+
+-- the end of a task set that is shut: who shut it, the sets of workers that were asked, that were marked and that
+-- paid, and whether the coordinator has swept
+pub record Ending : Type 0 where
+  pub coordinator : ℕ
+  pub asked : ℕ → Bool
+  pub marked : ℕ → Bool
+  pub paid : ℕ → Bool
+  pub swept : Bool
+
+-- the state of a slot
+pub data SlotState : Type 0 where
+  Empty : SlotState
+  -- by whom, and what it noted and set in this holding
+  Reserved : ℕ → Held → SlotState
+  Open : TaskSet → SlotState
+  Shut : TaskSet → Ending → SlotState
+  -- the id that is finalised, by whom, and what it noted and set in this holding
+  Finishing : ℕ → ℕ → Held → SlotState
+
+-- what a worker knows of a slot: whether its task set may want work, and of which query it is, if that is known
+pub record NoticeRecord : Type 0 where
+  pub active : Bool
+  pub group : Option ℕ
+
+-- the object: its slots; the places of its workers; by worker and slot the change notices and the return notices that
+-- are pending, and the notice records; the numbers of admitted queries and of task sets noted as done
+pub record ObjectState : Type 0 where
+  pub slots : ℕ → SlotState
+  pub places : ℕ → Place
+  pub changes : ℕ → ℕ → Bool
+  pub returns : ℕ → ℕ → Bool
+  pub records : ℕ → ℕ → NoticeRecord
+  pub admitted : ℕ
+  pub finished : ℕ
+
+-- all slots are empty, all workers are free, and nothing is known
+abbrev pub opening : ObjectState
+opening = record {
+  slots = λ s. Empty;
+  places = λ w. Free;
+  changes = λ w s. false;
+  returns = λ w s. false;
+  records = λ w s. record { active = false; group = None };
+  admitted = 0;
+  finished = 0;
+}
+
+-- the slot that a place names, else 0
+abbrev pub slot_of : Place → ℕ
+slot_of Free = 0
+slot_of (Entered s) = s
+slot_of (Astray s) = s
+slot_of (Inside s id) = s
+slot_of (Used s id) = s
+slot_of (Behind s id) = s
+slot_of (Leading s id) = s
+slot_of (Asking s id asked marked) = s
+slot_of (Owing s id) = s
+slot_of (Holding s h) = s
+slot_of (Announcing s again told) = s
+
+-- the id that a place names, else 0
+abbrev pub id_at : Place → ℕ
+id_at (Inside s id) = id
+id_at (Used s id) = id
+id_at (Behind s id) = id
+id_at (Leading s id) = id
+id_at (Asking s id asked marked) = id
+id_at (Owing s id) = id
+id_at _ = 0
+
+-- what the holder of a slot has when it reserved the slot
+abbrev pub reservation : Held
+reservation = record { query = None; stage = 0; again = false; noted = 0; total = None }
+
+-- what the holder of a slot has when it begins to finalise a task set
+abbrev pub finalisation : ℕ → Held
+finalisation id = record { query = Some (id / STAGES); stage = id % STAGES; again = true; noted = 0; total = None }
+
+-- what a holder has in hand; at other places nothing
+abbrev pub held_at : Place → Held
+held_at (Holding s h) = h
+held_at _ = reservation
+
+-- the id of the task set that comes next in a holding with a query: that of stage 0 after a reservation, and after a
+-- finalisation that of the next stage
+abbrev pub next_id : Held → ℕ
+next_id h = STAGES * unwrap_or h.query 0 + cond h.again (h.stage + 1) 0
+
+-- the task set of a slot that is open or shut
+abbrev pub task_of : SlotState → TaskSet
+task_of (Open t) = t
+task_of (Shut t e) = t
+task_of _ = record { id = 0; total = 0; cursor = 0 }
+
+-- the id of the task set of a slot, which it has while it is open, shut or being finalised; else 0
+abbrev pub id_of : SlotState → ℕ
+id_of (Open t) = t.id
+id_of (Shut t e) = t.id
+id_of (Finishing id w h) = id
+id_of _ = 0
+
+abbrev pub has_id : SlotState → Bool
+has_id (Open t) = true
+has_id (Shut t e) = true
+has_id (Finishing id w h) = true
+has_id _ = false
+
+abbrev pub is_empty : SlotState → Bool
+is_empty Empty = true
+is_empty _ = false
+
+-- a look finds no task set there
+abbrev pub is_vacant : SlotState → Bool
+is_vacant Empty = true
+is_vacant (Reserved w h) = true
+is_vacant _ = false
+
+abbrev pub is_open : SlotState → Bool
+is_open (Open t) = true
+is_open _ = false
+
+abbrev pub is_shut : SlotState → Bool
+is_shut (Shut t e) = true
+is_shut _ = false
+
+-- a look finds that the task set may not be worked on any more
+abbrev pub is_tagged : SlotState → Bool
+is_tagged (Shut t e) = true
+is_tagged (Finishing id w h) = true
+is_tagged _ = false
+
+abbrev pub is_swept : SlotState → Bool
+is_swept (Shut t e) = e.swept
+is_swept _ = false
+
+-- a worker that was marked at a shut slot and has not paid
+abbrev pub owes : SlotState → ℕ → Bool
+owes (Shut t e) v = e.marked v && not (e.paid v)
+owes _ v = false
+
+-- the word of a slot: 0 empty, 1 reserved, (id + 1) * 4 + 2 open, and that plus 1 once it is shut
+abbrev pub slot_word : SlotState → ℕ
+slot_word Empty = 0
+slot_word (Reserved w h) = 1
+slot_word (Open t) = (t.id + 1) * 4 + 2
+slot_word (Shut t e) = (t.id + 1) * 4 + 3
+slot_word (Finishing id w h) = (id + 1) * 4 + 3
+
+-- a worker is at a slot from its enter to its leave
+abbrev pub is_at : Place → ℕ → Bool
+is_at (Entered t) s = eqb t s
+is_at (Astray t) s = eqb t s
+is_at (Inside t id) s = eqb t s
+is_at (Used t id) s = eqb t s
+is_at (Behind t id) s = eqb t s
+is_at (Leading t id) s = eqb t s
+is_at _ s = false
+
+-- a worker is inside with an id from the look that answered it to the leave; it has its own cell of the slot then
+abbrev pub is_inside : Place → ℕ → Bool
+is_inside (Inside s jd) id = eqb jd id
+is_inside (Used s jd) id = eqb jd id
+is_inside (Behind s jd) id = eqb jd id
+is_inside (Leading s jd) id = eqb jd id
+is_inside _ id = false
+
+-- the worker is inside at a slot, and so has its own cell of it
+abbrev pub has_own_cell : Place → ℕ → Bool
+has_own_cell (Inside t id) s = eqb t s
+has_own_cell (Used t id) s = eqb t s
+has_own_cell (Behind t id) s = eqb t s
+has_own_cell (Leading t id) s = eqb t s
+has_own_cell _ s = false
+
+-- the worker holds a slot, and so has all cells of it
+abbrev pub holds : Place → ℕ → Bool
+holds (Holding t h) s = eqb t s
+holds _ s = false
+
+-- the cell of worker v at slot s is with worker u, who alone may exchange it
+abbrev pub HasCell : ObjectState → ℕ → ℕ → ℕ → Type 0
+HasCell S s v u = ((u ≡ v) × (has_own_cell (S.places u) s ≡ true)) ⊎ (holds (S.places u) s ≡ true)
+
+-- the places from which a worker may leave its slot
+abbrev pub can_leave : Place → Bool
+can_leave (Astray s) = true
+can_leave (Inside s id) = true
+can_leave (Behind s id) = true
+can_leave (Leading s id) = true
+can_leave _ = false

@@ -1,0 +1,230 @@
+-- What a call changes.
+use Rattle.std.specs.Prelude.{ℕ, ◌+◌, ◌/◌, Bool, true, false, cond, eqb, not, ◌&&◌, List, [], ◌∷◌, Option, Some, None, unwrap_or}
+use Rattle.slot_history.specs.declared.shape.Shape.{Shape}
+use Rattle.slot_history.specs.declared.shape.TheConstants.{STAGES}
+use Rattle.slot_history.specs.declared.act.Act.{Act}
+use Rattle.slot_history.specs.declared.act.Act.TheVariants.{Enter, LookOpen, LookInvalid, LookVacant, ClaimRange, ClaimUsed, ShutWon, ShutLost, LeaveLeft, LeaveOwe, PayLast, PayDone, MarkMarked, MarkMissed, SweepLast, SweepOthers, ReserveGot, ReserveTaken, AdmitGot, Note, Total, Install, Release, Tell, TakeReturn, TakeChange}
+use Rattle.slot_history.specs.declared.act.Entry.{Entry}
+use Rattle.slot_history.specs.declared.place.Held.{Held}
+use Rattle.slot_history.specs.declared.place.Place.{Place}
+use Rattle.slot_history.specs.declared.place.Place.TheVariants.{Free, Entered, Astray, Inside, Used, Behind, Leading, Asking, Owing, Holding, Announcing}
+use Rattle.slot_history.specs.Sets.{upd, least}
+use Rattle.slot_history.specs.States.{TaskSet, Ending, SlotState, Empty, Reserved, Open, Shut, Finishing, NoticeRecord, ObjectState, opening, slot_of, id_at, reservation, finalisation, held_at}
+
+-- the slot that a call is about
+abbrev pub site : Act → Place → ℕ
+site (Enter s) p = s
+site (ReserveGot s) p = s
+site (ReserveTaken s word) p = s
+site _ p = slot_of p
+
+-- what a holder has in hand after a call
+abbrev pub held_after : Act → Held → Held
+held_after (AdmitGot q) h = record h { query = Some q }
+held_after (Note k) h = record h { noted = k }
+held_after (Total t) h = record h { total = Some t }
+held_after _ h = h
+
+-- ---- the place of the worker that calls
+
+-- whoever shut the task set leaves to ask the others, and all others are free
+abbrev pub left : Place → Place
+left (Leading s id) = Asking s id 0 0
+left _ = Free
+
+-- a coordinator asked one more, and marked so many
+abbrev pub asked_one : Place → ℕ → Place
+asked_one (Asking s id asked marked) k = Asking s id (asked + 1) (marked + k)
+asked_one p k = p
+
+abbrev pub holding_after : Act → Place → Place
+holding_after a (Holding s h) = Holding s (held_after a h)
+holding_after a p = p
+
+-- who has told all workers is free
+abbrev pub told_one : Shape → Place → Place
+told_one d (Announcing s again told) = cond (eqb (told + 1) d.workers) Free (Announcing s again (told + 1))
+told_one d p = p
+
+-- the worker's place after its call, by its place before; a call that is not named leaves it where it is
+abbrev pub moved : Shape → Act → Place → Place
+moved d (Enter s) p = Entered s
+moved d (LookOpen id) p = Inside (slot_of p) id
+moved d LookInvalid p = Astray (slot_of p)
+moved d LookVacant p = Astray (slot_of p)
+moved d (ClaimUsed n) p = Used (slot_of p) (id_at p)
+moved d ShutWon p = Leading (slot_of p) (id_at p)
+moved d ShutLost p = Behind (slot_of p) (id_at p)
+moved d LeaveLeft p = left p
+moved d (LeaveOwe id) p = Owing (slot_of p) id
+moved d PayLast p = Holding (slot_of p) (finalisation (id_at p))
+moved d PayDone p = Free
+moved d MarkMarked p = asked_one p 1
+moved d MarkMissed p = asked_one p 0
+moved d SweepLast p = Holding (slot_of p) (finalisation (id_at p))
+moved d (SweepOthers n) p = Free
+moved d (ReserveGot s) p = Holding s reservation
+moved d (AdmitGot q) p = holding_after (AdmitGot q) p
+moved d (Note k) p = holding_after (Note k) p
+moved d (Total t) p = holding_after (Total t) p
+moved d (Install id) p = Announcing (slot_of p) (held_at p).again 0
+moved d Release p = Free
+moved d Tell p = told_one d p
+moved d _ p = p
+
+-- ---- the slot that the call is about
+
+abbrev pub grown : TaskSet → ℕ → TaskSet
+grown t n = record t { cursor = t.cursor + n }
+
+-- n more tuples were asked for
+abbrev pub claimed : SlotState → ℕ → SlotState
+claimed (Open t) n = Open (grown t n)
+claimed (Shut t e) n = Shut (grown t n) e
+claimed x n = x
+
+-- a task set that w just shut: nobody was asked
+abbrev pub first_ending : ℕ → Ending
+first_ending w = record { coordinator = w; asked = λ v. false; marked = λ v. false; paid = λ v. false; swept = false }
+
+abbrev pub shut_by : ℕ → SlotState → SlotState
+shut_by w (Open t) = Shut t (first_ending w)
+shut_by w x = x
+
+-- the worker that a coordinator asks next: the least that is neither asked nor the coordinator
+abbrev pub next_asked : Shape → Ending → ℕ
+next_asked d e = least d.workers (λ v. not (e.asked v) && not (eqb v e.coordinator))
+
+-- the end of a task set after a call of w about it
+abbrev pub ending_after : Shape → ℕ → Act → Ending → Ending
+ending_after d w MarkMarked e = record e { asked = upd e.asked (next_asked d e) true; marked = upd e.marked (next_asked d e) true }
+ending_after d w MarkMissed e = record e { asked = upd e.asked (next_asked d e) true }
+ending_after d w (SweepOthers n) e = record e { swept = true }
+ending_after d w PayDone e = record e { paid = upd e.paid w true }
+ending_after d w _ e = e
+
+abbrev pub ended : Shape → ℕ → Act → SlotState → SlotState
+ended d w a (Shut t e) = Shut t (ending_after d w a e)
+ended d w a x = x
+
+abbrev pub finalised_by : ℕ → SlotState → SlotState
+finalised_by w (Shut t e) = Finishing t.id w (finalisation t.id)
+finalised_by w x = x
+
+abbrev pub held_on : Act → SlotState → SlotState
+held_on a (Reserved w h) = Reserved w (held_after a h)
+held_on a (Finishing id w h) = Finishing id w (held_after a h)
+held_on a x = x
+
+-- the slot opens with an id and the total that was set
+abbrev pub opened : ℕ → SlotState → SlotState
+opened id (Reserved w h) = Open (record { id = id; total = unwrap_or h.total 0; cursor = 0 })
+opened id (Finishing jd w h) = Open (record { id = id; total = unwrap_or h.total 0; cursor = 0 })
+opened id x = x
+
+-- the slot after a call of w that is about it; a call that is not named leaves it as it is
+abbrev pub slot_after : Shape → ℕ → Act → SlotState → SlotState
+slot_after d w (ClaimRange n from to) x = claimed x n
+slot_after d w (ClaimUsed n) x = claimed x n
+slot_after d w ShutWon x = shut_by w x
+slot_after d w PayLast x = finalised_by w x
+slot_after d w PayDone x = ended d w PayDone x
+slot_after d w MarkMarked x = ended d w MarkMarked x
+slot_after d w MarkMissed x = ended d w MarkMissed x
+slot_after d w SweepLast x = finalised_by w x
+slot_after d w (SweepOthers n) x = ended d w (SweepOthers n) x
+slot_after d w (ReserveGot s) x = Reserved w reservation
+slot_after d w (AdmitGot q) x = held_on (AdmitGot q) x
+slot_after d w (Note k) x = held_on (Note k) x
+slot_after d w (Total t) x = held_on (Total t) x
+slot_after d w (Install id) x = opened id x
+slot_after d w Release x = Empty
+slot_after d w _ x = x
+
+-- ---- notices
+
+-- the notices of one kind after an announcer at this place told one more worker; `again` is the kind
+abbrev pub told : Bool → Place → (ℕ → ℕ → Bool) → ℕ → ℕ → Bool
+told true (Announcing s true k) f = upd f k (upd (f k) s true)
+told false (Announcing s false k) f = upd f k (upd (f k) s true)
+told again p f = f
+
+-- whether a slot is one of the 64 of a mask word
+abbrev pub is_in_part : ℕ → ℕ → Bool
+is_in_part part s = eqb (s / 64) part
+
+-- the notices of a worker with those of one mask word gone
+abbrev pub taken : ℕ → (ℕ → Bool) → ℕ → Bool
+taken part f s = cond (is_in_part part s) false (f s)
+
+abbrev pub changes_after : ℕ → Act → Place → (ℕ → ℕ → Bool) → ℕ → ℕ → Bool
+changes_after w Tell p f = told false p f
+changes_after w (TakeChange part bits) p f = upd f w (taken part (f w))
+changes_after w _ p f = f
+
+abbrev pub returns_after : ℕ → Act → Place → (ℕ → ℕ → Bool) → ℕ → ℕ → Bool
+returns_after w Tell p f = told true p f
+returns_after w (TakeReturn part bits) p f = upd f w (taken part (f w))
+returns_after w _ p f = f
+
+-- ---- notice records
+
+abbrev pub dropped : NoticeRecord → NoticeRecord
+dropped r = record r { active = false }
+
+-- a look that found a task set of query q: an unknown group becomes q, and a record of another group is dropped
+abbrev pub looked_group : Option ℕ → ℕ → NoticeRecord → NoticeRecord
+looked_group None q r = record r { group = Some q }
+looked_group (Some g) q r = cond (eqb g q) r (dropped r)
+
+abbrev pub looked : ℕ → NoticeRecord → NoticeRecord
+looked q r = looked_group r.group q r
+
+-- the records after a taken return notice and after a taken change notice, of the slots whose notice was pending
+abbrev pub joined_by_return : ℕ → (ℕ → Bool) → (ℕ → NoticeRecord) → ℕ → NoticeRecord
+joined_by_return part pending r s = cond (is_in_part part s && pending s) (record (r s) { active = true }) (r s)
+
+abbrev pub joined_by_change : ℕ → (ℕ → Bool) → (ℕ → NoticeRecord) → ℕ → NoticeRecord
+joined_by_change part pending r s = cond (is_in_part part s && pending s) (record { active = true; group = None }) (r s)
+
+-- the records of the worker that calls; the pending notices are those before the call
+abbrev pub records_after : Act → Place → (ℕ → Bool) → (ℕ → Bool) → (ℕ → NoticeRecord) → ℕ → NoticeRecord
+records_after (LookOpen id) p changes returns r = upd r (slot_of p) (looked (id / STAGES) (r (slot_of p)))
+records_after LookInvalid p changes returns r = upd r (slot_of p) (dropped (r (slot_of p)))
+records_after LookVacant p changes returns r = upd r (slot_of p) (dropped (r (slot_of p)))
+records_after ShutWon p changes returns r = upd r (slot_of p) (dropped (r (slot_of p)))
+records_after ShutLost p changes returns r = upd r (slot_of p) (dropped (r (slot_of p)))
+records_after (TakeReturn part bits) p changes returns r = joined_by_return part returns r
+records_after (TakeChange part bits) p changes returns r = joined_by_change part changes r
+records_after _ p changes returns r = r
+
+-- ---- the whole object
+
+abbrev pub admitted_after : Act → ℕ → ℕ
+admitted_after (AdmitGot q) n = n + 1
+admitted_after _ n = n
+
+abbrev pub finished_after : Act → ℕ → ℕ
+finished_after (Note k) n = n + k
+finished_after _ n = n
+
+-- the state after a call of w, which is at p: one slot changes, one place, one worker's records, and the notices of one
+-- worker; what is not named here stays
+abbrev pub next_at : Shape → ObjectState → ℕ → Act → Place → ObjectState
+next_at d S w a p = record {
+  slots = upd S.slots (site a p) (slot_after d w a (S.slots (site a p)));
+  places = upd S.places w (moved d a p);
+  changes = changes_after w a p S.changes;
+  returns = returns_after w a p S.returns;
+  records = upd S.records w (records_after a p (S.changes w) (S.returns w) (S.records w));
+  admitted = admitted_after a S.admitted;
+  finished = finished_after a S.finished;
+}
+
+abbrev pub next : Shape → ObjectState → ℕ → Act → ObjectState
+next d S w a = next_at d S w a (S.places w)
+
+-- the state that a history leaves; a history has its newest entry first
+abbrev pub state_after : Shape → List Entry → ObjectState
+state_after d [] = opening
+state_after d (e ∷ es) = next d (state_after d es) e.worker e.act

@@ -4,3 +4,4 @@ pub mod Steps
 pub mod Allowed
 pub mod Histories
 pub mod Notices
+pub mod Table

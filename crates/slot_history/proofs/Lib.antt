@@ -1,0 +1,5 @@
+pub mod Sets
+pub mod Duties
+pub mod Table
+pub mod Others
+pub mod Own

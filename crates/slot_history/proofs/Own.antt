@@ -1,0 +1,66 @@
+-- A worker's place, with the numbers of its tokens, and its claims are given by its own entries alone: no call of another
+-- worker changes them.
+use Rattle.std.proofs.Common.{◌≡◌, ◌≢◌, ℕ, ◌<◌, Bool, cond, eqb, List, [], ◌∷◌, ◌++◌, refl, sym, ap, ap₂, ◌∙◌, subst, eq-eqb, ne_eqb}
+use native.Mathlib.Decide.{ℕ_discrete}
+use Rattle.slot_history.specs.declared.shape.Shape.{Shape}
+use Rattle.slot_history.specs.declared.act.Act.{Act}
+use Rattle.slot_history.specs.declared.act.Entry.{Entry}
+use Rattle.slot_history.specs.Steps.{moved, state_after}
+use Rattle.slot_history.specs.Allowed.{IsAllowed}
+use Rattle.slot_history.specs.Histories.{IsLegal, entry, own_calls, place_of, Begins, Called, ranges_after, ranges_of}
+use Rattle.slot_history.proofs.Sets.{upd-else}
+
+pub own-mine : (e : Entry) (h : List Entry) (w : ℕ) → w ≡ e.worker → own_calls w (e ∷ h) ≡ e ∷ own_calls w h
+own-mine e h w same = ap (λ b. cond b (e ∷ own_calls w h) (own_calls w h)) (eq-eqb w e.worker same)
+
+pub own-other : (e : Entry) (h : List Entry) (w : ℕ) → w ≢ e.worker → own_calls w (e ∷ h) ≡ own_calls w h
+own-other e h w other = ap (λ b. cond b (e ∷ own_calls w h) (own_calls w h)) (ne_eqb w e.worker other)
+
+-- after a call: the place of its worker, and the places of others
+pub place-mine : (d : Shape) (e : Entry) (h : List Entry) (w : ℕ) → w ≡ e.worker → place_of d (e ∷ h) w ≡ moved d e.act (place_of d h w)
+place-mine d e h w same = ap (λ b. cond b (moved d e.act (place_of d h e.worker)) (place_of d h w)) (eq-eqb w e.worker same) ∙ ap (λ u. moved d e.act (place_of d h u)) (sym same)
+
+pub place-other : (d : Shape) (e : Entry) (h : List Entry) (w : ℕ) → w ≢ e.worker → place_of d (e ∷ h) w ≡ place_of d h w
+place-other d e h w other = upd-else (state_after d h).places e.worker _ w other
+
+place-own-step : (d : Shape) (w : ℕ) (e : Entry) (es : List Entry) → place_of d es w ≡ place_of d (own_calls w es) w → Dec (w ≡ e.worker)
+    → place_of d (e ∷ es) w ≡ place_of d (own_calls w (e ∷ es)) w
+place-own-step d w e es ih (yes same) = place-mine d e es w same ∙ ap (moved d e.act) ih ∙ sym (ap (λ h. place_of d h w) (own-mine e es w same) ∙ place-mine d e (own_calls w es) w same)
+place-own-step d w e es ih (no other) = place-other d e es w other ∙ ih ∙ sym (ap (λ h. place_of d h w) (own-other e es w other))
+
+pub place-own : (d : Shape) (w : ℕ) (h : List Entry) → place_of d h w ≡ place_of d (own_calls w h) w
+place-own d w [] = refl
+place-own d w (e ∷ es) = place-own-step d w e es (place-own d w es) (ℕ_discrete w e.worker)
+
+pub ranges-mine : (d : Shape) (w id : ℕ) (e : Entry) (h : List Entry) → w ≡ e.worker → ranges_of d w id (e ∷ h) ≡ ranges_after e.act (place_of d h w) id (ranges_of d w id h)
+ranges-mine d w id e h same = ap (λ b. cond b (ranges_after e.act (place_of d h w) id (ranges_of d w id h)) (ranges_of d w id h)) (eq-eqb w e.worker same)
+
+pub ranges-other : (d : Shape) (w id : ℕ) (e : Entry) (h : List Entry) → w ≢ e.worker → ranges_of d w id (e ∷ h) ≡ ranges_of d w id h
+ranges-other d w id e h other = ap (λ b. cond b (ranges_after e.act (place_of d h w) id (ranges_of d w id h)) (ranges_of d w id h)) (ne_eqb w e.worker other)
+
+ranges-own-step : (d : Shape) (w id : ℕ) (e : Entry) (es : List Entry) → ranges_of d w id es ≡ ranges_of d w id (own_calls w es) → Dec (w ≡ e.worker)
+    → ranges_of d w id (e ∷ es) ≡ ranges_of d w id (own_calls w (e ∷ es))
+ranges-own-step d w id e es ih (yes same) =
+    ranges-mine d w id e es same ∙ ap₂ (λ p rs. ranges_after e.act p id rs) (place-own d w es) ih ∙ sym (ap (ranges_of d w id) (own-mine e es w same) ∙ ranges-mine d w id e (own_calls w es) same)
+ranges-own-step d w id e es ih (no other) = ranges-other d w id e es other ∙ ih ∙ sym (ap (ranges_of d w id) (own-other e es w other))
+
+pub ranges-own : (d : Shape) (w id : ℕ) (h : List Entry) → ranges_of d w id h ≡ ranges_of d w id (own_calls w h)
+ranges-own d w id [] = refl
+ranges-own d w id (e ∷ es) = ranges-own-step d w id e es (ranges-own d w id es) (ℕ_discrete w e.worker)
+
+-- ---- after a call, by the clause of every call
+
+-- the worker's place is the next of the place that its own trail gave
+pub place-called : (d : Shape) (w : ℕ) (a : Act) (old new : List Entry) → Called d w a old new → place_of d new w ≡ moved d a (place_of d old w)
+place-called d w a old new c = ap (λ h. place_of d h w) c.1 ∙ place-mine d (entry w a) c.0 w refl ∙ ap (moved d a) (place-own d w c.0 ∙ ap (λ h. place_of d h w) c.3 ∙ sym (place-own d w old))
+
+-- so are its claims
+pub ranges-called : (d : Shape) (w id : ℕ) (a : Act) (old new : List Entry) → Called d w a old new → ranges_of d w id new ≡ ranges_after a (place_of d old w) id (ranges_of d w id old)
+ranges-called d w id a old new c = ap (ranges_of d w id) c.1 ∙ ranges-mine d w id (entry w a) c.0 w refl
+    ∙ ap₂ (λ p rs. ranges_after a p id rs) (place-own d w c.0 ∙ ap (λ h. place_of d h w) c.3 ∙ sym (place-own d w old)) (ranges-own d w id c.0 ∙ ap (ranges_of d w id) c.3 ∙ sym (ranges-own d w id old))
+
+-- what the call found: a legal history in which it was allowed, with the worker at the place that its own trail gave
+pub allowed-called : (d : Shape) (w : ℕ) (a : Act) (old new : List Entry) → Called d w a old new
+    → (h : List Entry) × (new ≡ entry w a ∷ h) × IsLegal d h × (w < d.workers) × IsAllowed d (state_after d h) w a × (place_of d h w ≡ place_of d old w)
+allowed-called d w a old new c = let l : IsLegal d (entry w a ∷ c.0) = subst (IsLegal d) c.1 c.4 in
+    (c.0, c.1, l.2, l.0, l.1, place-own d w c.0 ∙ ap (λ h. place_of d h w) c.3 ∙ sym (place-own d w old))

@@ -1,0 +1,99 @@
+-- Functions with one value changed, tests, and sets of workers.
+use Rattle.std.proofs.Common.{◌≡◌, ◌≢◌, ℕ, zero, suc, ◌+◌, ◌-◌, ◌<◌, ◌≤◌, Bool, true, false, cond, eqb, not, ◌&&◌, refl, sym, ap, ◌∙◌, subst, eq-eqb, ne_eqb, arith}
+use mathlib.Core.Logic.{dite}
+use mathlib.Core.Bool.{true≢false}
+use native.Mathlib.Decide.{ℕ_discrete}
+use Rattle.slot_history.specs.Sets.{upd, least, count_of}
+
+module _ {A : Type 0} where
+  -- a choice by whether two numbers are equal
+  pub pick : (j k : ℕ) (x y : A) (P : A → Type 0) → (j ≡ k → P x) → (j ≢ k → P y) → P (cond (eqb j k) x y)
+  pick j k x y P same other = dite (ℕ_discrete j k) (λ e. subst (λ b. P (cond b x y)) (sym (eq-eqb j k e)) (same e)) (λ n. subst (λ b. P (cond b x y)) (sym (ne_eqb j k n)) (other n))
+
+  -- a choice by a test
+  pub choose : (b : Bool) (x y : A) (P : A → Type 0) → (b ≡ true → P x) → (b ≡ false → P y) → P (cond b x y)
+  choose true x y P then_ else_ = then_ refl
+  choose false x y P then_ else_ = else_ refl
+
+  pub upd-same : (f : ℕ → A) (k : ℕ) (x : A) → upd f k x k ≡ x
+  upd-same f k x = ap (λ b. cond b x (f k)) (eq-eqb k k refl)
+
+  pub upd-else : (f : ℕ → A) (k : ℕ) (x : A) (j : ℕ) → j ≢ k → upd f k x j ≡ f j
+  upd-else f k x j n = ap (λ b. cond b x (f j)) (ne_eqb j k n)
+
+  pub upd-cases : (f : ℕ → A) (k : ℕ) (x : A) (j : ℕ) (P : A → Type 0) → (j ≡ k → P x) → (j ≢ k → P (f j)) → P (upd f k x j)
+  upd-cases f k x j P same other = pick j k x (f j) P same other
+
+pub and-true : (a b : Bool) → a ≡ true → b ≡ true → (a && b) ≡ true
+and-true true true h k = refl
+and-true true false h k = k
+and-true false b h k = h
+
+pub and-left : (a b : Bool) → (a && b) ≡ true → a ≡ true
+and-left true b h = refl
+and-left false b h = h
+
+pub and-right : (a b : Bool) → (a && b) ≡ true → b ≡ true
+and-right true b h = h
+and-right false b h = absurd (cc)
+
+pub not-true : (b : Bool) → not b ≡ true → b ≡ false
+not-true true h = sym h
+not-true false h = refl
+
+pub and-false_left : (a b : Bool) → a ≡ false → (a && b) ≡ false
+and-false_left true b h = absurd (cc)
+and-false_left false b h = refl
+
+pub and-false_right : (a b : Bool) → b ≡ false → (a && b) ≡ false
+and-false_right true b h = h
+and-false_right false b h = refl
+
+-- two tests with the same outcome
+pub same-tests : (a b : Bool) → (a ≡ true → b ≡ true) → (b ≡ true → a ≡ true) → a ≡ b
+same-tests true b forth back = sym (forth refl)
+same-tests false true forth back = back refl
+same-tests false false forth back = refl
+
+-- the least number of a set, where one in it is known to be so
+pub least-is : (n : ℕ) (f : ℕ → Bool) (k : ℕ) → k < n → f k ≡ true → ((v : ℕ) → v < k → f v ≡ false) → least n f ≡ k
+least-is zero f k lt here before = absurd (omega arith)
+least-is (suc n) f zero lt here before = ap (λ b. cond b 0 (suc (least n (λ k. f (suc k))))) here
+least-is (suc n) f (suc k) lt here before =
+    ap (λ b. cond b 0 (suc (least n (λ k. f (suc k))))) (before 0 (omega arith))
+    ∙ ap suc (least-is n (λ k. f (suc k)) k (omega arith) here (λ v h. before (suc v) (omega arith)))
+
+-- a set without members below n
+pub count-none : (n : ℕ) (f : ℕ → Bool) → ((v : ℕ) → v < n → f v ≡ false) → count_of n f ≡ 0
+count-none zero f none = refl
+count-none (suc n) f none =
+    let e : cond {A = ℕ} (f n) 1 0 ≡ 0 = ap (λ b. cond b 1 0) (none n (omega arith)) in
+    let r : count_of n f ≡ 0 = count-none n f (λ v h. none v (omega arith)) in omega arith
+
+pub none-counted : (n : ℕ) (f : ℕ → Bool) → count_of n f ≡ 0 → (v : ℕ) → v < n → f v ≡ false
+none-counted zero f zero_members v h = absurd (omega arith)
+none-counted (suc n) f zero_members v h = dite (ℕ_discrete v n)
+    (λ e. subst (λ u. f u ≡ false) (sym e) (choose (f n) 1 0 (λ k. k + count_of n f ≡ 0 → f n ≡ false) (λ t z. absurd (omega arith)) (λ t z. t) zero_members))
+    (λ ne. none-counted n f (let z : cond {A = ℕ} (f n) 1 0 + count_of n f ≡ 0 = zero_members in omega arith) v (omega arith))
+
+pub some-counted : (n : ℕ) (f : ℕ → Bool) → 0 < count_of n f → (v : ℕ) × (v < n) × (f v ≡ true)
+some-counted zero f some_member = absurd (omega arith)
+some-counted (suc n) f some_member = choose (f n) 1 0 (λ k. 0 < k + count_of n f → (v : ℕ) × (v < suc n) × (f v ≡ true))
+    (λ t z. (n, omega arith, t))
+    (λ t z. let r = some-counted n f (omega arith) in (r.0, let h : r.0 < n = r.1 in omega arith, r.2)) some_member
+
+pub count-same : (n : ℕ) (f g : ℕ → Bool) → ((v : ℕ) → v < n → f v ≡ g v) → count_of n f ≡ count_of n g
+count-same zero f g same = refl
+count-same (suc n) f g same =
+    let e : cond {A = ℕ} (f n) 1 0 ≡ cond {A = ℕ} (g n) 1 0 = ap (λ b. cond b 1 0) (same n (omega arith)) in
+    let r : count_of n f ≡ count_of n g = count-same n f g (λ v h. same v (omega arith)) in omega arith
+
+-- one more member
+pub count-more : (n : ℕ) (f : ℕ → Bool) (k : ℕ) → k < n → f k ≡ false → count_of n (upd f k true) ≡ count_of n f + 1
+count-more zero f k lt out = absurd (omega arith)
+count-more (suc n) f k lt out = dite (ℕ_discrete n k)
+    (λ e. let a : cond {A = ℕ} (upd f k true n) 1 0 ≡ 1 = ap (λ b. cond b 1 0) (ap (λ j. upd f k true j) e ∙ upd-same f k true) in
+          let b : cond {A = ℕ} (f n) 1 0 ≡ 0 = ap (λ b. cond b 1 0) (ap f e ∙ out) in
+          let r : count_of n (upd f k true) ≡ count_of n f = count-same n (upd f k true) f (λ v h. upd-else f k true v (omega arith)) in omega arith)
+    (λ ne. let a : cond {A = ℕ} (upd f k true n) 1 0 ≡ cond {A = ℕ} (f n) 1 0 = ap (λ b. cond b 1 0) (upd-else f k true n ne) in
+           let r : count_of n (upd f k true) ≡ count_of n f + 1 = count-more n f k (omega arith) out in omega arith)

@@ -1,0 +1,115 @@
+-- The table of places of a slot: who may be where, by the state of the slot.
+use Rattle.std.specs.Prelude.{◌≡◌, ◌≢◌, ℕ, ◌+◌, ◌<◌, Bool, true, false, cond, eqb, ltb, not, ◌&&◌}
+use Rattle.slot_history.specs.declared.shape.Shape.{Shape}
+use Rattle.slot_history.specs.declared.place.Held.{Held}
+use Rattle.slot_history.specs.declared.place.Place.{Place}
+use Rattle.slot_history.specs.declared.place.Place.TheVariants.{Entered, Astray, Inside, Used, Behind, Leading, Asking, Owing, Holding}
+use Rattle.slot_history.specs.Sets.{count_of}
+use Rattle.slot_history.specs.States.{TaskSet, Ending, SlotState, Empty, Reserved, Open, Shut, Finishing, ObjectState, slot_of, id_at}
+
+-- what a worker may or must be to a slot
+pub data Duty : Type 0 where
+  -- it has nothing to do with the slot's task set
+  Visits : Duty
+  -- it may work on the task set of this id
+  Works : ℕ → Duty
+  -- the task set of this id is shut, and the worker was not asked yet: it may still be at work or find it shut
+  Unasked : ℕ → Duty
+  -- it is marked for this id: it is still at the slot or has to pay
+  Owes : ℕ → Duty
+  -- it coordinates the end of this id
+  Leads : ℕ → Ending → Duty
+  -- it holds the slot
+  Holds : Held → Duty
+
+-- marked, and not paid
+abbrev pub owing : Ending → ℕ → Bool
+owing e v = e.marked v && not (e.paid v)
+
+-- the duty of a worker to a slot whose task set is shut
+abbrev pub duty_at_end : ℕ → Ending → ℕ → Duty
+duty_at_end id e v = cond (eqb v e.coordinator) (cond e.swept Visits (Leads id e))
+    (cond (e.asked v) (cond (owing e v) (Owes id) Visits) (Unasked id))
+
+-- the duty of a worker to a slot
+abbrev pub duty_of : SlotState → ℕ → Duty
+duty_of Empty v = Visits
+duty_of (Reserved w h) v = cond (eqb v w) (Holds h) Visits
+duty_of (Open t) v = Works t.id
+duty_of (Shut t e) v = duty_at_end t.id e v
+duty_of (Finishing id w h) v = cond (eqb v w) (Holds h) Visits
+
+-- the places that tie a worker to the task set of the slot that they name
+abbrev pub binds : Place → Bool
+binds (Inside s id) = true
+binds (Used s id) = true
+binds (Behind s id) = true
+binds (Leading s id) = true
+binds (Asking s id asked marked) = true
+binds (Owing s id) = true
+binds (Holding s h) = true
+binds _ = false
+
+abbrev pub works : Place → Bool
+works (Inside s id) = true
+works (Used s id) = true
+works _ = false
+
+abbrev pub lags : Place → Bool
+lags (Inside s id) = true
+lags (Used s id) = true
+lags (Behind s id) = true
+lags _ = false
+
+-- where a marked worker may be until it has paid
+abbrev pub stays : Place → Bool
+stays (Entered s) = true
+stays (Astray s) = true
+stays (Inside s id) = true
+stays (Used s id) = true
+stays (Behind s id) = true
+stays (Owing s id) = true
+stays _ = false
+
+-- the worker that is number n, from 0, among all but c
+abbrev pub nth_other : ℕ → ℕ → ℕ
+nth_other c n = cond (ltb n c) n (n + 1)
+
+-- the coordinator has asked the first n of the others, and marked m of them
+pub record HasAsked (d : Shape) (e : Ending) (n m : ℕ) : Type 0 where
+  pub first : (v : ℕ) → e.asked v ≡ (not (eqb v e.coordinator) && ltb v (nth_other e.coordinator n))
+  pub marks : count_of d.workers e.marked ≡ m
+  pub within : n < d.workers
+
+abbrev pub IsLeading : Shape → Ending → Place → Type 0
+IsLeading d e (Leading s id) = HasAsked d e 0 0
+IsLeading d e (Asking s id n m) = HasAsked d e n m
+IsLeading d e _ = ⊥
+
+-- a place at which a worker meets its duty to the slot s
+abbrev pub Meets : Shape → ℕ → Duty → Place → Type 0
+Meets d s Visits p = binds p ≡ true → slot_of p ≢ s
+Meets d s (Works id) p = binds p ≡ true → slot_of p ≡ s → (works p ≡ true) × (id_at p ≡ id)
+Meets d s (Unasked id) p = binds p ≡ true → slot_of p ≡ s → (lags p ≡ true) × (id_at p ≡ id)
+Meets d s (Owes id) p = (slot_of p ≡ s) × (stays p ≡ true) × (binds p ≡ true → id_at p ≡ id)
+Meets d s (Leads id e) p = (slot_of p ≡ s) × (id_at p ≡ id) × IsLeading d e p
+Meets d s (Holds h) p = p ≡ Holding s h
+
+-- who paid was marked, who was marked was asked, and who was asked is not the coordinator; after the sweep all others
+-- were asked, and one of them has still to pay
+pub record IsChain (d : Shape) (e : Ending) : Type 0 where
+  pub coordinator : e.coordinator < d.workers
+  pub paid : (v : ℕ) → e.paid v ≡ true → e.marked v ≡ true
+  pub marked : (v : ℕ) → e.marked v ≡ true → e.asked v ≡ true
+  pub asked : (v : ℕ) → e.asked v ≡ true → v ≢ e.coordinator
+  pub all_asked : e.swept ≡ true → (v : ℕ) → v < d.workers → v ≢ e.coordinator → e.asked v ≡ true
+  pub one_owes : e.swept ≡ true → (v : ℕ) × (v < d.workers) × (owing e v ≡ true)
+
+abbrev pub IsChainOf : Shape → SlotState → Type 0
+IsChainOf d (Shut t e) = IsChain d e
+IsChainOf d _ = Unit {0}
+
+-- every worker meets its duty to every slot, and the sets of a shut slot lie within one another
+pub record IsTable (d : Shape) (S : ObjectState) : Type 0 where
+  pub chain : (s : ℕ) → IsChainOf d (S.slots s)
+  pub duty : (s v : ℕ) → v < d.workers → Meets d s (duty_of (S.slots s) v) (S.places v)

@@ -1,12 +1,11 @@
 -- Duties to a slot: which one a worker has, and what its place says of the slot.
-use Rattle.std.proofs.Common.{◌≡◌, ◌≢◌, ℕ, ◌+◌, ◌<◌, ◌⊎◌, Bool, true, false, cond, eqb, ltb, not, ◌&&◌, refl, sym, ap, ◌∙◌, subst, inl, inr, eq-eqb, ne_eqb, eqb-true, arith}
+use Rattle.std.proofs.Common.{◌≡◌, ◌≢◌, ℕ, ◌⊎◌, true, false, cond, eqb, not, refl, sym, ap, ◌∙◌, inl, inr, eq-eqb, ne_eqb}
 use mathlib.Core.Bool.{true≢false}
 use Rattle.slot_history.specs.declared.shape.Shape.{Shape}
 use Rattle.slot_history.specs.declared.place.Held.{Held}
-use Rattle.slot_history.specs.declared.place.Place.{Place}
-use Rattle.slot_history.specs.declared.place.Place.TheVariants.{Free, Entered, Astray, Inside, Used, Behind, Leading, Asking, Owing, Holding, Announcing}
-use Rattle.slot_history.specs.States.{TaskSet, Ending, SlotState, Empty, Reserved, Open, Shut, Finishing, slot_of, id_at, id_of, owes}
-use Rattle.slot_history.specs.Table.{Duty, Visits, Works, Unasked, Owes, Leads, Holds, owing, duty_at_end, duty_of, binds, stays, HasAsked, IsLeading, Meets, IsChain, IsChainOf}
+use Rattle.slot_history.specs.declared.place.Place.TheVariants.{Leading, Asking, Owing, Holding}
+use Rattle.slot_history.specs.States.{TaskSet, Ending, SlotState, Empty, Reserved, Open, Shut, Finishing, id_of, owes}
+use Rattle.slot_history.specs.Table.{Duty, Visits, Works, Unasked, Owes, Leads, Holds, owing, duty_at_end, duty_of, HasAsked, Meets, IsChainOf}
 use Rattle.slot_history.proofs.Sets.{pick, choose, and-left}
 
 -- ---- the duty to a slot whose task set is shut

@@ -3,3 +3,5 @@ pub mod Duties
 pub mod Table
 pub mod Others
 pub mod Own
+pub mod Within
+pub mod Places

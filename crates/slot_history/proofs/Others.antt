@@ -1,12 +1,12 @@
 -- The others of a worker in ascending order, and which of them were asked.
-use Rattle.std.proofs.Common.{◌≡◌, ◌≢◌, ℕ, ◌+◌, ◌<◌, ◌≤◌, ◌⊎◌, Bool, true, false, cond, eqb, ltb, not, ◌&&◌, refl, sym, ap, ◌∙◌, inl, inr, eq-eqb, ne_eqb, eqb-true, ltb-true, ltb-false, lt-ltb, ⊎_elim, arith}
+use Rattle.std.proofs.Common.{◌≡◌, ◌≢◌, ℕ, ◌+◌, ◌<◌, ◌≤◌, ◌⊎◌, Bool, true, false, eqb, ltb, not, ◌&&◌, refl, sym, ap, ◌∙◌, inl, inr, eq-eqb, ne_eqb, ltb-true, ltb-false, lt-ltb, ⊎_elim, arith}
 use mathlib.Core.Bool.{true≢false}
 use Rattle.slot_history.specs.declared.shape.Shape.{Shape}
-use Rattle.slot_history.specs.Sets.{upd, least}
+use Rattle.slot_history.specs.Sets.{upd}
 use Rattle.slot_history.specs.States.{Ending}
 use Rattle.slot_history.specs.Steps.{next_asked}
 use Rattle.slot_history.specs.Table.{nth_other, HasAsked}
-use Rattle.slot_history.proofs.Sets.{choose, upd-cases, and-true, and-left, and-right, and-false_left, and-false_right, not-true, same-tests, least-is}
+use Rattle.slot_history.proofs.Sets.{choose, upd-cases, and-true, and-left, and-right, not-true, same-tests, least-is}
 
 pub nth-other-cases : (c n : ℕ) → ((n < c) × (nth_other c n ≡ n)) ⊎ ((c ≤ n) × (nth_other c n ≡ n + 1))
 nth-other-cases c n = choose (ltb n c) n (n + 1) (λ k. ((n < c) × (k ≡ n)) ⊎ ((c ≤ n) × (k ≡ n + 1))) (λ t. inl (ltb-true n c t, refl)) (λ t. inr (ltb-false n c t, refl))
@@ -34,29 +34,29 @@ is-before c n v other below = and-true (not (eqb v c)) (ltb v (nth_other c n)) (
 before-none : (c v : ℕ) → is_before c 0 v ≡ false
 before-none c v = same-tests (is_before c 0 v) false
     (λ h. ⊎_elim (λ r. let a : nth_other c 0 ≡ 0 = r.1 in let b : v < nth_other c 0 = before-below c 0 v h in absurd (omega arith))
-        (λ r. let a : c ≤ 0 = r.0 in let z : nth_other c 0 ≡ 0 + 1 = r.1 in let b : v < nth_other c 0 = before-below c 0 v h in let n : v ≢ c = before-other c 0 v h in absurd (omega arith))
-        (nth-other-cases c 0))
+    (λ r. let a : c ≤ 0 = r.0 in let z : nth_other c 0 ≡ 0 + 1 = r.1 in let b : v < nth_other c 0 = before-below c 0 v h in let n : v ≢ c = before-other c 0 v h in absurd (omega arith))
+    (nth-other-cases c 0))
     (λ h. absurd (cc))
 
 -- in between stands just the worker that is number n
 before-step : (c n v : ℕ) → v < nth_other c (n + 1) → v ≢ c → v ≢ nth_other c n → v < nth_other c n
 before-step c n v below other differs = ⊎_elim
     (λ r. let a : n < c = r.0 in let z : nth_other c n ≡ n = r.1 in ⊎_elim
-        (λ q. let y : nth_other c (n + 1) ≡ n + 1 = q.1 in omega arith)
-        (λ q. let y : nth_other c (n + 1) ≡ n + 1 + 1 = q.1 in let x : c ≤ n + 1 = q.0 in omega arith) (nth-other-cases c (n + 1)))
+    (λ q. let y : nth_other c (n + 1) ≡ n + 1 = q.1 in omega arith)
+    (λ q. let y : nth_other c (n + 1) ≡ n + 1 + 1 = q.1 in let x : c ≤ n + 1 = q.0 in omega arith) (nth-other-cases c (n + 1)))
     (λ r. let a : c ≤ n = r.0 in let z : nth_other c n ≡ n + 1 = r.1 in ⊎_elim
-        (λ q. let x : n + 1 < c = q.0 in absurd (omega arith))
-        (λ q. let y : nth_other c (n + 1) ≡ n + 1 + 1 = q.1 in omega arith) (nth-other-cases c (n + 1)))
+    (λ q. let x : n + 1 < c = q.0 in absurd (omega arith))
+    (λ q. let y : nth_other c (n + 1) ≡ n + 1 + 1 = q.1 in omega arith) (nth-other-cases c (n + 1)))
     (nth-other-cases c n)
 
 nth-other-grows : (c n : ℕ) → nth_other c n < nth_other c (n + 1)
 nth-other-grows c n = ⊎_elim
     (λ r. let a : n < c = r.0 in let z : nth_other c n ≡ n = r.1 in ⊎_elim
-        (λ q. let y : nth_other c (n + 1) ≡ n + 1 = q.1 in omega arith)
-        (λ q. let y : nth_other c (n + 1) ≡ n + 1 + 1 = q.1 in omega arith) (nth-other-cases c (n + 1)))
+    (λ q. let y : nth_other c (n + 1) ≡ n + 1 = q.1 in omega arith)
+    (λ q. let y : nth_other c (n + 1) ≡ n + 1 + 1 = q.1 in omega arith) (nth-other-cases c (n + 1)))
     (λ r. let a : c ≤ n = r.0 in let z : nth_other c n ≡ n + 1 = r.1 in ⊎_elim
-        (λ q. let x : n + 1 < c = q.0 in absurd (omega arith))
-        (λ q. let y : nth_other c (n + 1) ≡ n + 1 + 1 = q.1 in omega arith) (nth-other-cases c (n + 1)))
+    (λ q. let x : n + 1 < c = q.0 in absurd (omega arith))
+    (λ q. let y : nth_other c (n + 1) ≡ n + 1 + 1 = q.1 in omega arith) (nth-other-cases c (n + 1)))
     (nth-other-cases c n)
 
 -- nobody is asked at first
@@ -69,8 +69,8 @@ pub asked-more : (c n : ℕ) (asked : ℕ → Bool) → ((v : ℕ) → asked v �
 asked-more c n asked first v = upd-cases asked (nth_other c n) true v (λ b. b ≡ is_before c (n + 1) v)
     (λ e. sym (is-before c (n + 1) v (λ k. nth-other-differs c n (sym e ∙ k)) (let g : nth_other c n < nth_other c (n + 1) = nth-other-grows c n in omega arith)))
     (λ differs. first v ∙ same-tests (is_before c n v) (is_before c (n + 1) v)
-        (λ h. is-before c (n + 1) v (before-other c n v h) (let g : nth_other c n < nth_other c (n + 1) = nth-other-grows c n in let b : v < nth_other c n = before-below c n v h in omega arith))
-        (λ h. is-before c n v (before-other c (n + 1) v h) (before-step c n v (before-below c (n + 1) v h) (before-other c (n + 1) v h) differs)))
+    (λ h. is-before c (n + 1) v (before-other c n v h) (let g : nth_other c n < nth_other c (n + 1) = nth-other-grows c n in let b : v < nth_other c n = before-below c n v h in omega arith))
+    (λ h. is-before c n v (before-other c (n + 1) v h) (before-step c n v (before-below c (n + 1) v h) (before-other c (n + 1) v h) differs)))
 
 -- who is asked next
 pub next-is : (d : Shape) (e : Ending) (n m : ℕ) → HasAsked d e n m → e.coordinator < d.workers → n + 1 < d.workers → next_asked d e ≡ nth_other e.coordinator n
@@ -79,12 +79,12 @@ next-is d e n m h low more =
     let u : ℕ = nth_other c n in
     let out : e.asked u ≡ false = h.first u ∙ same-tests (is_before c n u) false (λ k. let b : u < u = before-below c n u k in absurd (omega arith)) (λ k. absurd (cc)) in
     least-is d.workers (λ v. not (e.asked v) && not (eqb v c)) u (nth-other-within c n d.workers low more)
-        (and-true (not (e.asked u)) (not (eqb u c)) (ap not out) (ap not (ne_eqb u c (nth-other-differs c n))))
-        (λ v below. same-tests (not (e.asked v) && not (eqb v c)) false
-            (λ k. let was : e.asked v ≡ false = not-true (e.asked v) (and-left (not (e.asked v)) (not (eqb v c)) k) in
-                  let other : v ≢ c = λ s. true≢false (sym (and-right (not (e.asked v)) (not (eqb v c)) k) ∙ ap not (eq-eqb v c s)) in
-                  absurd (true≢false (sym (is-before c n v other below) ∙ sym (h.first v) ∙ was)))
-            (λ k. absurd (cc)))
+    (and-true (not (e.asked u)) (not (eqb u c)) (ap not out) (ap not (ne_eqb u c (nth-other-differs c n))))
+    (λ v below. same-tests (not (e.asked v) && not (eqb v c)) false
+    (λ k. let was : e.asked v ≡ false = not-true (e.asked v) (and-left (not (e.asked v)) (not (eqb v c)) k) in
+    let other : v ≢ c = λ s. true≢false (sym (and-right (not (e.asked v)) (not (eqb v c)) k) ∙ ap not (eq-eqb v c s)) in
+    absurd (true≢false (sym (is-before c n v other below) ∙ sym (h.first v) ∙ was)))
+    (λ k. absurd (cc)))
 
 pub next-unasked : (d : Shape) (e : Ending) (n m : ℕ) → HasAsked d e n m → e.asked (nth_other e.coordinator n) ≡ false
 next-unasked d e n m h = let c : ℕ = e.coordinator in let u : ℕ = nth_other c n in

@@ -1,13 +1,13 @@
 -- A worker's place, with the numbers of its tokens, and its claims are given by its own entries alone: no call of another
 -- worker changes them.
-use Rattle.std.proofs.Common.{◌≡◌, ◌≢◌, ℕ, ◌<◌, Bool, cond, eqb, List, [], ◌∷◌, ◌++◌, refl, sym, ap, ap₂, ◌∙◌, subst, eq-eqb, ne_eqb}
+use Rattle.std.proofs.Common.{◌≡◌, ◌≢◌, ℕ, ◌<◌, cond, List, [], ◌∷◌, refl, sym, ap, ap₂, ◌∙◌, subst, eq-eqb, ne_eqb}
 use native.Mathlib.Decide.{ℕ_discrete}
 use Rattle.slot_history.specs.declared.shape.Shape.{Shape}
 use Rattle.slot_history.specs.declared.act.Act.{Act}
 use Rattle.slot_history.specs.declared.act.Entry.{Entry}
 use Rattle.slot_history.specs.Steps.{moved, state_after}
 use Rattle.slot_history.specs.Allowed.{IsAllowed}
-use Rattle.slot_history.specs.Histories.{IsLegal, entry, own_calls, place_of, Begins, Called, ranges_after, ranges_of}
+use Rattle.slot_history.specs.Histories.{IsLegal, entry, own_calls, place_of, Called, ranges_after, ranges_of}
 use Rattle.slot_history.proofs.Sets.{upd-else}
 
 pub own-mine : (e : Entry) (h : List Entry) (w : ℕ) → w ≡ e.worker → own_calls w (e ∷ h) ≡ e ∷ own_calls w h
@@ -56,7 +56,7 @@ place-called d w a old new c = ap (λ h. place_of d h w) c.1 ∙ place-mine d (e
 
 -- so are its claims
 pub ranges-called : (d : Shape) (w id : ℕ) (a : Act) (old new : List Entry) → Called d w a old new → ranges_of d w id new ≡ ranges_after a (place_of d old w) id (ranges_of d w id old)
-ranges-called d w id a old new c = ap (ranges_of d w id) c.1 ∙ ranges-mine d w id (entry w a) c.0 w refl
+ranges-called d w id a old new c = ap (ranges_of d w id) c.1 ∙ ranges-mine d w id (entry w a) c.0 refl
     ∙ ap₂ (λ p rs. ranges_after a p id rs) (place-own d w c.0 ∙ ap (λ h. place_of d h w) c.3 ∙ sym (place-own d w old)) (ranges-own d w id c.0 ∙ ap (ranges_of d w id) c.3 ∙ sym (ranges-own d w id old))
 
 -- what the call found: a legal history in which it was allowed, with the worker at the place that its own trail gave

@@ -1,7 +1,6 @@
 -- Functions with one value changed, tests, and sets of workers.
-use Rattle.std.proofs.Common.{◌≡◌, ◌≢◌, ℕ, zero, suc, ◌+◌, ◌-◌, ◌<◌, ◌≤◌, Bool, true, false, cond, eqb, not, ◌&&◌, refl, sym, ap, ◌∙◌, subst, eq-eqb, ne_eqb, arith}
+use Rattle.std.proofs.Common.{◌≡◌, ◌≢◌, ℕ, zero, suc, ◌+◌, ◌<◌, Bool, true, false, cond, eqb, not, ◌&&◌, refl, sym, ap, ◌∙◌, subst, eq-eqb, ne_eqb, arith}
 use mathlib.Core.Logic.{dite}
-use mathlib.Core.Bool.{true≢false}
 use native.Mathlib.Decide.{ℕ_discrete}
 use Rattle.slot_history.specs.Sets.{upd, least, count_of}
 
@@ -93,7 +92,7 @@ pub count-more : (n : ℕ) (f : ℕ → Bool) (k : ℕ) → k < n → f k ≡ fa
 count-more zero f k lt out = absurd (omega arith)
 count-more (suc n) f k lt out = dite (ℕ_discrete n k)
     (λ e. let a : cond {A = ℕ} (upd f k true n) 1 0 ≡ 1 = ap (λ b. cond b 1 0) (ap (λ j. upd f k true j) e ∙ upd-same f k true) in
-          let b : cond {A = ℕ} (f n) 1 0 ≡ 0 = ap (λ b. cond b 1 0) (ap f e ∙ out) in
-          let r : count_of n (upd f k true) ≡ count_of n f = count-same n (upd f k true) f (λ v h. upd-else f k true v (omega arith)) in omega arith)
+    let b : cond {A = ℕ} (f n) 1 0 ≡ 0 = ap (λ b. cond b 1 0) (ap f e ∙ out) in
+    let r : count_of n (upd f k true) ≡ count_of n f = count-same n (upd f k true) f (λ v h. upd-else f k true v (omega arith)) in omega arith)
     (λ ne. let a : cond {A = ℕ} (upd f k true n) 1 0 ≡ cond {A = ℕ} (f n) 1 0 = ap (λ b. cond b 1 0) (upd-else f k true n ne) in
-           let r : count_of n (upd f k true) ≡ count_of n f + 1 = count-more n f k (omega arith) out in omega arith)
+    let r : count_of n (upd f k true) ≡ count_of n f + 1 = count-more n f k (omega arith) out in omega arith)

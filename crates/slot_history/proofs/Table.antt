@@ -1,7 +1,7 @@
 -- The table of places holds in every state of every legal history. It rules out a sweep before the last worker was asked,
 -- a mark that carries no id, a leave that forgets the debt, and a shut that two workers win: after each of these a worker
 -- would be at a place that its duty to the slot does not allow.
-use Rattle.std.proofs.Common.{◌≡◌, ◌≢◌, ℕ, ◌+◌, ◌<◌, ◌≤◌, ◌⊎◌, Bool, true, false, cond, eqb, ltb, not, ◌&&◌, List, [], ◌∷◌, Some, None, refl, sym, ap, ◌∙◌, subst, inl, inr, eq-eqb, ne_eqb, eqb-true, ⊎_elim, add-zero, arith}
+use Rattle.std.proofs.Common.{◌≡◌, ◌≢◌, ℕ, ◌+◌, ◌<◌, ◌⊎◌, Bool, true, false, cond, eqb, not, ◌&&◌, List, [], ◌∷◌, refl, sym, ap, ◌∙◌, subst, inl, inr, eq-eqb, eqb-true, ⊎_elim, add-zero, arith}
 use mathlib.Core.Logic.{dite}
 use mathlib.Core.Bool.{true≢false}
 use native.Mathlib.Decide.{ℕ_discrete}
@@ -12,13 +12,13 @@ use Rattle.slot_history.specs.declared.act.Entry.{Entry}
 use Rattle.slot_history.specs.declared.place.Held.{Held}
 use Rattle.slot_history.specs.declared.place.Place.{Place}
 use Rattle.slot_history.specs.declared.place.Place.TheVariants.{Free, Entered, Astray, Inside, Used, Behind, Leading, Asking, Owing, Holding, Announcing}
-use Rattle.slot_history.specs.Sets.{upd, least, count_of}
-use Rattle.slot_history.specs.States.{TaskSet, Ending, SlotState, Empty, Reserved, Open, Shut, Finishing, ObjectState, opening, slot_of, id_at, id_of, task_of, is_empty, is_open, is_shut, is_swept, is_at, owes, can_leave, reservation, finalisation}
+use Rattle.slot_history.specs.Sets.{upd, count_of}
+use Rattle.slot_history.specs.States.{TaskSet, Ending, SlotState, Empty, Reserved, Open, Shut, Finishing, ObjectState, slot_of, id_of, is_empty, is_open, is_shut, is_swept, is_at, owes, can_leave, reservation, finalisation}
 use Rattle.slot_history.specs.Steps.{site, moved, left, told_one, slot_after, held_after, claimed, shut_by, asked_one, holding_after, first_ending, next_asked, ending_after, ended, finalised_by, held_on, opened, next, state_after}
 use Rattle.slot_history.specs.Allowed.{IsAllowed, debts, next_is_at}
 use Rattle.slot_history.specs.Histories.{IsLegal}
 use Rattle.slot_history.specs.Table.{Duty, Visits, Works, Unasked, Owes, Leads, Holds, owing, duty_at_end, duty_of, binds, works, lags, stays, nth_other, HasAsked, IsLeading, Meets, IsChain, IsChainOf, IsTable}
-use Rattle.slot_history.proofs.Sets.{pick, choose, upd-same, upd-else, upd-cases, and-true, and-left, and-right, and-false_left, and-false_right, same-tests, not-true, count-none, none-counted, some-counted, count-same, count-more}
+use Rattle.slot_history.proofs.Sets.{choose, upd-same, upd-else, upd-cases, and-true, and-left, and-false_left, and-false_right, same-tests, count-none, none-counted, some-counted, count-more}
 use Rattle.slot_history.proofs.Others.{asked-none, asked-more, next-is, next-unasked, nth-other-differs, nth-other-within, all-asked}
 use Rattle.slot_history.proofs.Duties.{end-cases, end-rests, end-leads, end-owes, end-clear, end-unasked, held-mine, held-other, owes-duty, not-owes, asking-leads, leading-leads, owing-owes, holding-holds, leads-slot, owes-slot, holds-slot}
 
@@ -143,9 +143,9 @@ mine-last d x t e s w id is same = subst (λ y. Meets d s (duty_of (finalised_by
 mine-paid : (d : Shape) (x : SlotState) (s w id : ℕ) → duty_of x w ≡ Owes id → Meets d s (duty_of (ended d w PayDone x) w) Free
 mine-paid d x s w id owe = let r = owes-slot x w id owe in let t : TaskSet = r.0 in let e : Ending = r.1 in
     subst (λ y. Meets d s (duty_of (ended d w PayDone y) w) Free) (sym r.2)
-        (subst (λ D. Meets d s D Free) (sym (end-clear t.id (ending_after d w PayDone e) w r.4 r.5
-            (and-false_right (e.marked w) (not (upd e.paid w true w)) (ap not (upd-same e.paid w true)))))
-            (λ b. absurd (cc)))
+    (subst (λ D. Meets d s D Free) (sym (end-clear t.id (ending_after d w PayDone e) w r.4 r.5
+    (and-false_right (e.marked w) (not (upd e.paid w true w)) (ap not (upd-same e.paid w true)))))
+    (λ b. absurd (cc)))
 
 -- what one more asked worker makes of the sets
 asked-so : (d : Shape) (e : Ending) (n m w : ℕ) → IsChain d e → HasAsked d e n m → n + 1 < d.workers → HasAsked d (ending_after d w MarkMissed e) (n + 1) m
@@ -161,10 +161,10 @@ marked-so d e n m w chain h more =
     let is : next_asked d e ≡ nth_other c n = next-is d e n m h chain.coordinator more in
     let out : e.asked (nth_other c n) ≡ false = next-unasked d e n m h in
     let clear : e.marked (nth_other c n) ≡ false = same-tests (e.marked (nth_other c n)) false (λ k. absurd (true≢false (sym (chain.marked _ k) ∙ out))) (λ k. absurd (cc)) in record {
-  first = λ v. ap (λ u. upd e.asked u true v) is ∙ asked-more c n e.asked h.first v;
-  marks = ap (λ u. count_of d.workers (upd e.marked u true)) is ∙ count-more d.workers e.marked (nth_other c n) (nth-other-within c n d.workers chain.coordinator more) clear ∙ ap (λ k. k + 1) h.marks;
-  within = more;
-}
+      first = λ v. ap (λ u. upd e.asked u true v) is ∙ asked-more c n e.asked h.first v;
+      marks = ap (λ u. count_of d.workers (upd e.marked u true)) is ∙ count-more d.workers e.marked (nth_other c n) (nth-other-within c n d.workers chain.coordinator more) clear ∙ ap (λ k. k + 1) h.marks;
+      within = more;
+    }
 
 -- the coordinator after a mark; `a` is one of the two
 mine-asked : (d : Shape) (x : SlotState) (a : Act) (s w id n m k : ℕ) → ((e : Ending) → (ending_after d w a e).coordinator ≡ e.coordinator) → ((e : Ending) → (ending_after d w a e).swept ≡ e.swept)
@@ -175,8 +175,8 @@ mine-asked d x a s w id n m k same_lead same_sweep more chain meets =
     let q = leads-slot x w id r.0 r.1 in
     let e : Ending = r.0 in let t : TaskSet = q.0 in
     subst (λ y. Meets d s (duty_of (ended d w a y) w) (Asking s id (n + 1) (m + k))) (sym q.1)
-        (subst (λ D. Meets d s D (Asking s id (n + 1) (m + k))) (sym (end-leads t.id (ending_after d w a e) w (q.3 ∙ sym (same_lead e)) (same_sweep e ∙ q.4)))
-            (refl, sym q.2, more e (subst (IsChainOf d) q.1 chain) r.2))
+    (subst (λ D. Meets d s D (Asking s id (n + 1) (m + k))) (sym (end-leads t.id (ending_after d w a e) w (q.3 ∙ sym (same_lead e)) (same_sweep e ∙ q.4)))
+    (refl, sym q.2, more e (subst (IsChainOf d) q.1 chain) r.2))
 
 mine-swept : (d : Shape) (x : SlotState) (s w id n m k : ℕ) → Meets d s (duty_of x w) (Asking s id n m) → Meets d s (duty_of (ended d w (SweepOthers k) x) w) Free
 mine-swept d x s w id n m k meets =
@@ -184,7 +184,7 @@ mine-swept d x s w id n m k meets =
     let q = leads-slot x w id r.0 r.1 in
     let e : Ending = r.0 in let t : TaskSet = q.0 in
     subst (λ y. Meets d s (duty_of (ended d w (SweepOthers k) y) w) Free) (sym q.1)
-        (subst (λ D. Meets d s D Free) (sym (end-rests t.id (ending_after d w (SweepOthers k) e) w q.3 refl)) (λ b. absurd (cc)))
+    (subst (λ D. Meets d s D Free) (sym (end-rests t.id (ending_after d w (SweepOthers k) e) w q.3 refl)) (λ b. absurd (cc)))
 
 -- the holder of a slot goes on holding it
 mine-held : (d : Shape) (x : SlotState) (a : Act) (s w : ℕ) (h : Held) → Meets d s (duty_of x w) (Holding s h) → Meets d s (duty_of (held_on a x) w) (Holding s (held_after a h))
@@ -285,7 +285,7 @@ theirs-paid-last d x s v w id q low other chain swept clear owe m =
     let was_swept : e.swept ≡ true = subst (λ y. is_swept y ≡ true) r.2 swept in
     let none : debts d (ended d w PayDone (Shut t e)) ≡ 0 = subst (λ y. debts d (ended d w PayDone y) ≡ 0) r.2 clear in
     theirs-last d x t e s v w q other r.2 (λ c. was_swept) (k.all_asked was_swept v low)
-        (sym (owing-else d e v w other) ∙ none-counted d.workers (owes (ended d w PayDone (Shut t e))) none v low) m
+    (sym (owing-else d e v w other) ∙ none-counted d.workers (owes (ended d w PayDone (Shut t e))) none v low) m
 
 theirs-swept-last : (d : Shape) (x : SlotState) (s v w id n k : ℕ) (q : Place) → v < d.workers → v ≢ w → IsChainOf d x → n + 1 ≡ d.workers → debts d x ≡ 0
     → Meets d s (duty_of x w) (Asking s id n k) → Meets d s (duty_of x v) q → Meets d s (duty_of (finalised_by w x) v) q
@@ -294,8 +294,8 @@ theirs-swept-last d x s v w id n k q low other chain full clear meets m =
     let is = leads-slot x w id e r.1 in let t : TaskSet = is.0 in
     let c : IsChain d e = subst (IsChainOf d) is.1 chain in
     theirs-last d x t e s v w q other is.1 (λ j. absurd (other (j ∙ sym is.3)))
-        (λ j. all-asked d e n k r.2 c.coordinator full v low j)
-        (none-counted d.workers (owing e) (subst (λ y. debts d y ≡ 0) is.1 clear) v low) m
+    (λ j. all-asked d e n k r.2 c.coordinator full v low j)
+    (none-counted d.workers (owing e) (subst (λ y. debts d y ≡ 0) is.1 clear) v low) m
 
 -- a place that leads one end leads another with the same sets
 leads-on : (d : Shape) (e g : Ending) (q : Place) → ((n m : ℕ) → HasAsked d e n m → HasAsked d g n m) → IsLeading d e q → IsLeading d g q
@@ -309,13 +309,13 @@ theirs-paid d x s v w id q other owe m =
     let r = owes-slot x w id owe in let t : TaskSet = r.0 in let e : Ending = r.1 in
     let g : Ending = ending_after d w PayDone e in
     subst (λ y. Meets d s (duty_of (ended d w PayDone y) v) q) (sym r.2)
-        (end-cases t.id e v (λ D. Meets d s D q → Meets d s (duty_at_end t.id g v) q)
-            (λ a b k. subst (λ D. Meets d s D q) (sym (end-rests t.id g v a b)) k)
-            (λ a b k. subst (λ D. Meets d s D q) (sym (end-leads t.id g v a b)) (k.0, k.1, leads-on d e g q (λ n j h. record { first = h.first; marks = h.marks; within = h.within }) k.2))
-            (λ a b c k. subst (λ D. Meets d s D q) (sym (end-owes t.id g v a b (owing-else d e v w other ∙ c))) k)
-            (λ a b c k. subst (λ D. Meets d s D q) (sym (end-clear t.id g v a b (owing-else d e v w other ∙ c))) k)
-            (λ a b k. subst (λ D. Meets d s D q) (sym (end-unasked t.id g v a b)) k)
-            (subst (λ y. Meets d s (duty_of y v) q) r.2 m))
+    (end-cases t.id e v (λ D. Meets d s D q → Meets d s (duty_at_end t.id g v) q)
+    (λ a b k. subst (λ D. Meets d s D q) (sym (end-rests t.id g v a b)) k)
+    (λ a b k. subst (λ D. Meets d s D q) (sym (end-leads t.id g v a b)) (k.0, k.1, leads-on d e g q (λ n j h. record { first = h.first; marks = h.marks; within = h.within }) k.2))
+    (λ a b c k. subst (λ D. Meets d s D q) (sym (end-owes t.id g v a b (owing-else d e v w other ∙ c))) k)
+    (λ a b c k. subst (λ D. Meets d s D q) (sym (end-clear t.id g v a b (owing-else d e v w other ∙ c))) k)
+    (λ a b k. subst (λ D. Meets d s D q) (sym (end-unasked t.id g v a b)) k)
+    (subst (λ y. Meets d s (duty_of y v) q) r.2 m))
 
 at-owes : (d : Shape) (s id : ℕ) (q : Place) → is_at q s ≡ true → Meets d s (Unasked id) q → Meets d s (Owes id) q
 at-owes d s id (Entered t) h m = (eqb-true t s h, refl, λ b. absurd (cc))
@@ -365,15 +365,15 @@ theirs-asked d x a s v w id n m q marks other chain asks here more meets mine_to
     let out : e.asked u ≡ false = next-unasked d e n m r.2 in
     let differs : e.asked v ≡ true → v ≢ u = λ b j. true≢false (sym b ∙ ap e.asked j ∙ out) in
     subst (λ y. Meets d s (duty_of (ended d w a y) v) q) (sym is.1)
-        (end-cases t.id e v (λ D. Meets d s D q → Meets d s (duty_at_end t.id g v) q)
-            (λ l b z. absurd (other (l ∙ sym is.3)))
-            (λ l b z. absurd (other (l ∙ sym is.3)))
-            (λ l b f z. subst (λ D. Meets d s D q) (sym (end-owes t.id g v (λ j. l (j ∙ k.lead)) (k.asked v (differs b) ∙ b) (k.owing_else v (differs b) ∙ f))) z)
-            (λ l b f z. subst (λ D. Meets d s D q) (sym (end-clear t.id g v (λ j. l (j ∙ k.lead)) (k.asked v (differs b) ∙ b) (k.owing_else v (differs b) ∙ f))) z)
-            (λ l b z. dite (ℕ_discrete v u)
-                (λ j. asked-now d s v t.id g q marks (λ i. l (i ∙ k.lead)) (ap g.asked j ∙ k.asked_one) (ap (owing g) j ∙ k.owing_one) (here e t is.1 (next-is d e n m r.2 c.coordinator more) j) z)
-                (λ j. subst (λ D. Meets d s D q) (sym (end-unasked t.id g v (λ i. l (i ∙ k.lead)) (k.asked v j ∙ b))) z))
-            (subst (λ y. Meets d s (duty_of y v) q) is.1 mine_too))
+    (end-cases t.id e v (λ D. Meets d s D q → Meets d s (duty_at_end t.id g v) q)
+    (λ l b z. absurd (other (l ∙ sym is.3)))
+    (λ l b z. absurd (other (l ∙ sym is.3)))
+    (λ l b f z. subst (λ D. Meets d s D q) (sym (end-owes t.id g v (λ j. l (j ∙ k.lead)) (k.asked v (differs b) ∙ b) (k.owing_else v (differs b) ∙ f))) z)
+    (λ l b f z. subst (λ D. Meets d s D q) (sym (end-clear t.id g v (λ j. l (j ∙ k.lead)) (k.asked v (differs b) ∙ b) (k.owing_else v (differs b) ∙ f))) z)
+    (λ l b z. dite (ℕ_discrete v u)
+    (λ j. asked-now d s v t.id g q marks (λ i. l (i ∙ k.lead)) (ap g.asked j ∙ k.asked_one) (ap (owing g) j ∙ k.owing_one) (here e t is.1 (next-is d e n m r.2 c.coordinator more) j) z)
+    (λ j. subst (λ D. Meets d s D q) (sym (end-unasked t.id g v (λ i. l (i ∙ k.lead)) (k.asked v j ∙ b))) z))
+    (subst (λ y. Meets d s (duty_of y v) q) is.1 mine_too))
 
 asks-marked : (d : Shape) (e : Ending) (n m w : ℕ) → IsChain d e → HasAsked d e n m → n + 1 < d.workers → AsksOne e (ending_after d w MarkMarked e) (nth_other e.coordinator n) true
 asks-marked d e n m w chain h more =
@@ -410,13 +410,13 @@ theirs-swept d x s v w id n m k q other meets mine_too =
     let is = leads-slot x w id e r.1 in let t : TaskSet = is.0 in
     let g : Ending = ending_after d w (SweepOthers k) e in
     subst (λ y. Meets d s (duty_of (ended d w (SweepOthers k) y) v) q) (sym is.1)
-        (end-cases t.id e v (λ D. Meets d s D q → Meets d s (duty_at_end t.id g v) q)
-            (λ l b z. absurd (other (l ∙ sym is.3)))
-            (λ l b z. absurd (other (l ∙ sym is.3)))
-            (λ l b f z. subst (λ D. Meets d s D q) (sym (end-owes t.id g v l b f)) z)
-            (λ l b f z. subst (λ D. Meets d s D q) (sym (end-clear t.id g v l b f)) z)
-            (λ l b z. subst (λ D. Meets d s D q) (sym (end-unasked t.id g v l b)) z)
-            (subst (λ y. Meets d s (duty_of y v) q) is.1 mine_too))
+    (end-cases t.id e v (λ D. Meets d s D q → Meets d s (duty_at_end t.id g v) q)
+    (λ l b z. absurd (other (l ∙ sym is.3)))
+    (λ l b z. absurd (other (l ∙ sym is.3)))
+    (λ l b f z. subst (λ D. Meets d s D q) (sym (end-owes t.id g v l b f)) z)
+    (λ l b f z. subst (λ D. Meets d s D q) (sym (end-clear t.id g v l b f)) z)
+    (λ l b z. subst (λ D. Meets d s D q) (sym (end-unasked t.id g v l b)) z)
+    (subst (λ y. Meets d s (duty_of y v) q) is.1 mine_too))
 
 theirs-reserved : (d : Shape) (x : SlotState) (s v w : ℕ) (q : Place) → v ≢ w → is_empty x ≡ true → Meets d s (duty_of x v) q → Meets d s (cond (eqb v w) (Holds reservation) Visits) q
 theirs-reserved d Empty s v w q other h m = subst (λ D. Meets d s D q) (sym (held-other reservation v w other)) m
@@ -503,12 +503,12 @@ chain-shut d (Open t) w low c = record {
 chain-shut d (Shut t e) w low c = c
 chain-shut d (Finishing id u h) w low c = c
 
-chain-last : (d : Shape) (x : SlotState) (w : ℕ) → IsChainOf d x → IsChainOf d (finalised_by w x)
-chain-last d Empty w c = c
-chain-last d (Reserved u h) w c = c
-chain-last d (Open t) w c = c
-chain-last d (Shut t e) w c = tt
-chain-last d (Finishing id u h) w c = c
+chain-last : (d : Shape) (x : SlotState) (w : ℕ) → w < d.workers → IsChainOf d x → IsChainOf d (finalised_by w x)
+chain-last d Empty w low c = c
+chain-last d (Reserved u h) w low c = c
+chain-last d (Open t) w low c = c
+chain-last d (Shut t e) w low c = low
+chain-last d (Finishing id u h) w low c = c
 
 chain-held : (d : Shape) (x : SlotState) (a : Act) → IsChainOf d x → IsChainOf d (held_on a x)
 chain-held d Empty a c = c
@@ -519,10 +519,10 @@ chain-held d (Finishing id u h) a c = c
 
 chain-opened : (d : Shape) (x : SlotState) (id : ℕ) → IsChainOf d x → IsChainOf d (opened id x)
 chain-opened d Empty id c = c
-chain-opened d (Reserved u h) id c = c
+chain-opened d (Reserved u h) id c = tt
 chain-opened d (Open t) id c = c
 chain-opened d (Shut t e) id c = c
-chain-opened d (Finishing jd u h) id c = c
+chain-opened d (Finishing jd u h) id c = tt
 
 chain-paid : (d : Shape) (x : SlotState) (w id : ℕ) → IsChainOf d x → duty_of x w ≡ Owes id → (is_swept x ≡ false) ⊎ (0 < debts d (ended d w PayDone x)) → IsChainOf d (ended d w PayDone x)
 chain-paid d x w id chain owe left_over =
@@ -547,22 +547,24 @@ chain-asked d x w s id n m chain meets more =
     let u : ℕ = next_asked d e in
     let other : u ≢ e.coordinator = λ j. nth-other-differs e.coordinator n (sym (next-is d e n m r.2 c.coordinator more) ∙ j) in
     let grows : (v : ℕ) → e.asked v ≡ true → upd e.asked u true v ≡ true = λ v h. upd-cases e.asked u true v (λ b. b ≡ true) (λ j. refl) (λ j. h) in
-    let within : (v : ℕ) → upd e.asked u true v ≡ true → v ≢ e.coordinator = λ v. upd-cases e.asked u true v (λ b. b ≡ true → v ≢ e.coordinator) (λ j h k. other (sym j ∙ k)) (λ j h. c.asked v h) in
-    (subst (λ y. IsChainOf d (ended d w MarkMissed y)) (sym is.1) (record {
-      coordinator = c.coordinator;
-      paid = c.paid;
-      marked = λ v h. grows v (c.marked v h);
-      asked = within;
-      all_asked = λ h. absurd (true≢false (sym h ∙ is.4));
-      one_owes = λ h. absurd (true≢false (sym h ∙ is.4));
-    }), subst (λ y. IsChainOf d (ended d w MarkMarked y)) (sym is.1) (record {
-      coordinator = c.coordinator;
-      paid = λ v h. upd-cases e.marked u true v (λ b. b ≡ true) (λ j. refl) (λ j. c.paid v h);
-      marked = λ v. upd-cases e.marked u true v (λ b. b ≡ true → upd e.asked u true v ≡ true) (λ j h. ap (upd e.asked u true) j ∙ upd-same e.asked u true) (λ j h. grows v (c.marked v h));
-      asked = within;
-      all_asked = λ h. absurd (true≢false (sym h ∙ is.4));
-      one_owes = λ h. absurd (true≢false (sym h ∙ is.4));
-    }))
+    let within : (v : ℕ) → upd e.asked u true v ≡ true → v ≢ e.coordinator = λ v. upd-cases e.asked u true v (λ b. b ≡ true → v ≢ e.coordinator) (λ j h k. other (sym j ∙ k)) (λ j h. c.asked v h) in (
+      subst (λ y. IsChainOf d (ended d w MarkMissed y)) (sym is.1) (record {
+        coordinator = c.coordinator;
+        paid = c.paid;
+        marked = λ v h. grows v (c.marked v h);
+        asked = within;
+        all_asked = λ h. absurd (true≢false (sym h ∙ is.4));
+        one_owes = λ h. absurd (true≢false (sym h ∙ is.4));
+      }),
+      subst (λ y. IsChainOf d (ended d w MarkMarked y)) (sym is.1) (record {
+        coordinator = c.coordinator;
+        paid = λ v h. upd-cases e.marked u true v (λ b. b ≡ true) (λ j. refl) (λ j. c.paid v h);
+        marked = λ v. upd-cases e.marked u true v (λ b. b ≡ true → upd e.asked u true v ≡ true) (λ j h. ap (upd e.asked u true) j ∙ upd-same e.asked u true) (λ j h. grows v (c.marked v h));
+        asked = within;
+        all_asked = λ h. absurd (true≢false (sym h ∙ is.4));
+        one_owes = λ h. absurd (true≢false (sym h ∙ is.4));
+      }),
+    )
 
 chain-swept : (d : Shape) (x : SlotState) (w s id n m k : ℕ) → IsChainOf d x → Meets d s (duty_of x w) (Asking s id n m) → n + 1 ≡ d.workers → 0 < k → k ≡ debts d x → IsChainOf d (ended d w (SweepOthers k) x)
 chain-swept d x w s id n m k chain meets full some_left is_left =
@@ -583,13 +585,13 @@ chains : (d : Shape) (S : ObjectState) (w : ℕ) (a : Act) → w < d.workers →
 chains d S w (ClaimRange n from to) low ok = λ c m. chain-claimed d _ n c
 chains d S w (ClaimUsed n) low ok = λ c m. chain-claimed d _ n c
 chains d S w ShutWon low ok = λ c m. chain-shut d _ w low c
-chains d S w PayLast low ok = λ c m. chain-last d _ w c
+chains d S w PayLast low ok = λ c m. chain-last d _ w low c
 chains d S w PayDone low ok = subst (Chains d S w PayDone) (sym ok.2) (λ c m. chain-paid d (S.slots ok.0) w ok.1 c (owing-owes d ok.0 ok.1 _ m) ok.3)
 chains d S w MarkMarked low ok = subst (Chains d S w MarkMarked) (sym ok.4) (λ c m. (chain-asked d (S.slots ok.0) w ok.0 ok.1 ok.2 ok.3 c m ok.5).1)
 chains d S w MarkMissed low ok = subst (Chains d S w MarkMissed) (sym ok.4) (λ c m. (chain-asked d (S.slots ok.0) w ok.0 ok.1 ok.2 ok.3 c m ok.5).0)
-chains d S w SweepLast low ok = λ c m. chain-last d _ w c
+chains d S w SweepLast low ok = λ c m. chain-last d _ w low c
 chains d S w (SweepOthers n) low ok = subst (Chains d S w (SweepOthers n)) (sym ok.4) (λ c m. chain-swept d (S.slots ok.0) w ok.0 ok.1 ok.2 ok.3 n c m ok.5 ok.6 ok.7)
-chains d S w (ReserveGot s) low ok = λ c m. tt
+chains d S w (ReserveGot s) low ok = λ c m. low
 chains d S w (AdmitGot q) low ok = λ c m. chain-held d _ (AdmitGot q) c
 chains d S w (Note k) low ok = λ c m. chain-held d _ (Note k) c
 chains d S w (Total t) low ok = λ c m. chain-held d _ (Total t) c
@@ -651,12 +653,12 @@ table-next d S w a low ok fine =
       chain = λ s. upd-cases S.slots k y s (IsChainOf d) (λ e. chains d S w a low fine (ok.chain k) (ok.duty k w low)) (λ n. ok.chain s);
       duty = λ s v within. upd-cases S.slots k y s (λ z. Meets d s (duty_of z v) (upd S.places w q v))
           (λ e. subst (λ j. Meets d j (duty_of y v) (upd S.places w q v)) (sym e) (upd-cases S.places w q v (Meets d k (duty_of y v))
-              (λ i. subst (λ u. Meets d k (duty_of y u) q) (sym i) (mine d S w a low fine (ok.chain k) (ok.duty k w low)))
-              (λ n. theirs d S w a v within n fine (ok.chain k) (ok.duty k w low) (ok.duty k v within))))
+          (λ i. subst (λ u. Meets d k (duty_of y u) q) (sym i) (mine d S w a low fine (ok.chain k) (ok.duty k w low)))
+          (λ n. theirs d S w a v within n fine (ok.chain k) (ok.duty k w low) (ok.duty k v within))))
           (λ far. upd-cases S.places w q v (Meets d s (duty_of (S.slots s) v))
-              (λ i. subst (λ u. Meets d s (duty_of (S.slots s) u) q) (sym i)
-                  (away d s (duty_of (S.slots s) w) p q (elsewhere d S w a fine s far) (λ b j. far (sym j ∙ moved-slot d S w a fine b)) (ok.duty s w low)))
-              (λ n. ok.duty s v within));
+          (λ i. subst (λ u. Meets d s (duty_of (S.slots s) u) q) (sym i)
+          (away d s (duty_of (S.slots s) w) p q (elsewhere d S w a fine s far) (λ b j. far (sym j ∙ moved-slot d S w a fine b)) (ok.duty s w low)))
+          (λ n. ok.duty s v within));
     }
 
 pub table : (d : Shape) (h : List Entry) → IsLegal d h → IsTable d (state_after d h)

@@ -5,3 +5,5 @@ pub mod Allowed
 pub mod Histories
 pub mod Notices
 pub mod Table
+pub mod Bounds
+pub mod Laws

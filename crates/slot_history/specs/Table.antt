@@ -5,7 +5,7 @@ use Rattle.slot_history.specs.declared.place.Held.{Held}
 use Rattle.slot_history.specs.declared.place.Place.{Place}
 use Rattle.slot_history.specs.declared.place.Place.TheVariants.{Entered, Astray, Inside, Used, Behind, Leading, Asking, Owing, Holding}
 use Rattle.slot_history.specs.Sets.{count_of}
-use Rattle.slot_history.specs.States.{TaskSet, Ending, SlotState, Empty, Reserved, Open, Shut, Finishing, ObjectState, slot_of, id_at}
+use Rattle.slot_history.specs.States.{Ending, SlotState, Empty, Reserved, Open, Shut, Finishing, ObjectState, slot_of, id_at}
 
 -- what a worker may or must be to a slot
 pub data Duty : Type 0 where
@@ -105,11 +105,14 @@ pub record IsChain (d : Shape) (e : Ending) : Type 0 where
   pub all_asked : e.swept ≡ true → (v : ℕ) → v < d.workers → v ≢ e.coordinator → e.asked v ≡ true
   pub one_owes : e.swept ≡ true → (v : ℕ) × (v < d.workers) × (owing e v ≡ true)
 
+-- of a slot that is held, the holder is a worker; of one that is shut, the sets lie within one another
 abbrev pub IsChainOf : Shape → SlotState → Type 0
+IsChainOf d (Reserved w h) = w < d.workers
 IsChainOf d (Shut t e) = IsChain d e
+IsChainOf d (Finishing id w h) = w < d.workers
 IsChainOf d _ = Unit {0}
 
--- every worker meets its duty to every slot, and the sets of a shut slot lie within one another
+-- every worker meets its duty to every slot, and only workers have duties that bind
 pub record IsTable (d : Shape) (S : ObjectState) : Type 0 where
   pub chain : (s : ℕ) → IsChainOf d (S.slots s)
   pub duty : (s v : ℕ) → v < d.workers → Meets d s (duty_of (S.slots s) v) (S.places v)

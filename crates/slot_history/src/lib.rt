@@ -7,5 +7,6 @@
 #![tactic(auto)]
 
 pub mod act;
+pub mod laws;
 pub mod place;
 pub mod shape;

@@ -5,3 +5,5 @@ pub mod Others
 pub mod Own
 pub mod Within
 pub mod Places
+pub mod Cursors
+pub mod Holdings

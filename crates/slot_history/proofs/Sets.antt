@@ -1,8 +1,8 @@
 -- Functions with one value changed, tests, and sets of workers.
-use Rattle.std.proofs.Common.{◌≡◌, ◌≢◌, ℕ, zero, suc, ◌+◌, ◌<◌, Bool, true, false, cond, eqb, not, ◌&&◌, refl, sym, ap, ◌∙◌, subst, eq-eqb, ne_eqb, arith}
+use Rattle.std.proofs.Common.{◌≡◌, ◌≢◌, ◌⊎◌, inl, inr, ℕ, zero, suc, ◌+◌, ◌<◌, ◌≤◌, Bool, true, false, cond, eqb, not, ◌&&◌, refl, sym, ap, ◌∙◌, subst, eq-eqb, ne_eqb, arith}
 use mathlib.Core.Logic.{dite}
 use native.Mathlib.Decide.{ℕ_discrete}
-use Rattle.slot_history.specs.Sets.{upd, least, count_of}
+use Rattle.slot_history.specs.Sets.{upd, least, count_of, sum_below}
 
 module _ {A : Type 0} where
   -- a choice by whether two numbers are equal
@@ -22,6 +22,10 @@ module _ {A : Type 0} where
 
   pub upd-cases : (f : ℕ → A) (k : ℕ) (x : A) (j : ℕ) (P : A → Type 0) → (j ≡ k → P x) → (j ≢ k → P (f j)) → P (upd f k x j)
   upd-cases f k x j P same other = pick j k x (f j) P same other
+
+pub true-or-false : (b : Bool) → (b ≡ true) ⊎ (b ≡ false)
+true-or-false true = inl refl
+true-or-false false = inr refl
 
 pub and-true : (a b : Bool) → a ≡ true → b ≡ true → (a && b) ≡ true
 and-true true true h k = refl
@@ -96,3 +100,37 @@ count-more (suc n) f k lt out = dite (ℕ_discrete n k)
     let r : count_of n (upd f k true) ≡ count_of n f = count-same n (upd f k true) f (λ v h. upd-else f k true v (omega arith)) in omega arith)
     (λ ne. let a : cond {A = ℕ} (upd f k true n) 1 0 ≡ cond {A = ℕ} (f n) 1 0 = ap (λ b. cond b 1 0) (upd-else f k true n ne) in
     let r : count_of n (upd f k true) ≡ count_of n f + 1 = count-more n f k (omega arith) out in omega arith)
+
+-- a larger set has no fewer members
+pub count-grows : (n : ℕ) (f g : ℕ → Bool) → ((v : ℕ) → v < n → f v ≡ true → g v ≡ true) → count_of n f ≤ count_of n g
+count-grows zero f g more = omega arith
+count-grows (suc n) f g more =
+    let r : count_of n f ≤ count_of n g = count-grows n f g (λ v h. more v (omega arith)) in
+    choose (f n) 1 0 (λ k. k + count_of n f ≤ cond {A = ℕ} (g n) 1 0 + count_of n g)
+    (λ t. let e : cond {A = ℕ} (g n) 1 0 ≡ 1 = ap (λ b. cond b 1 0) (more n (omega arith) t) in omega arith)
+    (λ t. omega arith)
+
+-- and one more where it has a member that the smaller set lacks
+pub count-grows_one : (n : ℕ) (f g : ℕ → Bool) (k : ℕ) → k < n → f k ≡ false → g k ≡ true → ((v : ℕ) → v < n → f v ≡ true → g v ≡ true) → count_of n f + 1 ≤ count_of n g
+count-grows_one n f g k low out here more =
+    let a : count_of n (upd f k true) ≡ count_of n f + 1 = count-more n f k low out in
+    let b : count_of n (upd f k true) ≤ count_of n g = count-grows n (upd f k true) g (λ v h. upd-cases f k true v (λ b. b ≡ true → g v ≡ true) (λ e t. ap g e ∙ here) (λ ne t. more v h t)) in omega arith
+
+sum-same : (n : ℕ) (f g : ℕ → ℕ) → ((s : ℕ) → s < n → g s ≡ f s) → sum_below n g ≡ sum_below n f
+sum-same zero f g same = refl
+sum-same (suc n) f g same =
+    let a : g n ≡ f n = same n (omega arith) in
+    let r : sum_below n g ≡ sum_below n f = sum-same n f g (λ s h. same s (omega arith)) in omega arith
+
+-- a sum of which one term changes, where a term past the end is 0 before
+pub sum-change : (n k : ℕ) (f g : ℕ → ℕ) → ((s : ℕ) → s ≢ k → g s ≡ f s) → (n ≤ k → f k ≡ 0) → sum_below n g + f k ≤ sum_below n f + g k
+sum-change zero k f g same past = let z : f k ≡ 0 = past (omega arith) in omega arith
+sum-change (suc n) k f g same past = dite (ℕ_discrete n k)
+    (λ e. let a : sum_below n g ≡ sum_below n f = sum-same n f g (λ s h. same s (omega arith)) in
+    let b : g n ≡ g k = ap g e in let c : f n ≡ f k = ap f e in omega arith)
+    (λ ne. let a : g n ≡ f n = same n ne in
+    let r : sum_below n g + f k ≤ sum_below n f + g k = sum-change n k f g same (λ h. past (omega arith)) in omega arith)
+
+pub sum-zero : (n : ℕ) → sum_below n (λ s. 0) ≡ 0
+sum-zero zero = refl
+sum-zero (suc n) = let r : sum_below n (λ s. 0) ≡ 0 = sum-zero n in omega arith

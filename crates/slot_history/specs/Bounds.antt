@@ -1,9 +1,12 @@
 -- The ranges of the numbers in a state.
-use Rattle.std.specs.Prelude.{◌≡◌, ℕ, ◌<◌, ◌≤◌, true}
+use Rattle.std.specs.Prelude.{◌≡◌, ℕ, ◌+◌, ◌-◌, ◌*◌, ◌/◌, ◌%◌, ◌<◌, ◌≤◌, Bool, true, false, cond, not, eqb, Some, is_some, unwrap_or}
 use Rattle.slot_history.specs.declared.shape.Shape.{Shape}
+use Rattle.slot_history.specs.declared.shape.TheConstants.{MOST_CLAIM, MOST_TOTAL, STAGES}
+use Rattle.slot_history.specs.Sets.{count_of, sum_below}
+use Rattle.slot_history.specs.declared.place.Held.{Held}
 use Rattle.slot_history.specs.declared.place.Place.{Place}
-use Rattle.slot_history.specs.declared.place.Place.TheVariants.{Free, Announcing}
-use Rattle.slot_history.specs.States.{ObjectState, slot_of, is_empty}
+use Rattle.slot_history.specs.declared.place.Place.TheVariants.{Free, Inside, Used, Announcing}
+use Rattle.slot_history.specs.States.{SlotState, Empty, Reserved, Open, Shut, Finishing, ObjectState, slot_of, task_of, is_empty, is_shut}
 
 -- a place names a slot that there is, and an announcer has still to tell a worker that there is
 abbrev pub IsPlaceWithin : Shape → Place → Type 0
@@ -17,3 +20,65 @@ pub record IsWithin (d : Shape) (S : ObjectState) : Type 0 where
   pub others : (v : ℕ) → d.workers ≤ v → S.places v ≡ Free
   pub slots : (s : ℕ) → d.slots ≤ s → is_empty (S.slots s) ≡ true
   pub admitted : S.admitted ≤ d.queries
+
+-- the worker found all tuples of the slot's task set claimed, and has not shut it yet
+abbrev pub is_used_at : ℕ → Place → Bool
+is_used_at s (Used t id) = eqb t s
+is_used_at s _ = false
+
+-- the worker may still claim at the slot
+abbrev pub is_claiming_at : ℕ → Place → Bool
+is_claiming_at s (Inside t id) = eqb t s
+is_claiming_at s _ = false
+
+-- How far a cursor can be past its total: by one claim, and one more for each worker that found all tuples claimed. While
+-- the slot is open these are still there; once it is shut they are among those that claim no more.
+abbrev pub IsCursorBound : Shape → (ℕ → Place) → ℕ → SlotState → Type 0
+IsCursorBound d places s (Open t) = t.cursor < t.total + MOST_CLAIM * (1 + count_of d.workers (λ v. is_used_at s (places v)))
+IsCursorBound d places s (Shut t e) = t.cursor < t.total + MOST_CLAIM * (1 + count_of d.workers (λ v. not (is_claiming_at s (places v))))
+IsCursorBound d places s x = Unit {0}
+
+-- cursors: a worker that found all tuples claimed is right, a task set is shut only then, and no cursor goes too far
+pub record AreCursors (d : Shape) (S : ObjectState) : Type 0 where
+  pub used : (v s id : ℕ) → v < d.workers → S.places v ≡ Used s id → (task_of (S.slots s)).total ≤ (task_of (S.slots s)).cursor
+  pub shut : (s : ℕ) → is_shut (S.slots s) ≡ true → (task_of (S.slots s)).total ≤ (task_of (S.slots s)).cursor
+  pub bound : (s : ℕ) → IsCursorBound d S.places s (S.slots s)
+
+-- what the slot of a reservation notes of its holder
+pub record IsReservation (h : Held) : Type 0 where
+  pub again : h.again ≡ false
+  pub stage : h.stage ≡ 0
+  pub noted : h.noted ≤ STAGES
+  pub total : unwrap_or h.total 0 ≤ MOST_TOTAL
+
+-- what the slot of a finalisation of an id notes of its holder
+pub record IsFinalisation (id : ℕ) (h : Held) : Type 0 where
+  pub query : h.query ≡ Some (id / STAGES)
+  pub stage : h.stage ≡ id % STAGES
+  pub again : h.again ≡ true
+  pub noted : h.noted ≤ STAGES
+  pub total : unwrap_or h.total 0 ≤ MOST_TOTAL
+
+abbrev pub IsSlotSound : SlotState → Type 0
+IsSlotSound Empty = Unit {0}
+IsSlotSound (Reserved w h) = IsReservation h
+IsSlotSound (Open t) = t.total ≤ MOST_TOTAL
+IsSlotSound (Shut t e) = t.total ≤ MOST_TOTAL
+IsSlotSound (Finishing id w h) = IsFinalisation id h
+
+-- totals are within their limit, and holders know the query and the stage of their slot
+abbrev pub AreSlotsSound : Shape → ObjectState → Type 0
+AreSlotsSound d S = (s : ℕ) → IsSlotSound (S.slots s)
+
+-- at most so many task sets may still be noted as done because of the slot as it is: by a reservation of a query once and
+-- then at each of its stages, and at each of these at most one for each stage
+abbrev pub note_room : SlotState → ℕ
+note_room Empty = 0
+note_room (Reserved w h) = cond (is_some h.query) (STAGES * (STAGES + 1) - h.noted) 0
+note_room (Open t) = STAGES * (STAGES - t.id % STAGES)
+note_room (Shut t e) = STAGES * (STAGES - t.id % STAGES)
+note_room (Finishing id w h) = STAGES * (STAGES - id % STAGES) - h.noted
+
+-- the number of task sets noted as done, with all that may still be noted, is bounded by the admitted queries
+abbrev pub IsFinishedBound : Shape → ObjectState → Type 0
+IsFinishedBound d S = S.finished + sum_below d.slots (λ s. note_room (S.slots s)) ≤ STAGES * (STAGES + 1) * S.admitted

@@ -14,3 +14,8 @@ least (suc n) f = cond (f 0) 0 (suc (least n (λ k. f (suc k))))
 abbrev pub count_of : ℕ → (ℕ → Bool) → ℕ
 count_of zero f = 0
 count_of (suc n) f = cond (f n) 1 0 + count_of n f
+
+-- the sum of f over the numbers below n
+abbrev pub sum_below : ℕ → (ℕ → ℕ) → ℕ
+sum_below zero f = 0
+sum_below (suc n) f = f n + sum_below n f

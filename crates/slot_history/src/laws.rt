@@ -5,7 +5,7 @@
 
 ghost use Rattle.slot_history.specs.Laws.{Always, QuietSlots, InsideSlots, OneDebt, ShutInside, OneOwner};
 ghost use Rattle.slot_history.specs.Table.{IsTable};
-ghost use Rattle.slot_history.specs.Bounds.{IsWithin};
+ghost use Rattle.slot_history.specs.Bounds.{IsWithin, AreCursors, AreSlotsSound, IsFinishedBound};
 
 /// Every worker is at a place that the state of each slot allows it, and of a shut slot those that paid were marked,
 /// those that were marked were asked, and those that were asked are the first of the others.
@@ -53,4 +53,24 @@ pub fn shut_inside()
 /// Ruled out: a shut that two workers win, after which both would hold the slot.
 pub fn one_owner()
     ensures { Always OneOwner }
+{}
+
+/// A worker that found all tuples of a slot claimed is right for as long as it is there, a task set is shut only then, and
+/// no cursor goes further past its total than one claim, and one for each worker that found all tuples claimed.
+///
+/// Ruled out: a claim that answers a range past the total, and a cursor that wraps.
+pub fn cursors()
+    ensures { Always AreCursors }
+{}
+
+/// Totals are within their limit, and the holder of a slot knows its query and stage.
+pub fn slots_sound()
+    ensures { Always AreSlotsSound }
+{}
+
+/// The number of task sets noted as done, with all that slots may still note, is at most 72 for each admitted query.
+///
+/// Ruled out: a holder that notes twice in one holding, after which the number would wrap in the end.
+pub fn finished_bound()
+    ensures { Always IsFinishedBound }
 {}

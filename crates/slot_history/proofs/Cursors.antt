@@ -15,18 +15,13 @@ use Rattle.slot_history.specs.Steps.{site, moved, left, told_one, held_after, sl
 use Rattle.slot_history.specs.Allowed.{IsAllowed}
 use Rattle.slot_history.specs.Histories.{IsLegal}
 use Rattle.slot_history.specs.Table.{IsTable}
+use Rattle.slot_history.specs.Lives.{has_task}
 use Rattle.slot_history.specs.Bounds.{is_used_at, is_claiming_at, IsCursorBound, AreCursors}
 use Rattle.slot_history.proofs.Sets.{pick, true-or-false, upd-same, upd-cases, not-true, count-grows, count-grows_one}
 use Rattle.slot_history.proofs.Table.{table, table-next}
 use Rattle.slot_history.proofs.Places.{inside-slots}
 
 -- ---- the task set of the slot of a call
-
--- a slot has a task set to claim of while it is open or shut
-abbrev pub has_task : SlotState → Bool
-has_task (Open t) = true
-has_task (Shut t e) = true
-has_task _ = false
 
 pub open-or-shut : (x : SlotState) → (is_open x ≡ true) ⊎ (is_shut x ≡ true) → has_task x ≡ true
 open-or-shut (Open t) h = refl

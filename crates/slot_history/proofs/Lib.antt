@@ -7,3 +7,4 @@ pub mod Within
 pub mod Places
 pub mod Cursors
 pub mod Holdings
+pub mod Book

@@ -7,3 +7,4 @@ pub mod Notices
 pub mod Table
 pub mod Bounds
 pub mod Laws
+pub mod Lives

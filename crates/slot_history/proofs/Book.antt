@@ -1,27 +1,25 @@
 -- The book of task sets holds after every legal history. It rules out an id that is installed twice, and a finisher that
 -- installs a stage past the next.
-use Rattle.std.proofs.Common.{◌≡◌, ◌≢◌, ℕ, ◌+◌, ◌-◌, ◌*◌, ◌/◌, ◌%◌, ◌<◌, ◌≤◌, ◌⊎◌, Bool, true, false, cond, eqb, ◌&&◌, min, List, [], ◌∷◌, Option, Some, None, refl, sym, ap, ap₂, ◌∙◌, subst, inl, inr, ⊎_elim, arith, eq-eqb, ne_eqb, eqb-true, ltb, ltb-true, ltb-false}
-use Rattle.std.specs.Prelude.{is_some, unwrap_or, IsSome}
-use mathlib.Core.Logic.{dite}
+use Rattle.std.proofs.Common.{◌≡◌, ◌≢◌, ℕ, ◌+◌, ◌*◌, ◌/◌, ◌%◌, ◌<◌, ◌≤◌, ◌⊎◌, true, false, cond, eqb, min, List, [], ◌∷◌, Option, Some, None, refl, sym, ap, ap₂, ◌∙◌, subst, inl, inr, ⊎_elim, arith, eq-eqb, ne_eqb, ltb, ltb-true, ltb-false}
+use Rattle.std.specs.Prelude.{unwrap_or, IsSome}
 use mathlib.Core.Bool.{true≢false}
-use native.Mathlib.Decide.{ℕ_discrete}
 use Rattle.slot_history.specs.declared.shape.Shape.{Shape}
 use Rattle.slot_history.specs.declared.shape.TheConstants.{STAGES}
 use Rattle.slot_history.specs.declared.act.Act.{Act}
-use Rattle.slot_history.specs.declared.act.Act.TheVariants.{Enter, LookOpen, LookInvalid, LookVacant, ClaimRange, ClaimUsed, ShutWon, ShutLost, LeaveLeft, LeaveOwe, PayLast, PayDone, MarkMarked, MarkMissed, SweepLast, SweepOthers, ReserveGot, ReserveTaken, AdmitGot, AdmitLost, Arrivals, Finished, Note, Total, Install, Release, Tell, TakeReturn, TakeChange}
+use Rattle.slot_history.specs.declared.act.Act.TheVariants.{Enter, ClaimRange, ClaimUsed, ShutWon, PayLast, PayDone, MarkMarked, MarkMissed, SweepLast, SweepOthers, ReserveGot, ReserveTaken, AdmitGot, Note, Total, Install, Release}
 use Rattle.slot_history.specs.declared.act.Entry.{Entry}
 use Rattle.slot_history.specs.declared.place.Held.{Held}
 use Rattle.slot_history.specs.declared.place.Place.{Place}
-use Rattle.slot_history.specs.declared.place.Place.TheVariants.{Free, Inside, Asking, Owing, Holding}
+use Rattle.slot_history.specs.declared.place.Place.TheVariants.{Asking, Owing}
 use Rattle.slot_history.specs.Sets.{upd}
-use Rattle.slot_history.specs.States.{TaskSet, Ending, SlotState, Empty, Reserved, Open, Shut, Finishing, ObjectState, opening, slot_of, id_at, held_at, task_of, id_of, reservation, finalisation, next_id, is_empty, is_open, is_shut, has_own_cell, is_inside}
-use Rattle.slot_history.specs.Steps.{site, slot_after, claimed, grown, shut_by, ended, ending_after, finalised_by, held_on, held_after, opened, admitted_after, next, state_after}
+use Rattle.slot_history.specs.States.{TaskSet, Ending, SlotState, Empty, Reserved, Open, Shut, Finishing, ObjectState, slot_of, task_of, id_of, reservation, finalisation, next_id, is_empty, has_own_cell, is_inside}
+use Rattle.slot_history.specs.Steps.{site, slot_after, claimed, grown, shut_by, ended, finalised_by, held_on, held_after, opened, admitted_after, state_after}
 use Rattle.slot_history.specs.Allowed.{IsAllowed, IsReady}
-use Rattle.slot_history.specs.Histories.{IsLegal, Morsel, Tiles, claims_of, claims_after, place_of, is_install, is_last}
-use Rattle.slot_history.specs.Table.{Leads, Owes, duty_of, Meets, IsTable}
+use Rattle.slot_history.specs.Histories.{IsLegal, Morsel, Tiles, claims_of, claims_after}
+use Rattle.slot_history.specs.Table.{duty_of, Meets, IsTable}
 use Rattle.slot_history.specs.Bounds.{IsReservation, IsFinalisation, IsSlotSound, AreSlotsSound}
 use Rattle.slot_history.specs.Lives.{Life, Never, Runs, Done, done, life_after, life_of, has_task, query_in, AreLaterNever, IsRunning, IsSlotBook, IsBook, IsBookOf}
-use Rattle.slot_history.proofs.Sets.{pick, true-or-false, upd-cases, upd-same, upd-else}
+use Rattle.slot_history.proofs.Sets.{pick, true-or-false, upd-cases, upd-same}
 use Rattle.slot_history.proofs.Duties.{asking-leads, leads-slot, owing-owes, owes-slot}
 use Rattle.slot_history.proofs.Table.{table}
 use Rattle.slot_history.proofs.Places.{inside-slots}
@@ -85,7 +83,7 @@ alike-released x w h how = ⊎_elim
 book-alike : (m : ℕ) (slots : ℕ → SlotState) (life : ℕ → Life) (claims : ℕ → List Morsel) (k : ℕ) (y : SlotState) → Alike (slots k) y → IsBook m slots life claims → IsBook m (upd slots k y) life claims
 book-alike m slots life claims k y same ok =
     let back : (j q : ℕ) → query_in (upd slots k y j) ≡ Some q → query_in (slots j) ≡ Some q =
-            λ j q. upd-cases slots k y j (λ z. query_in z ≡ Some q → query_in (slots j) ≡ Some q) (λ e h. ap (λ i. query_in (slots i)) e ∙ same.query q h) (λ n h. h) in record {
+    λ j q. upd-cases slots k y j (λ z. query_in z ≡ Some q → query_in (slots j) ≡ Some q) (λ e h. ap (λ i. query_in (slots i)) e ∙ same.query q h) (λ n h. h) in record {
       slot = λ s. upd-cases slots k y s (IsSlotBook m life claims s) (λ e. same.book m life claims s (subst (λ j. IsSlotBook m life claims s (slots j)) e (ok.slot s))) (λ n. ok.slot s);
       runs = λ id s total h. let r = ok.runs id s total h in upd-cases slots k y s (λ z. (has_task z ≡ true) × ((task_of z).id ≡ id))
           (λ e. let t = same.task (ap (λ j. has_task (slots j)) (sym e) ∙ r.0) in (t.0, t.1 ∙ ap (λ j. (task_of (slots j)).id) (sym e) ∙ r.1)) (λ n. r);
@@ -138,7 +136,7 @@ claimed-task (Shut t e) n = (refl, refl)
 claimed-task (Finishing id w h) n = (refl, refl)
 
 -- a slot that has a task set knows its life
-running-life : (m : ℕ) (life : ℕ → Life) (claims : ℕ → List Morsel) (s : ℕ) (x : SlotState) → has_task x ≡ true → IsSlotBook m life claims s x → life (task_of x).id ≡ Runs s (task_of x).total
+pub running-life : (m : ℕ) (life : ℕ → Life) (claims : ℕ → List Morsel) (s : ℕ) (x : SlotState) → has_task x ≡ true → IsSlotBook m life claims s x → life (task_of x).id ≡ Runs s (task_of x).total
 running-life m life claims s (Open t) has k = k.lives
 running-life m life claims s (Shut t e) has k = k.lives
 running-life m life claims s Empty has k = absurd (cc)
@@ -157,7 +155,7 @@ book-range m slots life claims k w n from to has at below upto some_tuples ok =
     let here : more jd ≡ new ∷ claims jd = ap (λ b. cond b (new ∷ claims jd) (claims jd)) (eq-eqb jd jd refl) in
     let else_ : (id : ℕ) → jd ≢ id → more id ≡ claims id = λ id n. ap (λ b. cond b (new ∷ claims id) (claims id)) (ne_eqb jd id n) in
     let back : (j q : ℕ) → query_in (upd slots k (claimed x n) j) ≡ Some q → query_in (slots j) ≡ Some q =
-            λ j q. upd-cases slots k (claimed x n) j (λ z. query_in z ≡ Some q → query_in (slots j) ≡ Some q) (λ e h. ap (λ i. query_in (slots i)) e ∙ sym (claimed-query x n) ∙ h) (λ n h. h) in record {
+    λ j q. upd-cases slots k (claimed x n) j (λ z. query_in z ≡ Some q → query_in (slots j) ≡ Some q) (λ e h. ap (λ i. query_in (slots i)) e ∙ sym (claimed-query x n) ∙ h) (λ n h. h) in record {
       slot = λ s. upd-cases slots k (claimed x n) s (IsSlotBook m life more s)
           (λ e. subst (λ j. IsSlotBook m life more j (claimed x n)) (sym e) (slot-more m life claims more k w n from to x has at below upto some_tuples here (ok.slot k)))
           (λ far. book-claims m life claims more s (slots s) (λ id total h. else_ id (λ i. far (let r : Runs k (task_of x).total ≡ Runs s total = sym lives ∙ ap life i ∙ h in let q : k ≡ s = cc in sym q))) (ok.slot s));
@@ -215,12 +213,12 @@ book-admitted m slots life claims k w h is none ok =
 
 -- what the book says of the next id of a holder: it was never installed, nor was a later one of its query, which is the
 -- query of the slot
-record IsFresh (m : ℕ) (life : ℕ → Life) (x : SlotState) (id : ℕ) : Type 0 where
-  never : life id ≡ Never
-  later : AreLaterNever life id
-  query : query_in x ≡ Some (id / STAGES)
-  low : id / STAGES < m
-  idle : has_task x ≡ false
+pub record IsFresh (m : ℕ) (life : ℕ → Life) (x : SlotState) (id : ℕ) : Type 0 where
+  pub never : life id ≡ Never
+  pub later : AreLaterNever life id
+  pub query : query_in x ≡ Some (id / STAGES)
+  pub low : id / STAGES < m
+  pub idle : has_task x ≡ false
 
 some-unwrap : (o : Option ℕ) → IsSome o → o ≡ Some (unwrap_or o 0)
 some-unwrap (Some n) h = refl
@@ -274,9 +272,11 @@ book-beside m life claims s k total id (Reserved w h) new apart ok = λ q e. let
     (r.0, λ j of. pick id j (Runs k total) (life j) (λ l. l ≡ Never) (λ i. absurd (apart (e ∙ ap Some (sym of ∙ ap (λ z. z / STAGES) (sym i))))) (λ n. r.1 j of))
 book-beside m life claims s k total id (Open t) new apart ok = beside-running life claims s k total id t new apart ok
 book-beside m life claims s k total id (Shut t e) new apart ok = beside-running life claims s k total id t new apart ok
-book-beside m life claims s k total id (Finishing jd w h) new apart ok =
-    (ok.0, pick id jd (Runs k total) (life jd) (λ l. l ≡ Done ok.0) (λ i. absurd (let r : Done ok.0 ≡ Never = sym ok.1 ∙ ap life (sym i) ∙ new in cc)) (λ n. ok.1),
-     λ j above of. pick id j (Runs k total) (life j) (λ l. l ≡ Never) (λ i. absurd (apart (ap Some (sym of ∙ ap (λ z. z / STAGES) (sym i))))) (λ n. ok.2 j above of))
+book-beside m life claims s k total id (Finishing jd w h) new apart ok = (
+  ok.0,
+  pick id jd (Runs k total) (life jd) (λ l. l ≡ Done ok.0) (λ i. absurd (let r : Done ok.0 ≡ Never = sym ok.1 ∙ ap life (sym i) ∙ new in cc)) (λ n. ok.1),
+  λ j above of. pick id j (Runs k total) (life j) (λ l. l ≡ Never) (λ i. absurd (apart (ap Some (sym of ∙ ap (λ z. z / STAGES) (sym i))))) (λ n. ok.2 j above of),
+)
 
 book-installed : (m : ℕ) (slots : ℕ → SlotState) (life : ℕ → Life) (claims : ℕ → List Morsel) (k id total : ℕ) → IsFresh m life (slots k) id → IsBook m slots life claims
     → IsBook m (upd slots k (Open (record { id = id; total = total; cursor = 0 }))) (λ j. cond (eqb id j) (Runs k total) (life j)) claims
@@ -285,7 +285,7 @@ book-installed m slots life claims k id total fresh ok =
     let new : ℕ → Life = λ j. cond (eqb id j) (Runs k total) (life j) in
     let else_ : (j : ℕ) → id ≢ j → new j ≡ life j = λ j n. ap (λ b. cond b (Runs k total) (life j)) (ne_eqb id j n) in
     let back : (j q : ℕ) → query_in (upd slots k y j) ≡ Some q → query_in (slots j) ≡ Some q =
-            λ j q. upd-cases slots k y j (λ z. query_in z ≡ Some q → query_in (slots j) ≡ Some q) (λ e h. ap (λ i. query_in (slots i)) e ∙ fresh.query ∙ h) (λ n h. h) in record {
+    λ j q. upd-cases slots k y j (λ z. query_in z ≡ Some q → query_in (slots j) ≡ Some q) (λ e h. ap (λ i. query_in (slots i)) e ∙ fresh.query ∙ h) (λ n h. h) in record {
       slot = λ s. upd-cases slots k y s (IsSlotBook m new claims s)
           (λ e. record {
             lives = ap (λ b. cond b (Runs k total) (life id)) (eq-eqb id id refl) ∙ ap (λ j. Runs j total) (sym e);
@@ -330,7 +330,7 @@ book-last m slots life claims k w t e is ok =
     let new : ℕ → Life = λ j. cond (eqb t.id j) (done (life j)) (life j) in
     let mine : IsRunning life claims k t = subst (IsSlotBook m life claims k) is (ok.slot k) in
     let back : (j q : ℕ) → query_in (upd slots k y j) ≡ Some q → query_in (slots j) ≡ Some q =
-            λ j q. upd-cases slots k y j (λ z. query_in z ≡ Some q → query_in (slots j) ≡ Some q) (λ i h. ap (λ z. query_in (slots z)) i ∙ ap query_in is ∙ h) (λ n h. h) in
+    λ j q. upd-cases slots k y j (λ z. query_in z ≡ Some q → query_in (slots j) ≡ Some q) (λ i h. ap (λ z. query_in (slots z)) i ∙ ap query_in is ∙ h) (λ n h. h) in
     subst (λ z. IsBook m (upd slots k (finalised_by w z)) new claims) (sym is) (record {
       slot = λ s. upd-cases slots k y s (IsSlotBook m new claims s)
           (λ i. (t.total, ap (λ b. cond b (done (life t.id)) (life t.id)) (eq-eqb t.id t.id refl) ∙ ap done mine.lives, λ j above of. last-never t.id j (life j) (mine.later j above of)))
@@ -338,7 +338,7 @@ book-last m slots life claims k w t e is ok =
       runs = λ j s n. pick t.id j (done (life j)) (life j) (λ l. l ≡ Runs s n → (has_task (upd slots k y s) ≡ true) × ((task_of (upd slots k y s)).id ≡ j))
           (λ i h. absurd (let r : Done t.total ≡ Runs s n = sym (ap done (sym (ap life i) ∙ mine.lives)) ∙ h in cc))
           (λ i h. let r = ok.runs j s n h in upd-cases slots k y s (λ z. (has_task z ≡ true) × ((task_of z).id ≡ j))
-              (λ at. absurd (i (sym (ap (λ z. (task_of z).id) is) ∙ ap (λ z. (task_of (slots z)).id) (sym at) ∙ r.1))) (λ far. r));
+          (λ at. absurd (i (sym (ap (λ z. (task_of z).id) is) ∙ ap (λ z. (task_of (slots z)).id) (sym at) ∙ r.1))) (λ far. r));
       never = λ j. pick t.id j (done (life j)) (life j) (λ l. l ≡ Never → claims j ≡ []) (λ i h. absurd (let r : Done t.total ≡ Never = sym (ap done (sym (ap life i) ∙ mine.lives)) ∙ h in cc)) (λ n h. ok.never j h);
       late = λ j high. last-never t.id j (life j) (ok.late j high);
       apart = λ s u q h g. ok.apart s u q (back s q h) (back u q g);
@@ -363,40 +363,52 @@ pub inside-task : (d : Shape) (S : ObjectState) → IsTable d S → (w s id : �
 inside-task d S tab w s id low cell h = let r = inside-slots d S tab s w id low cell h in let t : has_task (S.slots s) ≡ true = open-or-shut (S.slots s) r.0 in
     (t, task-id (S.slots s) t ∙ r.1)
 
+-- the slot of a worker that has to pay, and of a coordinator that asks, is shut with the id that the worker names
+pub paying-slot : (d : Shape) (S : ObjectState) → IsTable d S → (w s id : ℕ) → w < d.workers → S.places w ≡ Owing s id → (t : TaskSet) × (e : Ending) × (S.slots s ≡ Shut t e) × (t.id ≡ id)
+paying-slot d S tab w s id low at = let r = owes-slot (S.slots s) w id (owing-owes d s id (duty_of (S.slots s) w) (subst (Meets d s (duty_of (S.slots s) w)) at (tab.duty s w low))) in (r.0, r.1, r.2, r.3)
+
+pub asking-slot : (d : Shape) (S : ObjectState) → IsTable d S → (w s id n m : ℕ) → w < d.workers → S.places w ≡ Asking s id n m → (t : TaskSet) × (e : Ending) × (S.slots s ≡ Shut t e) × (t.id ≡ id)
+asking-slot d S tab w s id n m low at =
+    let k = asking-leads d s id n m (duty_of (S.slots s) w) (subst (Meets d s (duty_of (S.slots s) w)) at (tab.duty s w low)) in
+    let r = leads-slot (S.slots s) w id k.0 k.1 in (r.0, k.0, r.1, r.2)
+
 next-range : (d : Shape) (S : ObjectState) (w n from to : ℕ) (life : ℕ → Life) (claims : ℕ → List Morsel) → w < d.workers → IsTable d S → IsAllowed d S w (ClaimRange n from to)
     → IsBook S.admitted S.slots life claims → Books d S w (ClaimRange n from to) life claims (S.places w)
 next-range d S w n from to life claims low tab ok book =
     let s : ℕ = ok.0 in let id : ℕ = ok.1 in
     let r = inside-task d S tab w s id low (ap (λ p. has_own_cell p s) ok.2 ∙ eq-eqb s s refl) (ap (λ p. is_inside p id) ok.2 ∙ eq-eqb id id refl) in
     subst (Books d S w (ClaimRange n from to) life claims) (sym ok.2)
-        (subst (λ j. IsBook S.admitted (upd S.slots s (claimed (S.slots s) n)) life (λ i. cond (eqb j i) ((record { worker = w; from = from; to = to }) ∷ claims i) (claims i))) r.1
-            (book-range S.admitted S.slots life claims s w n from to r.0 ok.5 ok.6 ok.7 ok.3 book))
+    (subst (λ j. IsBook S.admitted (upd S.slots s (claimed (S.slots s) n)) life (λ i. cond (eqb j i) ((record { worker = w; from = from; to = to }) ∷ claims i) (claims i))) r.1
+    (book-range S.admitted S.slots life claims s w n from to r.0 ok.5 ok.6 ok.7 ok.3 book))
 
 next-admitted : (d : Shape) (S : ObjectState) (w q : ℕ) (life : ℕ → Life) (claims : ℕ → List Morsel) → w < d.workers → IsTable d S → AreSlotsSound d S → IsAllowed d S w (AdmitGot q)
     → IsBook S.admitted S.slots life claims → Books d S w (AdmitGot q) life claims (S.places w)
 next-admitted d S w q life claims low tab sound ok book = let s : ℕ = ok.0 in let h : Held = ok.1 in
     subst (Books d S w (AdmitGot q) life claims) (sym ok.2)
-        (subst (λ j. IsBook (S.admitted + 1) (upd S.slots s (held_on (AdmitGot j) (S.slots s))) life claims) ok.5
-            (⊎_elim (λ e. book-admitted S.admitted S.slots life claims s w h e ok.3 book)
-                (λ r. absurd (let k : IsFinalisation r.0 h = subst IsSlotSound r.1 (sound s) in let f : None ≡ Some (r.0 / STAGES) = sym ok.3 ∙ k.query in cc))
-                (holder-slot d S tab w s h low ok.2)))
+    (subst (λ j. IsBook (S.admitted + 1) (upd S.slots s (held_on (AdmitGot j) (S.slots s))) life claims) ok.5
+    (⊎_elim (λ e. book-admitted S.admitted S.slots life claims s w h e ok.3 book)
+    (λ r. absurd (let k : IsFinalisation r.0 h = subst IsSlotSound r.1 (sound s) in let f : None ≡ Some (r.0 / STAGES) = sym ok.3 ∙ k.query in cc))
+    (holder-slot d S tab w s h low ok.2)))
+
+pub install-fresh : (d : Shape) (S : ObjectState) (w id : ℕ) (life : ℕ → Life) (claims : ℕ → List Morsel) → w < d.workers → IsTable d S → AreSlotsSound d S → (ok : IsAllowed d S w (Install id))
+    → IsBook S.admitted S.slots life claims → IsFresh S.admitted life (S.slots ok.0) id
+install-fresh d S w id life claims low tab sound ok book = let s : ℕ = ok.0 in let h : Held = ok.1 in ⊎_elim
+    (λ e. let k : IsReservation h = subst IsSlotSound e (sound s) in
+    subst (λ x. IsFresh S.admitted life x id) (sym e) (fresh-reserved S.admitted life claims s w id h ok.3 ok.4 k.again (subst (IsSlotBook S.admitted life claims s) e (book.slot s))))
+    (λ r. let k : IsFinalisation r.0 h = subst IsSlotSound r.1 (sound s) in
+    subst (λ x. IsFresh S.admitted life x id) (sym r.1)
+    (fresh-finishing S.admitted life claims s w id r.0 h ok.3 ok.4 k (running-low S.admitted S.slots life claims book r.0) (subst (IsSlotBook S.admitted life claims s) r.1 (book.slot s))))
+    (holder-slot d S tab w s h low ok.2)
 
 next-installed : (d : Shape) (S : ObjectState) (w id : ℕ) (life : ℕ → Life) (claims : ℕ → List Morsel) → w < d.workers → IsTable d S → AreSlotsSound d S → IsAllowed d S w (Install id)
     → IsBook S.admitted S.slots life claims → Books d S w (Install id) life claims (S.places w)
 next-installed d S w id life claims low tab sound ok book = let s : ℕ = ok.0 in let h : Held = ok.1 in
     let total : ℕ = unwrap_or h.total 0 in
     let new : SlotState = Open (record { id = id; total = total; cursor = 0 }) in
-    let how : (S.slots s ≡ Reserved w h) ⊎ ((jd : ℕ) × (S.slots s ≡ Finishing jd w h)) = holder-slot d S tab w s h low ok.2 in
-    let is : opened id (S.slots s) ≡ new = ⊎_elim (λ e. ap (opened id) e) (λ r. ap (opened id) r.1) how in
-    let fresh : IsFresh S.admitted life (S.slots s) id = ⊎_elim
-            (λ e. let k : IsReservation h = subst IsSlotSound e (sound s) in
-                subst (λ x. IsFresh S.admitted life x id) (sym e) (fresh-reserved S.admitted life claims s w id h ok.3 ok.4 k.again (subst (IsSlotBook S.admitted life claims s) e (book.slot s))))
-            (λ r. let k : IsFinalisation r.0 h = subst IsSlotSound r.1 (sound s) in
-                subst (λ x. IsFresh S.admitted life x id) (sym r.1)
-                    (fresh-finishing S.admitted life claims s w id r.0 h ok.3 ok.4 k (running-low S.admitted S.slots life claims book r.0) (subst (IsSlotBook S.admitted life claims s) r.1 (book.slot s)))) how in
+    let is : opened id (S.slots s) ≡ new = ⊎_elim (λ e. ap (opened id) e) (λ r. ap (opened id) r.1) (holder-slot d S tab w s h low ok.2) in
     subst (Books d S w (Install id) life claims) (sym ok.2)
-        (subst (λ y. IsBook S.admitted (upd S.slots s y) (λ j. cond (eqb id j) (Runs s total) (life j)) claims) (sym is)
-            (book-installed S.admitted S.slots life claims s id total fresh book))
+    (subst (λ y. IsBook S.admitted (upd S.slots s y) (λ j. cond (eqb id j) (Runs s total) (life j)) claims) (sym is)
+    (book-installed S.admitted S.slots life claims s id total (install-fresh d S w id life claims low tab sound ok book) book))
 
 -- a call with the answer that the task set is finalised now, of a worker that names its slot and id
 next-last : (S : ObjectState) (s w id : ℕ) (t : TaskSet) (e : Ending) (life : ℕ → Life) (claims : ℕ → List Morsel) → S.slots s ≡ Shut t e → t.id ≡ id
@@ -411,11 +423,9 @@ book-next d S w (ClaimUsed n) life claims low tab sound ok book = let at : ok.0 
     book-alike S.admitted S.slots life claims (slot_of (S.places w)) _ (alike-used _ n (subst (λ j. (task_of (S.slots j)).total ≤ (task_of (S.slots j)).cursor) at ok.5)) book
 book-next d S w ShutWon life claims low tab sound ok book = book-alike S.admitted S.slots life claims (slot_of (S.places w)) _ (alike-shut _ w) book
 book-next d S w PayLast life claims low tab sound ok book = subst (Books d S w PayLast life claims) (sym ok.2)
-    (let r = owes-slot (S.slots ok.0) w ok.1 (owing-owes d ok.0 ok.1 (duty_of (S.slots ok.0) w) (subst (Meets d ok.0 (duty_of (S.slots ok.0) w)) ok.2 (tab.duty ok.0 w low))) in
-     next-last S ok.0 w ok.1 r.0 r.1 life claims r.2 r.3 book)
+    (let r = paying-slot d S tab w ok.0 ok.1 low ok.2 in next-last S ok.0 w ok.1 r.0 r.1 life claims r.2 r.3 book)
 book-next d S w SweepLast life claims low tab sound ok book = subst (Books d S w SweepLast life claims) (sym ok.4)
-    (let m = asking-leads d ok.0 ok.1 ok.2 ok.3 (duty_of (S.slots ok.0) w) (subst (Meets d ok.0 (duty_of (S.slots ok.0) w)) ok.4 (tab.duty ok.0 w low)) in
-     let r = leads-slot (S.slots ok.0) w ok.1 m.0 m.1 in next-last S ok.0 w ok.1 r.0 m.0 life claims r.1 r.2 book)
+    (let r = asking-slot d S tab w ok.0 ok.1 ok.2 ok.3 low ok.4 in next-last S ok.0 w ok.1 r.0 r.1 life claims r.2 r.3 book)
 book-next d S w PayDone life claims low tab sound ok book = book-alike S.admitted S.slots life claims (slot_of (S.places w)) _ (alike-ended d w PayDone _) book
 book-next d S w MarkMarked life claims low tab sound ok book = book-alike S.admitted S.slots life claims (slot_of (S.places w)) _ (alike-ended d w MarkMarked _) book
 book-next d S w MarkMissed life claims low tab sound ok book = book-alike S.admitted S.slots life claims (slot_of (S.places w)) _ (alike-ended d w MarkMissed _) book

@@ -8,3 +8,4 @@ pub mod Places
 pub mod Cursors
 pub mod Holdings
 pub mod Book
+pub mod TaskSets

@@ -8,6 +8,7 @@ use Rattle.slot_history.specs.declared.act.Entry.{Entry}
 use Rattle.slot_history.specs.Steps.{moved, state_after}
 use Rattle.slot_history.specs.Allowed.{IsAllowed}
 use Rattle.slot_history.specs.Histories.{IsLegal, entry, own_calls, place_of, Called, ranges_after, ranges_of}
+use Rattle.slot_history.specs.Laws.{OwnEntries}
 use Rattle.slot_history.proofs.Sets.{upd-else}
 
 pub own-mine : (e : Entry) (h : List Entry) (w : ℕ) → w ≡ e.worker → own_calls w (e ∷ h) ≡ e ∷ own_calls w h
@@ -47,6 +48,9 @@ ranges-own-step d w id e es ih (no other) = ranges-other d w id e es other ∙ i
 pub ranges-own : (d : Shape) (w id : ℕ) (h : List Entry) → ranges_of d w id h ≡ ranges_of d w id (own_calls w h)
 ranges-own d w id [] = refl
 ranges-own d w id (e ∷ es) = ranges-own-step d w id e es (ranges-own d w id es) (ℕ_discrete w e.worker)
+
+pub own-entries : (d : Shape) (h : List Entry) (w : ℕ) → OwnEntries d h w
+own-entries d h w = record { place = place-own d w h; ranges = λ id. ranges-own d w id h }
 
 -- ---- after a call, by the clause of every call
 

@@ -62,6 +62,11 @@ abbrev pub ranges_of : Shape → ℕ → ℕ → List Entry → List (ℕ × ℕ
 ranges_of d w id [] = []
 ranges_of d w id (e ∷ es) = cond (eqb w e.worker) (ranges_after e.act (place_of d es w) id (ranges_of d w id es)) (ranges_of d w id es)
 
+-- the ranges of claims that are by w
+abbrev pub ranges_by : ℕ → List Morsel → List (ℕ × ℕ)
+ranges_by w [] = []
+ranges_by w (m ∷ ms) = cond (eqb w m.worker) ((m.from, m.to) ∷ ranges_by w ms) (ranges_by w ms)
+
 -- Claims, newest first, tile a total: the newest ends at the total and is not empty, and the earlier ones tile the
 -- number at which it begins. Without claims the total is 0.
 abbrev pub Tiles : List Morsel → ℕ → Type 0

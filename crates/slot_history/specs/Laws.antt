@@ -1,10 +1,12 @@
 -- The laws of legal histories, as the functions of module `laws` state them.
-use Rattle.std.specs.Prelude.{◌≡◌, ℕ, ◌<◌, ◌⊎◌, true, false, List}
+use Rattle.std.specs.Prelude.{◌≡◌, ℕ, ◌<◌, ◌≤◌, ◌⊎◌, true, false, List, [], min, Some}
 use Rattle.slot_history.specs.declared.shape.Shape.{Shape}
 use Rattle.slot_history.specs.declared.act.Entry.{Entry}
-use Rattle.slot_history.specs.States.{TaskSet, Ending, Shut, ObjectState, id_of, is_empty, is_open, is_shut, owes, is_inside, has_own_cell, HasCell}
+use Rattle.slot_history.specs.States.{TaskSet, Ending, Shut, Finishing, task_of, ObjectState, id_of, is_empty, is_open, is_shut, owes, is_inside, has_own_cell, HasCell}
 use Rattle.slot_history.specs.Steps.{state_after}
-use Rattle.slot_history.specs.Histories.{IsLegal, own_calls, place_of, ranges_of}
+use Rattle.slot_history.specs.Histories.{IsLegal, own_calls, place_of, ranges_of, ranges_by, claims_of, Tiles, installs_of, admits_of, lasts_of, total_of, FinalisedOnce}
+use Rattle.slot_history.specs.declared.place.Held.{Held}
+use Rattle.slot_history.specs.Lives.{has_task}
 use Rattle.slot_history.specs.Notices.{IsQuiet}
 use Rattle.slot_history.specs.Table.{owing}
 
@@ -38,3 +40,38 @@ OneOwner d S = (s v t u : ℕ) → t < d.workers → u < d.workers → HasCell S
 pub record OwnEntries (d : Shape) (h : List Entry) (w : ℕ) : Type 0 where
   pub place : place_of d h w ≡ place_of d (own_calls w h) w
   pub ranges : (id : ℕ) → ranges_of d w id h ≡ ranges_of d w id (own_calls w h)
+
+-- after every legal history
+abbrev pub AfterAll : (Shape → List Entry → Type 0) → Type 0
+AfterAll P = (d : Shape) (h : List Entry) → IsLegal d h → P d h
+
+-- each task set is installed, and each query admitted, once at most
+abbrev pub OnlyOnce : Shape → List Entry → Type 0
+OnlyOnce d h = ((id : ℕ) → installs_of id h ≤ 1) × ((q : ℕ) → admits_of q h ≤ 1)
+
+-- a task set that was never installed has no claims
+abbrev pub NoEarlyClaims : Shape → List Entry → Type 0
+NoEarlyClaims d h = (id : ℕ) → installs_of id h ≡ 0 → (claims_of d id h ≡ []) × ((w : ℕ) → ranges_of d w id h ≡ [])
+
+-- the ranges of a worker are those of its claims
+abbrev pub RangesOfClaims : Shape → List Entry → Type 0
+RangesOfClaims d h = (w id : ℕ) → ranges_of d w id h ≡ ranges_by w (claims_of d id h)
+
+-- the task set of a slot that is open or shut has the total of its install, and its claims tile the lesser of its cursor
+-- and its total
+abbrev pub TilesCursor : Shape → List Entry → Type 0
+TilesCursor d h = (s : ℕ) → has_task ((state_after d h).slots s) ≡ true → let t = task_of ((state_after d h).slots s) in
+    (total_of d t.id h ≡ Some t.total) × Tiles (claims_of d t.id h) (min t.cursor t.total)
+
+-- the claims of a task set that is shut or was finalised tile the total with which it was installed
+abbrev pub TilesTotal : Shape → List Entry → Type 0
+TilesTotal d h = ((s : ℕ) → is_shut ((state_after d h).slots s) ≡ true → let t = task_of ((state_after d h).slots s) in Tiles (claims_of d t.id h) t.total)
+    × ((id total : ℕ) → 0 < lasts_of d id h → total_of d id h ≡ Some total → Tiles (claims_of d id h) total)
+
+-- a slot that is being finalised was so finalised for its id
+abbrev pub FinishingLast : Shape → List Entry → Type 0
+FinishingLast d h = (s id w : ℕ) (held : Held) → (state_after d h).slots s ≡ Finishing id w held → 0 < lasts_of d id h
+
+-- each task set that was finalised was so once, and in place
+abbrev pub OnceInPlace : Shape → List Entry → Type 0
+OnceInPlace d h = (id : ℕ) → 0 < lasts_of d id h → FinalisedOnce d id h

@@ -3,7 +3,9 @@
 //! Each function does nothing; its contract is a law, and the lemma of its name in `proofs/` is what crates above cite.
 //! Each says which fault of the protocol it rules out.
 
-ghost use Rattle.slot_history.specs.Laws.{Always, QuietSlots, InsideSlots, OneDebt, ShutInside, OneOwner};
+ghost use Rattle.std.specs.Prelude.{ℕ};
+ghost use Rattle.slot_history.specs.Laws.{Always, AfterAll, QuietSlots, InsideSlots, OneDebt, ShutInside, OneOwner, OwnEntries, OnlyOnce, RangesOfClaims, NoEarlyClaims, TilesCursor, TilesTotal, FinishingLast, OnceInPlace};
+ghost use Rattle.slot_history.specs.Lives.{IsBookOf};
 ghost use Rattle.slot_history.specs.Table.{IsTable};
 ghost use Rattle.slot_history.specs.Bounds.{IsWithin, AreCursors, AreSlotsSound, IsFinishedBound};
 
@@ -73,4 +75,71 @@ pub fn slots_sound()
 /// Ruled out: a holder that notes twice in one holding, after which the number would wrap in the end.
 pub fn finished_bound()
     ensures { Always IsFinishedBound }
+{}
+
+/// A worker's place, with the numbers of its tokens, and its claims are given by its own entries alone.
+///
+/// Ruled out: a call of another worker that moves this one, or takes its claims away.
+pub fn own_entries()
+    ensures { AfterAll (λ d h. (w : ℕ) → OwnEntries d h w) }
+{}
+
+/// Each task set that runs is in its slot, one that was never installed has no claims, no later task set of a query is
+/// installed before an earlier one, none of a query that was not admitted, and no two slots serve one query.
+///
+/// Ruled out: a finisher that installs a stage past the next, and a query that two slots serve.
+pub fn book()
+    ensures { AfterAll IsBookOf }
+{}
+
+/// Each task set is installed, and each query admitted, once at most.
+///
+/// Ruled out: a shut that two workers win, after which both would install the next stage.
+pub fn only_once()
+    ensures { AfterAll OnlyOnce }
+{}
+
+/// The ranges of a worker are those of its claims.
+///
+/// Ruled out: a claim that is another worker's.
+pub fn ranges_claims()
+    ensures { AfterAll RangesOfClaims }
+{}
+
+/// A task set that was never installed has no claims.
+///
+/// Ruled out: a worker that is inside with an id before its install.
+pub fn no_early_claims()
+    ensures { AfterAll NoEarlyClaims }
+{}
+
+/// The task set of a slot that is open or shut has the total of its install, and its claims tile the lesser of its cursor
+/// and its total.
+///
+/// Ruled out: a claim that is not cut at the total.
+pub fn tiles_cursor()
+    ensures { AfterAll TilesCursor }
+{}
+
+/// The claims of a task set that is shut or was finalised tile the total with which it was installed.
+///
+/// Ruled out: a shut before all tuples were claimed, and a claim after the last call of the task set.
+pub fn tiles_total()
+    ensures { AfterAll TilesTotal }
+{}
+
+/// A slot that is being finalised is so after the last call of its task set.
+///
+/// Ruled out: a holder that was not told that it finalises.
+pub fn finishing_last()
+    ensures { AfterAll FinishingLast }
+{}
+
+/// Each task set that was finalised was so once, and in place: from then on nobody is inside with it and no call touches
+/// it, and its slot was given to no other task set before.
+///
+/// Ruled out: a shut that two workers win, a sweep before the last worker was asked, a state word that is published after
+/// the look, a leave that forgets the debt.
+pub fn once_in_place()
+    ensures { AfterAll OnceInPlace }
 {}

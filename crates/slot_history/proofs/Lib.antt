@@ -9,3 +9,10 @@ pub mod Cursors
 pub mod Holdings
 pub mod Book
 pub mod TaskSets
+pub mod Announcements
+pub mod SameTask
+pub mod Records
+pub mod Notices
+pub mod LoneTurns
+pub mod Known
+pub mod Arrivals

@@ -8,3 +8,4 @@ pub mod Table
 pub mod Bounds
 pub mod Laws
 pub mod Lives
+pub mod LoneTurns

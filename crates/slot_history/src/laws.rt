@@ -9,6 +9,9 @@ ghost use Rattle.slot_history.specs.Lives.{IsBookOf};
 ghost use Rattle.slot_history.specs.Table.{IsTable};
 ghost use Rattle.slot_history.specs.Bounds.{IsWithin, AreCursors, AreSlotsSound, IsFinishedBound};
 
+pub mod lone_turns;
+pub mod notices;
+
 /// Every worker is at a place that the state of each slot allows it, and of a shut slot those that paid were marked,
 /// those that were marked were asked, and those that were asked are the first of the others.
 ///

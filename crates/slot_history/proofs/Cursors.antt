@@ -16,8 +16,8 @@ use Rattle.slot_history.specs.Allowed.{IsAllowed}
 use Rattle.slot_history.specs.Histories.{IsLegal}
 use Rattle.slot_history.specs.Table.{IsTable}
 use Rattle.slot_history.specs.Lives.{has_task}
-use Rattle.slot_history.specs.Bounds.{is_used_at, is_claiming_at, IsCursorBound, AreCursors}
-use Rattle.slot_history.proofs.Sets.{pick, true-or-false, upd-same, upd-cases, not-true, count-grows, count-grows_one}
+use Rattle.slot_history.specs.Bounds.{is_used_at, is_claiming_at, IsCursorBound, AreCursors, IsCursorLimit}
+use Rattle.slot_history.proofs.Sets.{pick, true-or-false, upd-same, upd-cases, not-true, count-grows, count-grows_one, count-most}
 use Rattle.slot_history.proofs.Table.{table, table-next}
 use Rattle.slot_history.proofs.Places.{inside-slots}
 
@@ -455,3 +455,21 @@ cursors-next d S w a low tab ok fine = record {
 pub cursors : (d : Shape) (h : List Entry) → IsLegal d h → AreCursors d (state_after d h)
 cursors d [] legal = record { used = λ v s id low e. absurd (cc); shut = λ s h. absurd (cc); bound = λ s. tt }
 cursors d (e ∷ es) legal = cursors-next d (state_after d es) e.worker e.act legal.0 (table d es legal.2) (cursors d es legal.2) legal.1
+
+limit-of : (d : Shape) (places : ℕ → Place) (s : ℕ) (x : SlotState) → IsCursorBound d places s x → (task_of x).cursor ≤ (task_of x).total + MOST_CLAIM * (d.workers + 1)
+limit-of d places s (Open t) k =
+    let n : ℕ = count_of d.workers (λ v. is_used_at s (places v)) in
+    let a : n ≤ d.workers = count-most d.workers (λ v. is_used_at s (places v)) in
+    let c : ℕ = t.cursor in let m : ℕ = t.total in
+    let b : c < m + MOST_CLAIM * (1 + n) = k in let r : c ≤ m + MOST_CLAIM * (d.workers + 1) = omega arith in r
+limit-of d places s (Shut t e) k =
+    let n : ℕ = count_of d.workers (λ v. not (is_claiming_at s (places v))) in
+    let a : n ≤ d.workers = count-most d.workers (λ v. not (is_claiming_at s (places v))) in
+    let c : ℕ = t.cursor in let m : ℕ = t.total in
+    let b : c < m + MOST_CLAIM * (1 + n) = k in let r : c ≤ m + MOST_CLAIM * (d.workers + 1) = omega arith in r
+limit-of d places s Empty k = omega arith
+limit-of d places s (Reserved w h) k = omega arith
+limit-of d places s (Finishing id w h) k = omega arith
+
+pub cursor-limit : (d : Shape) (S : ObjectState) → AreCursors d S → IsCursorLimit d S
+cursor-limit d S ok s = limit-of d S.places s (S.slots s) (ok.bound s)

@@ -16,3 +16,5 @@ pub mod Notices
 pub mod LoneTurns
 pub mod Known
 pub mod Arrivals
+pub mod Masks
+pub mod OneAnswer

@@ -9,8 +9,9 @@ use Rattle.slot_history.specs.declared.place.Place.TheVariants.{Free, Inside, Us
 use Rattle.slot_history.specs.States.{TaskSet, Ending, SlotState, Empty, Reserved, Open, Shut, Finishing, ObjectState, slot_of, id_at, id_of, is_empty, is_open, is_shut, is_inside, has_own_cell, holds}
 use Rattle.slot_history.specs.Notices.{IsQuiet}
 use Rattle.slot_history.specs.Table.{Duty, Visits, Works, Unasked, Owes, Leads, Holds, owing, duty_at_end, duty_of, binds, Meets, IsChain, IsChainOf, IsTable}
+use Rattle.slot_history.specs.Bounds.{AreDebtsWithin}
 use Rattle.slot_history.specs.Laws.{QuietSlots, InsideSlots, OneDebt, ShutInside, OneOwner}
-use Rattle.slot_history.proofs.Sets.{pick, and-left}
+use Rattle.slot_history.proofs.Sets.{pick, and-left, same-tests, count-split, count-fewer}
 use Rattle.slot_history.proofs.Duties.{end-cases, end-leads, end-owes, held-mine, owes-duty, owes-slot, leads-slot, holding-holds, holds-slot}
 
 own-cell-slot : (p : Place) (s : ℕ) → has_own_cell p s ≡ true → slot_of p ≡ s
@@ -96,6 +97,12 @@ one-debt d S ok s t v low a b =
     let m : Meets d s (Owes (id_of (S.slots s))) (S.places v) = subst (λ D. Meets d s D (S.places v)) (owes-duty d (S.slots s) v (ok.chain s) a) (ok.duty s v low) in
     let k : Meets d t (Owes (id_of (S.slots t))) (S.places v) = subst (λ D. Meets d t D (S.places v)) (owes-duty d (S.slots t) v (ok.chain t) b) (ok.duty t v low) in
     sym m.0 ∙ k.0
+
+pub debts-within : (d : Shape) (S : ObjectState) → IsTable d S → AreDebtsWithin d S
+debts-within d S ok s t e is = let c : IsChain d e = subst (IsChainOf d) is (ok.chain s) in (
+  count-split d.workers e.marked e.paid c.paid,
+  count-fewer d.workers e.marked e.coordinator c.coordinator (same-tests (e.marked e.coordinator) false (λ k. absurd (c.asked e.coordinator (c.marked e.coordinator k) refl)) (λ k. absurd (cc))),
+)
 
 -- ---- quiet states
 

@@ -1,6 +1,7 @@
 -- Functions with one value changed, tests, and sets of workers.
 use Rattle.std.proofs.Common.{◌≡◌, ◌≢◌, ◌⊎◌, inl, inr, ℕ, zero, suc, ◌+◌, ◌<◌, ◌≤◌, Bool, true, false, cond, eqb, not, ◌&&◌, refl, sym, ap, ◌∙◌, subst, eq-eqb, ne_eqb, arith}
 use mathlib.Core.Logic.{dite}
+use mathlib.Core.Bool.{true≢false}
 use native.Mathlib.Decide.{ℕ_discrete}
 use Rattle.slot_history.specs.Sets.{upd, least, count_of, sum_below}
 
@@ -134,3 +135,26 @@ sum-change (suc n) k f g same past = dite (ℕ_discrete n k)
 pub sum-zero : (n : ℕ) → sum_below n (λ s. 0) ≡ 0
 sum-zero zero = refl
 sum-zero (suc n) = let r : sum_below n (λ s. 0) ≡ 0 = sum-zero n in omega arith
+
+pub count-most : (n : ℕ) (f : ℕ → Bool) → count_of n f ≤ n
+count-most zero f = omega arith
+count-most (suc n) f = let r : count_of n f ≤ n = count-most n f in choose (f n) 1 0 (λ k. k + count_of n f ≤ suc n) (λ t. omega arith) (λ t. omega arith)
+
+-- a set that leaves out k has fewer members than there are numbers
+pub count-fewer : (n : ℕ) (f : ℕ → Bool) (k : ℕ) → k < n → f k ≡ false → count_of n f < n
+count-fewer n f k low out =
+    let a : count_of n (upd f k true) ≡ count_of n f + 1 = count-more n f k low out in
+    let b : count_of n (upd f k true) ≤ n = count-most n (upd f k true) in omega arith
+
+split-one : (a b : Bool) → (b ≡ true → a ≡ true) → cond {A = ℕ} b 1 0 + cond {A = ℕ} (a && not b) 1 0 ≡ cond {A = ℕ} a 1 0
+split-one true true within = refl
+split-one true false within = refl
+split-one false true within = absurd (true≢false (sym (within refl)))
+split-one false false within = refl
+
+-- a set is made of a part and of the rest
+pub count-split : (n : ℕ) (f g : ℕ → Bool) → ((v : ℕ) → g v ≡ true → f v ≡ true) → count_of n g + count_of n (λ v. f v && not (g v)) ≡ count_of n f
+count-split zero f g within = refl
+count-split (suc n) f g within =
+    let r : count_of n g + count_of n (λ v. f v && not (g v)) ≡ count_of n f = count-split n f g within in
+    let here : cond {A = ℕ} (g n) 1 0 + cond {A = ℕ} (f n && not (g n)) 1 0 ≡ cond {A = ℕ} (f n) 1 0 = split-one (f n) (g n) (within n) in omega arith

@@ -6,7 +6,8 @@ use Rattle.slot_history.specs.Sets.{count_of, sum_below}
 use Rattle.slot_history.specs.declared.place.Held.{Held}
 use Rattle.slot_history.specs.declared.place.Place.{Place}
 use Rattle.slot_history.specs.declared.place.Place.TheVariants.{Free, Inside, Used, Announcing}
-use Rattle.slot_history.specs.States.{SlotState, Empty, Reserved, Open, Shut, Finishing, ObjectState, slot_of, task_of, is_empty, is_shut}
+use Rattle.slot_history.specs.States.{TaskSet, Ending, SlotState, Empty, Reserved, Open, Shut, Finishing, ObjectState, slot_of, task_of, is_empty, is_shut}
+use Rattle.slot_history.specs.Allowed.{debts}
 
 -- a place names a slot that there is, and an announcer has still to tell a worker that there is
 abbrev pub IsPlaceWithin : Shape → Place → Type 0
@@ -82,3 +83,12 @@ note_room (Finishing id w h) = STAGES * (STAGES - id % STAGES) - h.noted
 -- the number of task sets noted as done, with all that may still be noted, is bounded by the admitted queries
 abbrev pub IsFinishedBound : Shape → ObjectState → Type 0
 IsFinishedBound d S = S.finished + sum_below d.slots (λ s. note_room (S.slots s)) ≤ STAGES * (STAGES + 1) * S.admitted
+
+-- the cursor of a slot is at most one claim for each worker and one more past its total
+abbrev pub IsCursorLimit : Shape → ObjectState → Type 0
+IsCursorLimit d S = (s : ℕ) → (task_of (S.slots s)).cursor ≤ (task_of (S.slots s)).total + MOST_CLAIM * (d.workers + 1)
+
+-- of a shut slot, who paid and who still owes are the marked workers, which are fewer than the workers
+abbrev pub AreDebtsWithin : Shape → ObjectState → Type 0
+AreDebtsWithin d S = (s : ℕ) (t : TaskSet) (e : Ending) → S.slots s ≡ Shut t e
+    → (count_of d.workers e.paid + debts d (Shut t e) ≡ count_of d.workers e.marked) × (count_of d.workers e.marked < d.workers)

@@ -9,3 +9,4 @@ pub mod Bounds
 pub mod Laws
 pub mod Lives
 pub mod LoneTurns
+pub mod Calls

@@ -7,7 +7,8 @@ ghost use Rattle.std.specs.Prelude.{ℕ};
 ghost use Rattle.slot_history.specs.Laws.{Always, AfterAll, QuietSlots, InsideSlots, OneDebt, ShutInside, OneOwner, OwnEntries, OnlyOnce, RangesOfClaims, NoEarlyClaims, TilesCursor, TilesTotal, FinishingLast, OnceInPlace};
 ghost use Rattle.slot_history.specs.Lives.{IsBookOf};
 ghost use Rattle.slot_history.specs.Table.{IsTable};
-ghost use Rattle.slot_history.specs.Bounds.{IsWithin, AreCursors, AreSlotsSound, IsFinishedBound};
+ghost use Rattle.slot_history.specs.Bounds.{IsWithin, AreCursors, IsCursorLimit, AreDebtsWithin, AreSlotsSound, IsFinishedBound};
+ghost use Rattle.slot_history.specs.Calls.{IsAnswered};
 
 pub mod lone_turns;
 pub mod notices;
@@ -145,4 +146,27 @@ pub fn finishing_last()
 /// the look, a leave that forgets the debt.
 pub fn once_in_place()
     ensures { AfterAll OnceInPlace }
+{}
+
+/// The cursor of a slot is at most one claim for each worker, and one more, past its total.
+///
+/// Ruled out: a cursor that wraps.
+pub fn cursor_limit()
+    ensures { Always IsCursorLimit }
+{}
+
+/// Of a shut slot, those that paid and those that still owe are the marked workers, which are fewer than the workers; so a
+/// counter of debts never reaches the number of workers on either side of 0.
+///
+/// Ruled out: a coordinator that marks itself, and a worker that pays twice.
+pub fn debts_within()
+    ensures { Always AreDebtsWithin }
+{}
+
+/// A call that is allowed has an answer, and no other than the state gives.
+///
+/// Ruled out: a shut that two workers win, a leave that forgets the debt, a pay that is answered Last at any counter at or
+/// below 0.
+pub fn is_answered()
+    ensures { Always IsAnswered }
 {}

@@ -1,0 +1,137 @@
+-- Calls without their answers: where each is allowed, and which answer it has there.
+use Rattle.std.specs.Prelude.{◌≡◌, ℕ, ◌+◌, ◌*◌, ◌^◌, ◌<◌, ◌≤◌, ◌⊎◌, zero, suc, Bool, true, cond, eqb, ltb, ◌&&◌, min, None, IsSome}
+use Rattle.slot_history.specs.declared.shape.Shape.{Shape}
+use Rattle.slot_history.specs.declared.shape.TheConstants.{STAGES, PARTS, MOST_CLAIM, MOST_TOTAL}
+use Rattle.slot_history.specs.declared.act.Act.{Act}
+use Rattle.slot_history.specs.declared.act.Act.TheVariants.{Enter, LookOpen, LookInvalid, LookVacant, ClaimRange, ClaimUsed, ShutWon, ShutLost, LeaveLeft, LeaveOwe, PayLast, PayDone, MarkMarked, MarkMissed, SweepLast, SweepOthers, ReserveGot, ReserveTaken, AdmitGot, AdmitLost, Arrivals, Finished, Note, Total, Install, Release, Tell, TakeReturn, TakeChange}
+use Rattle.slot_history.specs.declared.place.Held.{Held}
+use Rattle.slot_history.specs.declared.place.Place.{Place}
+use Rattle.slot_history.specs.declared.place.Place.TheVariants.{Free, Entered, Inside, Used, Asking, Owing, Holding, Announcing}
+use Rattle.slot_history.specs.States.{SlotState, Empty, Reserved, Open, Shut, Finishing, ObjectState, slot_of, task_of, id_of, is_empty, is_open, is_swept, owes, slot_word, can_leave, next_id}
+use Rattle.slot_history.specs.Steps.{ended}
+use Rattle.slot_history.specs.Allowed.{IsAllowed, IsReady, debts, next_is_at}
+
+-- a call with its numbers
+pub data Call : Type 0 where
+  Entering : ℕ → Call
+  Looking : Call
+  Claiming : ℕ → Call
+  Shutting : Call
+  Leaving : Call
+  Paying : Call
+  Marking : Call
+  Sweeping : Call
+  Reserving : ℕ → Call
+  Admitting : ℕ → Call
+  AskingArrivals : Call
+  AskingFinished : Call
+  Noting : ℕ → Call
+  Totalling : ℕ → Call
+  Installing : ℕ → Call
+  Releasing : Call
+  Telling : Call
+  TakingReturn : ℕ → Call
+  TakingChange : ℕ → Call
+
+-- the call that was answered so
+abbrev pub call_of : Act → Call
+call_of (Enter s) = Entering s
+call_of (LookOpen id) = Looking
+call_of LookInvalid = Looking
+call_of LookVacant = Looking
+call_of (ClaimRange n from to) = Claiming n
+call_of (ClaimUsed n) = Claiming n
+call_of ShutWon = Shutting
+call_of ShutLost = Shutting
+call_of LeaveLeft = Leaving
+call_of (LeaveOwe id) = Leaving
+call_of PayLast = Paying
+call_of PayDone = Paying
+call_of MarkMarked = Marking
+call_of MarkMissed = Marking
+call_of SweepLast = Sweeping
+call_of (SweepOthers n) = Sweeping
+call_of (ReserveGot s) = Reserving s
+call_of (ReserveTaken s word) = Reserving s
+call_of (AdmitGot q) = Admitting q
+call_of (AdmitLost q now) = Admitting q
+call_of (Arrivals n) = AskingArrivals
+call_of (Finished n) = AskingFinished
+call_of (Note k) = Noting k
+call_of (Total t) = Totalling t
+call_of (Install id) = Installing id
+call_of Release = Releasing
+call_of Tell = Telling
+call_of (TakeReturn part bits) = TakingReturn part
+call_of (TakeChange part bits) = TakingChange part
+
+-- the call is allowed: the worker is at one of the call's places, and its conditions hold
+abbrev pub MayCall : Shape → ObjectState → ℕ → Call → Type 0
+MayCall d S w (Entering s) = (S.places w ≡ Free) × (s < d.slots)
+MayCall d S w Looking = (s : ℕ) × (S.places w ≡ Entered s)
+MayCall d S w (Claiming n) = (s id : ℕ) × (S.places w ≡ Inside s id) × (0 < n) × (n ≤ MOST_CLAIM)
+MayCall d S w Shutting = (s id : ℕ) × (S.places w ≡ Used s id)
+MayCall d S w Leaving = can_leave (S.places w) ≡ true
+MayCall d S w Paying = (s id : ℕ) × (S.places w ≡ Owing s id)
+MayCall d S w Marking = (s id asked marked : ℕ) × (S.places w ≡ Asking s id asked marked) × (asked + 1 < d.workers)
+MayCall d S w Sweeping = (s id asked marked : ℕ) × (S.places w ≡ Asking s id asked marked) × (asked + 1 ≡ d.workers)
+MayCall d S w (Reserving s) = (S.places w ≡ Free) × (s < d.slots)
+MayCall d S w (Admitting q) = (s : ℕ) × (h : Held) × (S.places w ≡ Holding s h) × (h.query ≡ None) × (q < d.queries)
+MayCall d S w AskingArrivals = Unit {0}
+MayCall d S w AskingFinished = Unit {0}
+MayCall d S w (Noting k) = (s : ℕ) × (h : Held) × (S.places w ≡ Holding s h) × IsSome h.query × (h.noted ≡ 0) × (0 < k) × (h.stage + k ≤ STAGES)
+MayCall d S w (Totalling t) = (s : ℕ) × (h : Held) × (S.places w ≡ Holding s h) × IsSome h.query × (t ≤ MOST_TOTAL)
+MayCall d S w (Installing id) = (s : ℕ) × (h : Held) × (S.places w ≡ Holding s h) × IsReady h × (id ≡ next_id h)
+MayCall d S w Releasing = (s : ℕ) × (h : Held) × (S.places w ≡ Holding s h) × ((h.query ≡ None) ⊎ (0 < h.noted))
+MayCall d S w Telling = (s : ℕ) × (again : Bool) × (told : ℕ) × (S.places w ≡ Announcing s again told)
+MayCall d S w (TakingReturn part) = part < PARTS
+MayCall d S w (TakingChange part) = part < PARTS
+
+-- the number whose bit k, of n bits, is set exactly where f k
+unfoldable pub mask_of : ℕ → (ℕ → Bool) → ℕ
+mask_of zero f = 0
+mask_of (suc n) f = cond (f n) 1 0 * 2 ^ n + mask_of n f
+
+abbrev pub looked_at : SlotState → Act
+looked_at Empty = LookVacant
+looked_at (Reserved w h) = LookVacant
+looked_at (Open t) = LookOpen t.id
+looked_at (Shut t e) = LookInvalid
+looked_at (Finishing id w h) = LookInvalid
+
+-- the call with its answer, where w makes it at the slot x
+abbrev pub answer_at : Shape → ObjectState → ℕ → Call → SlotState → Act
+answer_at d S w (Entering s) x = Enter s
+answer_at d S w Looking x = looked_at x
+answer_at d S w (Claiming n) x = let t = task_of x in cond (ltb t.cursor t.total) (ClaimRange n t.cursor (min t.total (t.cursor + n))) (ClaimUsed n)
+answer_at d S w Shutting x = cond (is_open x) ShutWon ShutLost
+answer_at d S w Leaving x = cond (owes x w) (LeaveOwe (id_of x)) LeaveLeft
+answer_at d S w Paying x = cond (is_swept x && eqb (debts d (ended d w PayDone x)) 0) PayLast PayDone
+answer_at d S w Marking x = cond (next_is_at d S (slot_of (S.places w)) x) MarkMarked MarkMissed
+answer_at d S w Sweeping x = cond (eqb (debts d x) 0) SweepLast (SweepOthers (debts d x))
+answer_at d S w (Reserving s) x = cond (is_empty x) (ReserveGot s) (ReserveTaken s (slot_word x))
+answer_at d S w (Admitting q) x = cond (eqb S.admitted q) (AdmitGot q) (AdmitLost q S.admitted)
+answer_at d S w AskingArrivals x = Arrivals S.admitted
+answer_at d S w AskingFinished x = Finished S.finished
+answer_at d S w (Noting k) x = Note k
+answer_at d S w (Totalling t) x = Total t
+answer_at d S w (Installing id) x = Install id
+answer_at d S w Releasing x = Release
+answer_at d S w Telling x = Tell
+answer_at d S w (TakingReturn part) x = TakeReturn part (mask_of 64 (λ k. S.returns w (part * 64 + k)))
+answer_at d S w (TakingChange part) x = TakeChange part (mask_of 64 (λ k. S.changes w (part * 64 + k)))
+
+-- the slot that a call is about
+abbrev pub call_site : Call → Place → ℕ
+call_site (Entering s) p = s
+call_site (Reserving s) p = s
+call_site _ p = slot_of p
+
+-- the call of w with its answer
+abbrev pub reply_of : Shape → ObjectState → ℕ → Call → Act
+reply_of d S w c = answer_at d S w c (S.slots (call_site c (S.places w)))
+
+-- an allowed call has one answer: that of `reply_of`
+pub record IsAnswered (d : Shape) (S : ObjectState) : Type 0 where
+  pub always : (w : ℕ) (c : Call) → w < d.workers → MayCall d S w c → IsAllowed d S w (reply_of d S w c)
+  pub only : (w : ℕ) (a : Act) → IsAllowed d S w a → a ≡ reply_of d S w (call_of a)

@@ -1,5 +1,5 @@
 use Rattle.slot_history.proofs.laws.only_once.Goals as goal
-use Rattle.slot_history.proofs.TaskSets.{only-once}
+use Rattle.slot_history.proofs.Counts.{only-once}
 
 pub returns : goal.returns
 returns c = only-once

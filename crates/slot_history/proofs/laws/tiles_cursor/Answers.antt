@@ -1,5 +1,5 @@
 use Rattle.slot_history.proofs.laws.tiles_cursor.Goals as goal
-use Rattle.slot_history.proofs.TaskSets.{tiles-cursor}
+use Rattle.slot_history.proofs.Claims.{tiles-cursor}
 
 pub returns : goal.returns
 returns c = tiles-cursor

@@ -1,5 +1,5 @@
 use Rattle.slot_history.proofs.laws.tiles_total.Goals as goal
-use Rattle.slot_history.proofs.TaskSets.{tiles-total}
+use Rattle.slot_history.proofs.Claims.{tiles-total}
 
 pub returns : goal.returns
 returns c = tiles-total

@@ -1,0 +1,178 @@
+-- Each task set is installed once, and each query admitted once. It rules out a shut that two workers win.
+use Rattle.std.proofs.Common.{◌≡◌, ℕ, ◌+◌, ◌<◌, ◌≤◌, Bool, true, false, cond, eqb, ltb, ◌&&◌, min, List, [], ◌∷◌, Option, Some, None, refl, sym, ap, ◌∙◌, subst, ⊎_elim, arith, eqb-true, ltb-true, ltb-false}
+use Rattle.std.specs.Prelude.{unwrap_or, IsSome}
+use Rattle.slot_history.specs.declared.shape.Shape.{Shape}
+use Rattle.slot_history.specs.declared.act.Act.{Act}
+use Rattle.slot_history.specs.declared.act.Act.TheVariants.{PayLast, SweepLast, AdmitGot, Install}
+use Rattle.slot_history.specs.declared.act.Entry.{Entry}
+use Rattle.slot_history.specs.declared.place.Place.{Place}
+use Rattle.slot_history.specs.States.{TaskSet, Ending, Shut, ObjectState, slot_of, id_at, held_at, task_of, is_shut}
+use Rattle.slot_history.specs.Steps.{admitted_after, state_after}
+use Rattle.slot_history.specs.Allowed.{IsAllowed}
+use Rattle.slot_history.specs.Histories.{IsLegal, Tiles, claims_of, place_of, is_install, installs_of, is_admit, admits_of, is_last, lasts_of, total_of, slot_with}
+use Rattle.slot_history.specs.Table.{IsTable}
+use Rattle.slot_history.specs.Lives.{Life, Never, Runs, Done, done, life_of, has_task, IsRunning, IsSlotBook}
+use Rattle.slot_history.specs.Laws.{OnlyOnce}
+use Rattle.slot_history.proofs.Sets.{pick, true-or-false, and-left, and-right, and-false_left}
+use Rattle.slot_history.proofs.Table.{table}
+use Rattle.slot_history.proofs.Cursors.{cursors}
+use Rattle.slot_history.proofs.Holdings.{slots-sound}
+use Rattle.slot_history.proofs.Book.{book, paying-slot, asking-slot, install-fresh}
+use Rattle.slot_history.proofs.BookSteps.{running-life}
+
+-- ---- the life of a task set, by the calls that make it
+
+install-is : (a : Act) (id : ℕ) → is_install a id ≡ true → a ≡ Install id
+install-is (Install jd) id h = ap Install (eqb-true jd id h)
+install-is _ id h = absurd (cc)
+
+install-not-last : (a : Act) (id : ℕ) → is_install a id ≡ true → is_last a ≡ false
+install-not-last (Install jd) id h = refl
+install-not-last _ id h = absurd (cc)
+
+-- where an id is installed, it never was before, and the total is set
+install-never : (d : Shape) (h : List Entry) (w : ℕ) (a : Act) (id : ℕ) → IsLegal d h → w < d.workers → IsAllowed d (state_after d h) w a → is_install a id ≡ true
+    → (life_of d id h ≡ Never) × IsSome (held_at (place_of d h w)).total
+install-never d h w a id legal low ok this = let S : ObjectState = state_after d h in
+    subst (λ b. IsAllowed d S w b → (life_of d id h ≡ Never) × IsSome (held_at (S.places w)).total) (sym (install-is a id this))
+    (λ fine. (
+      (install-fresh d S w id (λ j. life_of d j h) (λ j. claims_of d j h) low (table d h legal) (slots-sound d h legal) fine (book d h legal)).never,
+      subst (λ p. IsSome (held_at p).total) (sym fine.2) fine.3.has_total,
+    )) ok
+
+-- a task set that a slot has, runs there
+pub slot-runs : (d : Shape) (h : List Entry) → IsLegal d h → (s : ℕ) → has_task ((state_after d h).slots s) ≡ true → let t = task_of ((state_after d h).slots s) in life_of d t.id h ≡ Runs s t.total
+slot-runs d h legal s has = running-life (state_after d h).admitted (λ j. life_of d j h) (λ j. claims_of d j h) s ((state_after d h).slots s) has ((book d h legal).slot s)
+
+-- where a call finalises an id, its task set is shut in the slot that its worker names
+last-slot : (d : Shape) (S : ObjectState) (w : ℕ) (a : Act) → w < d.workers → IsTable d S → IsAllowed d S w a → is_last a ≡ true
+    → (t : TaskSet) × (e : Ending) × (S.slots (slot_of (S.places w)) ≡ Shut t e) × (t.id ≡ id_at (S.places w))
+last-slot d S w PayLast low tab ok this = subst (λ p. (t : TaskSet) × (e : Ending) × (S.slots (slot_of p) ≡ Shut t e) × (t.id ≡ id_at p)) (sym ok.2) (paying-slot d S tab w ok.0 ok.1 low ok.2)
+last-slot d S w SweepLast low tab ok this = subst (λ p. (t : TaskSet) × (e : Ending) × (S.slots (slot_of p) ≡ Shut t e) × (t.id ≡ id_at p)) (sym ok.4) (asking-slot d S tab w ok.0 ok.1 ok.2 ok.3 low ok.4)
+last-slot d S w _ low tab ok this = absurd (cc)
+
+-- the task set that a call finalises ran, in the slot of the call, with what was claimed of it
+pub last-runs : (d : Shape) (h : List Entry) (w : ℕ) (a : Act) (id : ℕ) → IsLegal d h → w < d.workers → IsAllowed d (state_after d h) w a → is_last a ≡ true → id_at (place_of d h w) ≡ id
+    → (t : TaskSet) × (life_of d id h ≡ Runs (slot_of (place_of d h w)) t.total) × Tiles (claims_of d id h) (min t.cursor t.total) × (t.total ≤ t.cursor)
+last-runs d h w a id legal low ok this at =
+    let S : ObjectState = state_after d h in
+    let r = last-slot d S w a low (table d h legal) ok this in
+    let s : ℕ = slot_of (S.places w) in
+    let t : TaskSet = r.0 in
+    let k : IsRunning (λ j. life_of d j h) (λ j. claims_of d j h) s t = subst (IsSlotBook S.admitted (λ j. life_of d j h) (λ j. claims_of d j h) s) r.2 ((book d h legal).slot s) in
+    let is : t.id ≡ id = r.3 ∙ at in (
+      t,
+      ap (λ j. life_of d j h) (sym is) ∙ k.lives,
+      subst (λ j. Tiles (claims_of d j h) (min t.cursor t.total)) is k.tiles,
+      subst (λ x. (task_of x).total ≤ (task_of x).cursor) r.2 ((cursors d h legal).shut s (ap is_shut r.2)),
+    )
+
+-- ---- counts
+
+-- what the life of a task set says of its installs, its last calls, its total and its slot
+abbrev pub Counts : Life → ℕ → ℕ → Option ℕ → Option ℕ → Type 0
+Counts Never installs lasts total slot = (installs ≡ 0) × (lasts ≡ 0) × (total ≡ None) × (slot ≡ None)
+Counts (Runs s n) installs lasts total slot = (installs ≡ 1) × (lasts ≡ 0) × (total ≡ Some n) × (slot ≡ Some s)
+Counts (Done n) installs lasts total slot = (installs ≡ 1) × (lasts ≡ 1) × (total ≡ Some n)
+
+some-unwrapped : (o : Option ℕ) → IsSome o → o ≡ Some (unwrap_or o 0)
+some-unwrapped (Some n) h = refl
+some-unwrapped None h = absurd (cc)
+
+counts-installed : (l : Life) (installs lasts s : ℕ) (total slot o : Option ℕ) → l ≡ Never → IsSome o → Counts l installs lasts total slot → Counts (Runs s (unwrap_or o 0)) (1 + installs) lasts o (Some s)
+counts-installed l installs lasts s total slot o new some_total k =
+    let r : (installs ≡ 0) × (lasts ≡ 0) × (total ≡ None) × (slot ≡ None) = subst (λ z. Counts z installs lasts total slot) new k in
+    (let e : installs ≡ 0 = r.0 in omega arith, r.1, some-unwrapped o some_total, refl)
+
+counts-last : (l : Life) (installs lasts s n : ℕ) (total slot : Option ℕ) → l ≡ Runs s n → Counts l installs lasts total slot → Counts (done l) installs (1 + lasts) total slot
+counts-last l installs lasts s n total slot runs k =
+    let r : (installs ≡ 1) × (lasts ≡ 0) × (total ≡ Some n) × (slot ≡ Some s) = subst (λ z. Counts z installs lasts total slot) runs k in
+    subst (λ z. Counts (done z) installs (1 + lasts) total slot) (sym runs) (r.0, let e : lasts ≡ 0 = r.1 in omega arith, r.2)
+
+abbrev CountsOf : Shape → ℕ → List Entry → Type 0
+CountsOf d id h = Counts (life_of d id h) (installs_of id h) (lasts_of d id h) (total_of d id h) (slot_with d id h)
+
+-- after one more call, by whether it installs the id and whether it finalises it
+abbrev CountsAfter : Act → Place → ℕ → Life → ℕ → ℕ → Option ℕ → Option ℕ → Bool → Bool → Type 0
+CountsAfter a p id l installs lasts total slot installed last =
+    Counts (cond installed (Runs (slot_of p) (unwrap_or (held_at p).total 0)) (cond last (done l) l))
+    (cond installed 1 0 + installs) (cond last 1 0 + lasts) (cond installed (held_at p).total total) (cond installed (Some (slot_of p)) slot)
+
+counts-next : (a : Act) (p : Place) (id : ℕ) (l : Life) (installs lasts : ℕ) (total slot : Option ℕ)
+    → (is_install a id ≡ true → (l ≡ Never) × IsSome (held_at p).total)
+    → ((is_last a && eqb (id_at p) id) ≡ true → (s : ℕ) × (n : ℕ) × (l ≡ Runs s n))
+    → Counts l installs lasts total slot → CountsAfter a p id l installs lasts total slot (is_install a id) (is_last a && eqb (id_at p) id)
+counts-next a p id l installs lasts total slot new runs k = ⊎_elim
+    (λ this. let r = new this in
+    let not_last : (is_last a && eqb (id_at p) id) ≡ false = and-false_left (is_last a) (eqb (id_at p) id) (install-not-last a id this) in
+    subst (λ b. CountsAfter a p id l installs lasts total slot b (is_last a && eqb (id_at p) id)) (sym this)
+    (subst (CountsAfter a p id l installs lasts total slot true) (sym not_last)
+    (subst (λ n. Counts (Runs (slot_of p) (unwrap_or (held_at p).total 0)) (1 + installs) n (held_at p).total (Some (slot_of p))) (let z : lasts ≡ 0 + lasts = omega arith in z)
+    (counts-installed l installs lasts (slot_of p) total slot (held_at p).total r.0 r.1 k))))
+    (λ other. subst (λ b. CountsAfter a p id l installs lasts total slot b (is_last a && eqb (id_at p) id)) (sym other)
+    (⊎_elim
+    (λ last. let r = runs last in subst (CountsAfter a p id l installs lasts total slot false) (sym last)
+    (subst (λ n. Counts (done l) n (1 + lasts) total slot) (let z : installs ≡ 0 + installs = omega arith in z) (counts-last l installs lasts r.0 r.1 total slot r.2 k)))
+    (λ none. subst (CountsAfter a p id l installs lasts total slot false) (sym none)
+    (subst (λ n. Counts l n (0 + lasts) total slot) (let z : installs ≡ 0 + installs = omega arith in z) (subst (λ n. Counts l installs n total slot) (let z : lasts ≡ 0 + lasts = omega arith in z) k)))
+    (true-or-false (is_last a && eqb (id_at p) id))))
+    (true-or-false (is_install a id))
+
+pub counts : (d : Shape) (id : ℕ) (h : List Entry) → IsLegal d h → CountsOf d id h
+counts d id [] legal = (refl, refl, refl, refl)
+counts d id (e ∷ es) legal = counts-next e.act (place_of d es e.worker) id (life_of d id es) (installs_of id es) (lasts_of d id es) (total_of d id es) (slot_with d id es)
+    (λ this. install-never d es e.worker e.act id legal.2 legal.0 legal.1 this)
+    (λ last. let r = last-runs d es e.worker e.act id legal.2 legal.0 legal.1 (and-left (is_last e.act) (eqb (id_at (place_of d es e.worker)) id) last) (eqb-true (id_at (place_of d es e.worker)) id (and-right (is_last e.act) (eqb (id_at (place_of d es e.worker)) id) last)) in
+    (slot_of (place_of d es e.worker), r.0.total, r.1))
+    (counts d id es legal.2)
+
+pub counts-most : (l : Life) (installs lasts : ℕ) (total slot : Option ℕ) → Counts l installs lasts total slot → (installs ≤ 1) × (lasts ≤ 1)
+counts-most Never installs lasts total slot k = (let e : installs ≡ 0 = k.0 in omega arith, let e : lasts ≡ 0 = k.1 in omega arith)
+counts-most (Runs s n) installs lasts total slot k = (let e : installs ≡ 1 = k.0 in omega arith, let e : lasts ≡ 0 = k.1 in omega arith)
+counts-most (Done n) installs lasts total slot k = (let e : installs ≡ 1 = k.0 in omega arith, let e : lasts ≡ 1 = k.1 in omega arith)
+
+pub counts-never : (l : Life) (installs lasts : ℕ) (total slot : Option ℕ) → Counts l installs lasts total slot → installs ≡ 0 → l ≡ Never
+counts-never Never installs lasts total slot k none = refl
+counts-never (Runs s n) installs lasts total slot k none = absurd (let e : installs ≡ 1 = k.0 in let z : installs ≡ 0 = none in omega arith)
+counts-never (Done n) installs lasts total slot k none = absurd (let e : installs ≡ 1 = k.0 in let z : installs ≡ 0 = none in omega arith)
+
+pub counts-done : (l : Life) (installs lasts : ℕ) (total slot : Option ℕ) → Counts l installs lasts total slot → 0 < lasts → (n : ℕ) × (l ≡ Done n) × (total ≡ Some n)
+counts-done Never installs lasts total slot k some_last = absurd (let e : lasts ≡ 0 = k.1 in omega arith)
+counts-done (Runs s n) installs lasts total slot k some_last = absurd (let e : lasts ≡ 0 = k.1 in omega arith)
+counts-done (Done n) installs lasts total slot k some_last = (n, refl, k.2)
+
+pub counts-runs : (l : Life) (installs lasts s : ℕ) (total slot : Option ℕ) → Counts l installs lasts total slot → lasts ≡ 0 → slot ≡ Some s → (n : ℕ) × (l ≡ Runs s n)
+counts-runs Never installs lasts s total slot k none at = absurd (let e : None ≡ Some s = sym k.3 ∙ at in cc)
+counts-runs (Runs r n) installs lasts s total slot k none at = (n, let e : Some r ≡ Some s = sym k.3 ∙ at in ap (λ j. Runs j n) (cc))
+counts-runs (Done n) installs lasts s total slot k none at = absurd (let e : lasts ≡ 1 = k.1 in let z : lasts ≡ 0 = none in omega arith)
+
+-- ---- each query is admitted once
+
+-- where m queries were admitted, those below m were so once
+abbrev Admits : ℕ → ℕ → ℕ → Type 0
+Admits q m n = (q < m → n ≡ 1) × (m ≤ q → n ≡ 0)
+
+admits-more : (p q m n : ℕ) → m ≡ p → Admits q m n → Admits q (m + 1) (cond (eqb p q) 1 0 + n)
+admits-more p q m n at k = pick p q 1 0 (λ b. Admits q (m + 1) (b + n))
+    (λ e. let z : n ≡ 0 = k.1 (omega arith) in (λ h. omega arith, λ h. omega arith))
+    (λ ne. (λ h. let z : n ≡ 1 = k.0 (omega arith) in omega arith, λ h. let z : n ≡ 0 = k.1 (omega arith) in omega arith))
+
+admits-same : (q m n : ℕ) → Admits q m n → Admits q m (0 + n)
+admits-same q m n k = (λ h. let z : n ≡ 1 = k.0 h in omega arith, λ h. let z : n ≡ 0 = k.1 h in omega arith)
+
+admits-next : (d : Shape) (S : ObjectState) (w : ℕ) (a : Act) (q n : ℕ) → IsAllowed d S w a → Admits q S.admitted n → Admits q (admitted_after a S.admitted) (cond (is_admit a q) 1 0 + n)
+admits-next d S w (AdmitGot p) q n ok k = admits-more p q S.admitted n ok.5 k
+admits-next d S w _ q n ok k = admits-same q S.admitted n k
+
+admits : (d : Shape) (q : ℕ) (h : List Entry) → IsLegal d h → Admits q (state_after d h).admitted (admits_of q h)
+admits d q [] legal = (λ h. absurd (omega arith), λ h. refl)
+admits d q (e ∷ es) legal = admits-next d (state_after d es) e.worker e.act q (admits_of q es) legal.1 (admits d q es legal.2)
+
+admits-most : (q m n : ℕ) → Admits q m n → n ≤ 1
+admits-most q m n k = ⊎_elim (λ t. let low : q < m = ltb-true q m t in let e : n ≡ 1 = k.0 low in omega arith) (λ f. let high : m ≤ q = ltb-false q m f in let e : n ≡ 0 = k.1 high in omega arith) (true-or-false (ltb q m))
+
+pub only-once : (d : Shape) (h : List Entry) → IsLegal d h → OnlyOnce d h
+only-once d h legal = (
+  λ id. (counts-most (life_of d id h) (installs_of id h) (lasts_of d id h) (total_of d id h) (slot_with d id h) (counts d id h legal)).0,
+  λ q. admits-most q (state_after d h).admitted (admits_of q h) (admits d q h legal),
+)

@@ -1,0 +1,86 @@
+-- The task set of a slot stays the same while there is one, and its cursor does not fall.
+use Rattle.std.proofs.Common.{◌≡◌, ℕ, ◌+◌, ◌≤◌, ◌⊎◌, true, refl, ⊎_elim, arith}
+use Rattle.slot_history.specs.declared.shape.Shape.{Shape}
+use Rattle.slot_history.specs.declared.act.Act.{Act}
+use Rattle.slot_history.specs.declared.act.Act.TheVariants.{ClaimRange, ClaimUsed, ShutWon, PayLast, PayDone, MarkMarked, MarkMissed, SweepLast, SweepOthers, ReserveGot, AdmitGot, Note, Total, Install, Release}
+use Rattle.slot_history.specs.States.{SlotState, Empty, Reserved, Open, Shut, Finishing, task_of, is_open, is_shut}
+use Rattle.slot_history.specs.Steps.{slot_after, claimed, shut_by, ended, finalised_by, held_on, opened}
+use Rattle.slot_history.specs.Lives.{has_task}
+
+-- ---- the task set of the slot of a call
+
+pub open-or-shut : (x : SlotState) → (is_open x ≡ true) ⊎ (is_shut x ≡ true) → has_task x ≡ true
+open-or-shut (Open t) h = refl
+open-or-shut (Shut t e) h = refl
+open-or-shut Empty h = ⊎_elim (λ k. k) (λ k. k) h
+open-or-shut (Reserved w k) h = ⊎_elim (λ k. k) (λ k. k) h
+open-or-shut (Finishing id w k) h = ⊎_elim (λ k. k) (λ k. k) h
+
+-- it is the same task set after the call, and its cursor does not fall
+pub record Grows (x y : SlotState) : Type 0 where
+  pub same : (task_of y).id ≡ (task_of x).id
+  pub total : (task_of y).total ≡ (task_of x).total
+  pub cursor : (task_of x).cursor ≤ (task_of y).cursor
+
+grows-not : (x : SlotState) → Grows x x
+grows-not x = record { same = refl; total = refl; cursor = omega arith }
+
+pub grows-claimed : (x : SlotState) (n : ℕ) → Grows x (claimed x n)
+grows-claimed (Open t) n = record { same = refl; total = refl; cursor = let c : ℕ = t.cursor in let k : c ≤ c + n = omega arith in k }
+grows-claimed (Shut t e) n = record { same = refl; total = refl; cursor = let c : ℕ = t.cursor in let k : c ≤ c + n = omega arith in k }
+grows-claimed Empty n = grows-not Empty
+grows-claimed (Reserved w h) n = grows-not (Reserved w h)
+grows-claimed (Finishing id w h) n = grows-not (Finishing id w h)
+
+pub grows-shut : (x : SlotState) (w : ℕ) → Grows x (shut_by w x)
+grows-shut (Open t) w = record { same = refl; total = refl; cursor = omega arith }
+grows-shut (Shut t e) w = grows-not (Shut t e)
+grows-shut Empty w = grows-not Empty
+grows-shut (Reserved u h) w = grows-not (Reserved u h)
+grows-shut (Finishing id u h) w = grows-not (Finishing id u h)
+
+grows-ended : (d : Shape) (w : ℕ) (a : Act) (x : SlotState) → Grows x (ended d w a x)
+grows-ended d w a (Shut t e) = record { same = refl; total = refl; cursor = omega arith }
+grows-ended d w a (Open t) = grows-not (Open t)
+grows-ended d w a Empty = grows-not Empty
+grows-ended d w a (Reserved u h) = grows-not (Reserved u h)
+grows-ended d w a (Finishing id u h) = grows-not (Finishing id u h)
+
+grows-last : (x : SlotState) (w : ℕ) → has_task (finalised_by w x) ≡ true → Grows x (finalised_by w x)
+grows-last (Shut t e) w h = absurd (cc)
+grows-last (Open t) w h = grows-not (Open t)
+grows-last Empty w h = grows-not Empty
+grows-last (Reserved u k) w h = grows-not (Reserved u k)
+grows-last (Finishing id u k) w h = grows-not (Finishing id u k)
+
+grows-held : (x : SlotState) (a : Act) → Grows x (held_on a x)
+grows-held (Shut t e) a = grows-not (Shut t e)
+grows-held (Open t) a = grows-not (Open t)
+grows-held Empty a = grows-not Empty
+grows-held (Reserved u k) a = record { same = refl; total = refl; cursor = omega arith }
+grows-held (Finishing id u k) a = record { same = refl; total = refl; cursor = omega arith }
+
+grows-opened : (x : SlotState) (id : ℕ) → has_task x ≡ true → Grows x (opened id x)
+grows-opened (Shut t e) id h = grows-not (Shut t e)
+grows-opened (Open t) id h = grows-not (Open t)
+grows-opened Empty id h = absurd (cc)
+grows-opened (Reserved u k) id h = absurd (cc)
+grows-opened (Finishing jd u k) id h = absurd (cc)
+
+pub grows : (d : Shape) (w : ℕ) (a : Act) (x : SlotState) → has_task x ≡ true → has_task (slot_after d w a x) ≡ true → Grows x (slot_after d w a x)
+grows d w (ClaimRange n from to) x before after = grows-claimed x n
+grows d w (ClaimUsed n) x before after = grows-claimed x n
+grows d w ShutWon x before after = grows-shut x w
+grows d w PayLast x before after = grows-last x w after
+grows d w PayDone x before after = grows-ended d w PayDone x
+grows d w MarkMarked x before after = grows-ended d w MarkMarked x
+grows d w MarkMissed x before after = grows-ended d w MarkMissed x
+grows d w SweepLast x before after = grows-last x w after
+grows d w (SweepOthers n) x before after = grows-ended d w (SweepOthers n) x
+grows d w (ReserveGot s) x before after = absurd (cc)
+grows d w (AdmitGot q) x before after = grows-held x (AdmitGot q)
+grows d w (Note k) x before after = grows-held x (Note k)
+grows d w (Total t) x before after = grows-held x (Total t)
+grows d w (Install id) x before after = grows-opened x id before
+grows d w Release x before after = absurd (cc)
+grows d w _ x before after = grows-not x

@@ -49,7 +49,7 @@ pub ranges-own : (d : Shape) (w id : ℕ) (h : List Entry) → ranges_of d w id 
 ranges-own d w id [] = refl
 ranges-own d w id (e ∷ es) = ranges-own-step d w id e es (ranges-own d w id es) (ℕ_discrete w e.worker)
 
-pub own-entries : (d : Shape) (h : List Entry) (w : ℕ) → OwnEntries d h w
+pub own-entries : (d : Shape) (h : List Entry) → OwnEntries d h
 own-entries d h w = record { place = place-own d w h; ranges = λ id. ranges-own d w id h }
 
 -- ---- after a call, by the clause of every call

@@ -41,7 +41,8 @@ IsCursorBound d places s x = Unit {0}
 
 -- cursors: a worker that found all tuples claimed is right, a task set is shut only then, and no cursor goes too far
 pub record AreCursors (d : Shape) (S : ObjectState) : Type 0 where
-  pub used : (v s id : ℕ) → v < d.workers → S.places v ≡ Used s id → (task_of (S.slots s)).total ≤ (task_of (S.slots s)).cursor
+  pub used : (v s id : ℕ) → v < d.workers → S.places v ≡ Used s id
+      → (task_of (S.slots s)).total ≤ (task_of (S.slots s)).cursor
   pub shut : (s : ℕ) → is_shut (S.slots s) ≡ true → (task_of (S.slots s)).total ≤ (task_of (S.slots s)).cursor
   pub bound : (s : ℕ) → IsCursorBound d S.places s (S.slots s)
 
@@ -86,9 +87,11 @@ IsFinishedBound d S = S.finished + sum_below d.slots (λ s. note_room (S.slots s
 
 -- the cursor of a slot is at most one claim for each worker and one more past its total
 abbrev pub IsCursorLimit : Shape → ObjectState → Type 0
-IsCursorLimit d S = (s : ℕ) → (task_of (S.slots s)).cursor ≤ (task_of (S.slots s)).total + MOST_CLAIM * (d.workers + 1)
+IsCursorLimit d S = (s : ℕ)
+    → (task_of (S.slots s)).cursor ≤ (task_of (S.slots s)).total + MOST_CLAIM * (d.workers + 1)
 
 -- of a shut slot, who paid and who still owes are the marked workers, which are fewer than the workers
 abbrev pub AreDebtsWithin : Shape → ObjectState → Type 0
 AreDebtsWithin d S = (s : ℕ) (t : TaskSet) (e : Ending) → S.slots s ≡ Shut t e
-    → (count_of d.workers e.paid + debts d (Shut t e) ≡ count_of d.workers e.marked) × (count_of d.workers e.marked < d.workers)
+    → (count_of d.workers e.paid + debts d (Shut t e) ≡ count_of d.workers e.marked)
+        × (count_of d.workers e.marked < d.workers)

@@ -79,7 +79,8 @@ MayCall d S w (Reserving s) = (S.places w ≡ Free) × (s < d.slots)
 MayCall d S w (Admitting q) = (s : ℕ) × (h : Held) × (S.places w ≡ Holding s h) × (h.query ≡ None) × (q < d.queries)
 MayCall d S w AskingArrivals = Unit {0}
 MayCall d S w AskingFinished = Unit {0}
-MayCall d S w (Noting k) = (s : ℕ) × (h : Held) × (S.places w ≡ Holding s h) × IsSome h.query × (h.noted ≡ 0) × (0 < k) × (h.stage + k ≤ STAGES)
+MayCall d S w (Noting k) = (s : ℕ) × (h : Held) × (S.places w ≡ Holding s h) × IsSome h.query × (h.noted ≡ 0)
+    × (0 < k) × (h.stage + k ≤ STAGES)
 MayCall d S w (Totalling t) = (s : ℕ) × (h : Held) × (S.places w ≡ Holding s h) × IsSome h.query × (t ≤ MOST_TOTAL)
 MayCall d S w (Installing id) = (s : ℕ) × (h : Held) × (S.places w ≡ Holding s h) × IsReady h × (id ≡ next_id h)
 MayCall d S w Releasing = (s : ℕ) × (h : Held) × (S.places w ≡ Holding s h) × ((h.query ≡ None) ⊎ (0 < h.noted))

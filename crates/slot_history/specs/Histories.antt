@@ -33,7 +33,8 @@ Begins h t = (more : List Entry) × (h ≡ more ++ t)
 -- After the call a of w, its trail `new` ends with this call and begins with the trail `old`; of w it has just its own
 -- calls, and it is a legal history.
 abbrev pub Called : Shape → ℕ → Act → List Entry → List Entry → Type 0
-Called d w a old new = (h : List Entry) × (new ≡ entry w a ∷ h) × Begins h old × (own_calls w h ≡ own_calls w old) × IsLegal d new
+Called d w a old new = (h : List Entry) × (new ≡ entry w a ∷ h) × Begins h old × (own_calls w h ≡ own_calls w old)
+    × IsLegal d new
 
 -- ---- claims
 
@@ -45,7 +46,8 @@ pub record Morsel : Type 0 where
 
 -- one more where the call is a claim that got a range, by a worker that is inside with the id
 abbrev pub claims_after : ℕ → Act → Place → ℕ → List Morsel → List Morsel
-claims_after w (ClaimRange n from to) p id ms = cond (is_inside p id) (record { worker = w; from = from; to = to } ∷ ms) ms
+claims_after w (ClaimRange n from to) p id ms = cond (is_inside p id) (record { worker = w; from = from; to = to }
+    ∷ ms) ms
 claims_after w _ p id ms = ms
 
 -- the ranges that were claimed of an id, newest first
@@ -139,6 +141,10 @@ renews _ = false
 -- call touches it, and no call gives its slot away between its install and then.
 pub record FinalisedOnce (d : Shape) (id : ℕ) (h : List Entry) : Type 0 where
   pub once : lasts_of d id h ≡ 1
-  pub none_inside : (early : List Entry) → Begins h early → 0 < lasts_of d id early → (v : ℕ) → is_inside (place_of d early v) id ≡ false
-  pub untouched : (e : Entry) (early : List Entry) → Begins h (e ∷ early) → 0 < lasts_of d id early → touches e.act (place_of d early e.worker) id ≡ false
-  pub in_place : (e : Entry) (early : List Entry) → Begins h (e ∷ early) → slot_with d id early ≡ Some (site e.act (place_of d early e.worker)) → renews e.act ≡ true → 0 < lasts_of d id early
+  pub none_inside : (early : List Entry) → Begins h early → 0 < lasts_of d id early → (v : ℕ)
+      → is_inside (place_of d early v) id ≡ false
+  pub untouched : (e : Entry) (early : List Entry) → Begins h (e ∷ early) → 0 < lasts_of d id early
+      → touches e.act (place_of d early e.worker) id ≡ false
+  pub in_place : (e : Entry) (early : List Entry) → Begins h (e ∷ early)
+      → slot_with d id early ≡ Some (site e.act (place_of d early e.worker)) → renews e.act ≡ true
+      → 0 < lasts_of d id early

@@ -29,7 +29,8 @@ OneDebt d S = (s t v : ℕ) → v < d.workers → owes (S.slots s) v ≡ true �
 
 -- a worker that is inside a shut slot is marked and has not paid, or was not asked yet, or is the coordinator
 abbrev pub ShutInside : Shape → ObjectState → Type 0
-ShutInside d S = (s v : ℕ) (t : TaskSet) (e : Ending) → v < d.workers → S.slots s ≡ Shut t e → has_own_cell (S.places v) s ≡ true
+ShutInside d S = (s v : ℕ) (t : TaskSet) (e : Ending) → v < d.workers → S.slots s ≡ Shut t e
+    → has_own_cell (S.places v) s ≡ true
     → (owing e v ≡ true) ⊎ ((e.asked v ≡ false) ⊎ (v ≡ e.coordinator))
 
 -- a cell is with one worker at most
@@ -37,9 +38,12 @@ abbrev pub OneOwner : Shape → ObjectState → Type 0
 OneOwner d S = (s v t u : ℕ) → t < d.workers → u < d.workers → HasCell S s v t → HasCell S s v u → t ≡ u
 
 -- a worker's place, with the numbers of its tokens, and its claims are given by its own entries
-pub record OwnEntries (d : Shape) (h : List Entry) (w : ℕ) : Type 0 where
+pub record IsOwn (d : Shape) (h : List Entry) (w : ℕ) : Type 0 where
   pub place : place_of d h w ≡ place_of d (own_calls w h) w
   pub ranges : (id : ℕ) → ranges_of d w id h ≡ ranges_of d w id (own_calls w h)
+
+abbrev pub OwnEntries : Shape → List Entry → Type 0
+OwnEntries d h = (w : ℕ) → IsOwn d h w
 
 -- after every legal history
 abbrev pub AfterAll : (Shape → List Entry → Type 0) → Type 0
@@ -60,12 +64,14 @@ RangesOfClaims d h = (w id : ℕ) → ranges_of d w id h ≡ ranges_by w (claims
 -- the task set of a slot that is open or shut has the total of its install, and its claims tile the lesser of its cursor
 -- and its total
 abbrev pub TilesCursor : Shape → List Entry → Type 0
-TilesCursor d h = (s : ℕ) → has_task ((state_after d h).slots s) ≡ true → let t = task_of ((state_after d h).slots s) in
+TilesCursor d h = (s : ℕ) → has_task ((state_after d h).slots s) ≡ true
+    → let t = task_of ((state_after d h).slots s) in
     (total_of d t.id h ≡ Some t.total) × Tiles (claims_of d t.id h) (min t.cursor t.total)
 
 -- the claims of a task set that is shut or was finalised tile the total with which it was installed
 abbrev pub TilesTotal : Shape → List Entry → Type 0
-TilesTotal d h = ((s : ℕ) → is_shut ((state_after d h).slots s) ≡ true → let t = task_of ((state_after d h).slots s) in Tiles (claims_of d t.id h) t.total)
+TilesTotal d h = ((s : ℕ) → is_shut ((state_after d h).slots s) ≡ true
+    → let t = task_of ((state_after d h).slots s) in Tiles (claims_of d t.id h) t.total)
     × ((id total : ℕ) → 0 < lasts_of d id h → total_of d id h ≡ Some total → Tiles (claims_of d id h) total)
 
 -- a slot that is being finalised was so finalised for its id

@@ -10,3 +10,4 @@ pub mod Laws
 pub mod Lives
 pub mod LoneTurns
 pub mod Calls
+pub mod Examples

@@ -55,7 +55,8 @@ pub record IsRunning (life : ℕ → Life) (claims : ℕ → List Morsel) (s : �
 -- what a slot knows of the task sets of its query, where so many queries were admitted
 abbrev pub IsSlotBook : ℕ → (ℕ → Life) → (ℕ → List Morsel) → ℕ → SlotState → Type 0
 IsSlotBook admitted life claims s Empty = Unit {0}
-IsSlotBook admitted life claims s (Reserved w h) = (q : ℕ) → h.query ≡ Some q → (q < admitted) × ((id : ℕ) → id / STAGES ≡ q → life id ≡ Never)
+IsSlotBook admitted life claims s (Reserved w h) = (q : ℕ) → h.query ≡ Some q → (q < admitted)
+    × ((id : ℕ) → id / STAGES ≡ q → life id ≡ Never)
 IsSlotBook admitted life claims s (Open t) = IsRunning life claims s t
 IsSlotBook admitted life claims s (Shut t e) = IsRunning life claims s t
 IsSlotBook admitted life claims s (Finishing id w h) = (total : ℕ) × (life id ≡ Done total) × AreLaterNever life id

@@ -3,13 +3,13 @@
 //! Each function does nothing; its contract is a law, and the lemma of its name in `proofs/` is what crates above cite.
 //! Each says which fault of the protocol it rules out.
 
-ghost use Rattle.std.specs.Prelude.{ℕ};
 ghost use Rattle.slot_history.specs.Laws.{Always, AfterAll, QuietSlots, InsideSlots, OneDebt, ShutInside, OneOwner, OwnEntries, OnlyOnce, RangesOfClaims, NoEarlyClaims, TilesCursor, TilesTotal, FinishingLast, OnceInPlace};
 ghost use Rattle.slot_history.specs.Lives.{IsBookOf};
 ghost use Rattle.slot_history.specs.Table.{IsTable};
 ghost use Rattle.slot_history.specs.Bounds.{IsWithin, AreCursors, IsCursorLimit, AreDebtsWithin, AreSlotsSound, IsFinishedBound};
 ghost use Rattle.slot_history.specs.Calls.{IsAnswered};
 
+pub mod examples;
 pub mod lone_turns;
 pub mod notices;
 
@@ -85,7 +85,7 @@ pub fn finished_bound()
 ///
 /// Ruled out: a call of another worker that moves this one, or takes its claims away.
 pub fn own_entries()
-    ensures { AfterAll (λ d h. (w : ℕ) → OwnEntries d h w) }
+    ensures { AfterAll OwnEntries }
 {}
 
 /// Each task set that runs is in its slot, one that was never installed has no claims, no later task set of a query is

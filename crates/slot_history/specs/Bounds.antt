@@ -94,4 +94,4 @@ IsCursorLimit d S = (s : ℕ)
 abbrev pub AreDebtsWithin : Shape → ObjectState → Type 0
 AreDebtsWithin d S = (s : ℕ) (t : TaskSet) (e : Ending) → S.slots s ≡ Shut t e
     → (count_of d.workers e.paid + debts d (Shut t e) ≡ count_of d.workers e.marked)
-        × (count_of d.workers e.marked < d.workers)
+    × (count_of d.workers e.marked < d.workers)

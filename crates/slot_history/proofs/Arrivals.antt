@@ -7,9 +7,10 @@ use Rattle.slot_history.specs.declared.act.Act.TheVariants.{AdmitGot, AdmitLost,
 use Rattle.slot_history.specs.declared.act.Entry.{Entry}
 use Rattle.slot_history.specs.Steps.{admitted_after, state_after}
 use Rattle.slot_history.specs.Allowed.{IsAllowed}
-use Rattle.slot_history.specs.Histories.{IsLegal, entry, is_admit, admits_of}
+use Rattle.slot_history.specs.Histories.{entry, is_admit, admits_of}
 use Rattle.slot_history.specs.LoneTurns.{AdmitsNone, ArrivalsStay, AdmitIsGot}
 use Rattle.slot_history.proofs.Sets.{choose}
+use Rattle.slot_history.proofs.TaskSets.{legal-early}
 
 -- but for an admission no call changes the number
 admitted-stays : (a : Act) (n : ℕ) → ((q : ℕ) → is_admit a q ≡ false) → admitted_after a n ≡ n
@@ -24,13 +25,8 @@ admitted-since d (e ∷ es) old none =
     let rest : AdmitsNone es = λ q. let z : cond {A = ℕ} (is_admit e.act q) 1 0 + admits_of q es ≡ 0 = none q in omega arith in
     admitted-stays e.act _ first ∙ admitted-since d es old rest
 
--- what a legal history begins with is legal
-earlier-legal : (d : Shape) (more old : List Entry) → IsLegal d (more ++ old) → IsLegal d old
-earlier-legal d [] old legal = legal
-earlier-legal d (e ∷ es) old legal = earlier-legal d es old legal.2
-
 pub arrivals-stay : ArrivalsStay
-arrivals-stay d v n more old legal none = admitted-since d more (entry v (Arrivals n) ∷ old) none ∙ sym (earlier-legal d more (entry v (Arrivals n) ∷ old) legal).1
+arrivals-stay d v n more old legal none = admitted-since d more (entry v (Arrivals n) ∷ old) none ∙ sym (legal-early d more (entry v (Arrivals n) ∷ old) legal).1
 
 pub admit-is-got : AdmitIsGot
 admit-is-got d v w q now more old legal none = let fine : IsAllowed d (state_after d (more ++ entry v (Arrivals q) ∷ old)) w (AdmitLost q now) = legal.1 in fine.6 (fine.5 ∙ arrivals-stay d v q more old legal.2 none)

@@ -12,7 +12,7 @@ use Rattle.slot_history.specs.Allowed.{IsAllowed}
 use Rattle.slot_history.specs.Notices.{MayBe}
 use Rattle.slot_history.proofs.Sets.{pick, choose, upd-same, upd-else, upd-cases}
 
--- a look of query q forbids no record q
+-- a look that finds query q leaves a record that allows q so
 looked-may-be : (q : ℕ) (r : NoticeRecord) → MayBe r q → MayBe (looked q r) q
 looked-may-be q r (inl unknown) = subst (λ g. MayBe (looked_group g q r) q) (sym unknown) (inr refl)
 looked-may-be q r (inr known) = subst (λ g. MayBe (looked_group g q r) q) (sym known) (choose (eqb q q) r (dropped r) (λ x. MayBe x q) (λ t. inr known) (λ t. inr known))
@@ -22,15 +22,19 @@ looked-active : (q : ℕ) (r : NoticeRecord) → MayBe r q → r.active ≡ true
 looked-active q r (inl unknown) h = ap (λ g. (looked_group g q r).active) unknown ∙ h
 looked-active q r (inr known) h = ap (λ g. (looked_group g q r).active) known ∙ pick q q r (dropped r) (λ x. x.active ≡ true) (λ e. h) (λ n. absurd (n refl))
 
+-- a dropped record keeps its group
+drop-may-be : (r : ℕ → NoticeRecord) (k s q : ℕ) → MayBe (r s) q → MayBe (upd r k (dropped (r k)) s) q
+drop-may-be r k s q may = upd-cases r k (dropped (r k)) s (λ x. MayBe x q) (λ e. subst (λ j. MayBe (r j) q) e may) (λ n. may)
+
 -- after a call of the worker at p, whose look may answer the query q alone: what its record r may be, it may still be
 pub group-after : (a : Act) (p : Place) (changes returns : ℕ → Bool) (r : ℕ → NoticeRecord) (s q : ℕ) → ((id : ℕ) → a ≡ LookOpen id → s ≡ slot_of p → q ≡ id / STAGES)
     → MayBe (r s) q → MayBe (records_after a p changes returns r s) q
 group-after (LookOpen id) p changes returns r s q answers may = upd-cases r (slot_of p) (looked (id / STAGES) (r (slot_of p))) s (λ x. MayBe x q)
     (λ e. subst (λ j. MayBe (looked j (r (slot_of p))) q) (answers id refl e) (looked-may-be q (r (slot_of p)) (subst (λ j. MayBe (r j) q) e may))) (λ n. may)
-group-after LookInvalid p changes returns r s q answers may = upd-cases r (slot_of p) (dropped (r (slot_of p))) s (λ x. MayBe x q) (λ e. subst (λ j. MayBe (r j) q) e may) (λ n. may)
-group-after LookVacant p changes returns r s q answers may = upd-cases r (slot_of p) (dropped (r (slot_of p))) s (λ x. MayBe x q) (λ e. subst (λ j. MayBe (r j) q) e may) (λ n. may)
-group-after ShutWon p changes returns r s q answers may = upd-cases r (slot_of p) (dropped (r (slot_of p))) s (λ x. MayBe x q) (λ e. subst (λ j. MayBe (r j) q) e may) (λ n. may)
-group-after ShutLost p changes returns r s q answers may = upd-cases r (slot_of p) (dropped (r (slot_of p))) s (λ x. MayBe x q) (λ e. subst (λ j. MayBe (r j) q) e may) (λ n. may)
+group-after LookInvalid p changes returns r s q answers may = drop-may-be r (slot_of p) s q may
+group-after LookVacant p changes returns r s q answers may = drop-may-be r (slot_of p) s q may
+group-after ShutWon p changes returns r s q answers may = drop-may-be r (slot_of p) s q may
+group-after ShutLost p changes returns r s q answers may = drop-may-be r (slot_of p) s q may
 group-after (TakeReturn part bits) p changes returns r s q answers may = choose (is_in_part part s && returns s) (record (r s) { active = true }) (r s) (λ x. MayBe x q) (λ t. may) (λ t. may)
 group-after (TakeChange part bits) p changes returns r s q answers may = choose (is_in_part part s && changes s) (record { active = true; group = None }) (r s) (λ x. MayBe x q) (λ t. inl refl) (λ t. may)
 group-after _ p changes returns r s q answers may = may

@@ -1,0 +1,89 @@
+use Rattle.std.proofs.Common.{◌≡◌, ℕ, ◌+◌, ◌<◌, ◌≤◌, ◌&&◌, Bool, true, false, Option, Some, None, MatchOption, suc, zero, cond, nat_lt, refl, sym, ap, subst, ◌∙◌, ⊎_elim, add-one, arith}
+use Rattle.std.proofs.lemmas.Bool.{cases_lt, false≢true}
+use Rattle.std.proofs.lemmas.Bool.Decides.{nat_tests}
+use Rattle.stride_set.specs.Slots.{comes_before, choice_from, IsLeastActive}
+
+-- what the choice of n slots says
+abbrev pub IsChoiceOf : ℕ → (ℕ → Bool) → (ℕ → ℕ) → Option ℕ → Type 0
+IsChoiceOf n active pass choice = MatchOption choice ((s : ℕ) → s < n → active s ≡ false) (IsLeastActive n active pass)
+
+-- one more slot that is not better changes no choice
+keeps : (n : ℕ) (active : ℕ → Bool) (pass : ℕ → ℕ) (s : ℕ) → (active n ≡ true → pass s ≤ pass n) → IsLeastActive n active pass s → IsLeastActive (suc n) active pass s
+keeps n active pass s not_better h = record {
+  in_range = omega (arith, h.in_range);
+  is_active = h.is_active;
+  least = λ t below on. ⊎_elim (λ lt. h.least t lt on) (λ ge. let same : t ≡ n = omega arith in omega (arith, not_better (subst (λ k. active k ≡ true) same on), ap pass same)) (cases_lt t n);
+  first = h.first;
+}
+
+-- a better one takes its place
+takes : (n : ℕ) (active : ℕ → Bool) (pass : ℕ → ℕ) → active n ≡ true → ((t : ℕ) → t < n → active t ≡ true → pass n < pass t) → IsLeastActive (suc n) active pass n
+takes n active pass on better = record {
+  in_range = omega arith;
+  is_active = on;
+  least = λ t below on_t. ⊎_elim (λ lt. omega (arith, better t lt on_t)) (λ ge. omega (arith, ap pass (same t below ge))) (cases_lt t n);
+  first = better;
+}
+  where
+    same : (t : ℕ) → t < suc n → n ≤ t → t ≡ n
+    same t below ge = omega arith
+
+-- among no more slots than before there is none to choose
+none_still : (n : ℕ) (active : ℕ → Bool) → active n ≡ false → ((s : ℕ) → s < n → active s ≡ false) → (s : ℕ) → s < suc n → active s ≡ false
+none_still n active off h s below = ⊎_elim (h s) (λ ge. let same : n ≡ s = omega arith in subst (λ k. active k ≡ false) same off) (cases_lt s n)
+
+-- where none was active, an active one is better
+first_one : (n : ℕ) (active : ℕ → Bool) (pass : ℕ → ℕ) → ((s : ℕ) → s < n → active s ≡ false) → (t : ℕ) → t < n → active t ≡ true → pass n < pass t
+first_one n active pass h t below on = absurd (false≢true (sym (h t below) ∙ on))
+
+-- one more slot makes a choice of a choice
+choice_from-more : (n : ℕ) (active : ℕ → Bool) (pass : ℕ → ℕ) (before : Option ℕ) → IsChoiceOf n active pass before → IsChoiceOf (suc n) active pass (cond (active n && comes_before pass n before) (Some n) before)
+choice_from-more n active pass None h = by_case (active n) refl
+  where
+    by_case : (b : Bool) → active n ≡ b → IsChoiceOf (suc n) active pass (cond (b && true) (Some n) None)
+    by_case true on = takes n active pass on (first_one n active pass h)
+    by_case false off = none_still n active off h
+choice_from-more n active pass (Some s) h = by_case (active n) (nat_lt (pass n) (pass s)) refl refl
+  where
+    below_from : nat_lt (pass n) (pass s) ≡ true → pass n < pass s
+    below_from e = grind (arith, nat_tests)
+
+    not_below : nat_lt (pass n) (pass s) ≡ false → pass s ≤ pass n
+    not_below e = grind (arith, nat_tests)
+
+    by_case : (b c : Bool) → active n ≡ b → nat_lt (pass n) (pass s) ≡ c → IsChoiceOf (suc n) active pass (cond (b && c) (Some n) (Some s))
+    by_case true true on less =
+        takes n active pass on (λ t below on_t. omega (arith, below_from less, h.least t below on_t))
+    by_case true false on not_less = keeps n active pass s (λ _. not_below not_less) h
+    by_case false c off less = keeps n active pass s (λ on. absurd (false≢true (sym off ∙ on))) h
+
+-- the choice is the active slot of least pass, the least slot among ties, and none where none is active
+choice_from-is : (n : ℕ) (active : ℕ → Bool) (pass : ℕ → ℕ) → IsChoiceOf n active pass (choice_from n active pass)
+unfolding choice_from
+choice_from-is zero active pass = λ s below. absurd (omega arith)
+choice_from-is (suc n) active pass = choice_from-more n active pass (choice_from n active pass) (choice_from-is n active pass)
+
+-- among no slot there is none to choose
+pub choice_from-none : (active : ℕ → Bool) (pass : ℕ → ℕ) → None ≡ choice_from 0 active pass
+unfolding choice_from
+choice_from-none active pass = refl
+
+-- and one more slot is chosen, or the choice before stays
+choice_from-next : (n : ℕ) (active : ℕ → Bool) (pass : ℕ → ℕ) (before : Option ℕ) → before ≡ choice_from n active pass → choice_from (n + 1) active pass ≡ cond (active n && comes_before pass n before) (Some n) before
+unfolding choice_from
+choice_from-next n active pass before is = rw (add-one, is) refl
+
+pub choice_from-takes : (n : ℕ) (active : ℕ → Bool) (pass : ℕ → ℕ) (before : Option ℕ) → before ≡ choice_from n active pass → active n ≡ true → comes_before pass n before ≡ true → Some n ≡ choice_from (n + 1) active pass
+choice_from-takes n active pass before is on less = rw (choice_from-next n active pass before is, on, less) refl
+
+pub choice_from-keeps : (n : ℕ) (active : ℕ → Bool) (pass : ℕ → ℕ) (before : Option ℕ) → before ≡ choice_from n active pass → (active n && comes_before pass n before) ≡ false → before ≡ choice_from (n + 1) active pass
+choice_from-keeps n active pass before is stays = rw (choice_from-next n active pass before is, stays) refl
+
+-- so what was chosen is the active slot of least pass
+pub choice_from-chosen : (n : ℕ) (active : ℕ → Bool) (pass : ℕ → ℕ) (choice : Option ℕ) (s : ℕ) → choice ≡ choice_from n active pass → choice ≡ Some s → IsLeastActive n active pass s
+choice_from-chosen n active pass choice s is chosen =
+    subst (IsChoiceOf n active pass) (sym is ∙ chosen) (choice_from-is n active pass)
+
+-- and where nothing was, no slot is active
+pub choice_from-idle : (n : ℕ) (active : ℕ → Bool) (pass : ℕ → ℕ) → choice_from n active pass ≡ None → (s : ℕ) → s < n → active s ≡ false
+choice_from-idle n active pass idle = subst (IsChoiceOf n active pass) idle (choice_from-is n active pass)

@@ -1,0 +1,4 @@
+pub mod Spreads
+pub mod Choices
+pub mod Bounds
+pub mod Writes

@@ -1,0 +1,6 @@
+use Rattle.stride_set.specs.Slots.{active_in, pass_in}
+use Rattle.stride_set.proofs.Spreads.{HasEnds}
+use Rattle.stride_set.proofs.spread.Given as goal
+
+abbrev pub invariant-loop-slot : goal.invariant-loop-slot
+invariant-loop-slot l = HasEnds l.slot-index (active_in l.slots) (pass_in l.slots) l.least l.greatest

@@ -1,0 +1,275 @@
+//! Who runs next: the passes of one worker's slots, by stride scheduling.
+//!
+//! Stride scheduling is that of Waldspurger and Weihl, "Stride Scheduling: Deterministic
+//! Proportional-Share Resource Management" (1995): a client's stride is inversely proportional to its
+//! tickets, here the priority; the client with the least pass runs next, and its pass then grows by its
+//! stride, scaled by the time used. The numbers and the rules of joining are this project's own. A slot
+//! joins no earlier than the floor, which is the pass of the slot chosen last, so that no slot can catch
+//! up on time in which it was not active.
+//!
+//! The layer stands on no other. The one fact for the layer above: each call is `stride_after` of the set,
+//! and between any two calls each active pass lies within the floor and the floor plus the largest advance,
+//! and the widest gap of two active slots is at most the largest advance.
+#![tactic(auto)]
+
+ghost use Rattle.std.specs.Prelude.{◌≡◌, ℕ, List, ◌+◌, ◌*◌, ◌^◌, ◌<◌, ◌≤◌, length, fold, true, false, IfOk, IfSome, IfNone};
+ghost use Rattle.std.specs.Option.{ForSome};
+ghost use Rattle.stride_set.specs.Slots.{pass_in, spread_among, choice_among, comes_before};
+ghost use Rattle.stride_set.specs.Strides.{StrideState, Strides, Call, JoinChange, JoinReturn, DropSlot, Choose, Advance, IsChoice, MayAdvance, IsBounded, AreLawful, strides_of, new_strides, stride_after, choice_of, widest_gap};
+
+use std::alloc::{AllocError, Global};
+use std::marker::Model;
+
+/// The stride of a slot of priority 1 for one nanosecond: the constant `stride1` of Waldspurger and Weihl.
+pub const STRIDE_UNIT: u64 = 1_048_576;
+
+/// One slot of a set.
+#[derive(Clone, Copy, Debug)]
+pub struct Slot {
+    /// Whether it may be chosen.
+    pub active: bool,
+    /// Its pass; kept while it is not active.
+    pub pass: u128,
+}
+
+/// The slots of one worker, of which it chooses one each turn. Only `new` takes memory.
+#[derive(Debug, Drop)]
+pub struct StrideSet {
+    slots: Vec<Slot>,
+    floor: u128,
+    largest: u64,
+    widest: u128,
+}
+
+impl Model for StrideSet {
+    ghost use Rattle.std.specs.Prelude.{◌<◌, ◌^◌, length};
+    ghost use Rattle.stride_set.specs.Strides.{StrideState, IsBounded, strides_of};
+
+    ghost Value = { StrideState };
+
+    ghost use Rattle.stride_set.specs.Fields.{state_of};
+
+    ghost view = { state_of };
+
+    ghost invariant = { λ a. IsBounded (strides_of (state_of a)) × (length a.slots.items < 2 ^ 32) };
+}
+
+impl StrideSet {
+    /// A set of so many slots of which none is active, each at pass 0. Takes time and memory for each slot.
+    pub fn new(alloc: Global, slots: u32) -> Result<StrideSet, AllocError>
+        ensures { IfOk result (λ set. strides_of set ≡ new_strides slots) }
+    {
+        let idle = Slot {
+            active: false,
+            pass: 0,
+        };
+        Ok(StrideSet {
+            slots: vec![in alloc; idle; slots as usize]?,
+            floor: 0,
+            largest: 0,
+            widest: 0,
+        })
+    }
+
+    /// Slot `s` joins at the floor, as with new work. Takes one pass over the slots.
+    pub fn join_change(&mut self, s: u32)
+        requires { s < (strides_of self.old).slots }
+        ensures { strides_of self.new ≡ stride_after (strides_of self.old) (JoinChange s) }
+    {
+        self.slots[s as usize] = Slot {
+            active: true,
+            pass: self.floor,
+        };
+        self.widest = self.widest.max(spread(&self.slots));
+    }
+
+    /// Slot `s` joins again with its old work: at its old pass, but not below the floor, whether it was
+    /// active or not. Takes one pass over the slots.
+    pub fn join_return(&mut self, s: u32)
+        requires { s < (strides_of self.old).slots }
+        ensures { strides_of self.new ≡ stride_after (strides_of self.old) (JoinReturn s) }
+    {
+        let pass = self.slots[s as usize].pass.max(self.floor);
+        self.slots[s as usize] = Slot { active: true, pass };
+        self.widest = self.widest.max(spread(&self.slots));
+    }
+
+    /// Slot `s` is active no longer; its pass is kept. Takes constant time.
+    pub fn drop_slot(&mut self, s: u32)
+        requires { s < (strides_of self.old).slots }
+        ensures { strides_of self.new ≡ stride_after (strides_of self.old) (DropSlot s) }
+    {
+        self.slots[s as usize].active = false;
+    }
+
+    /// The active slot of least pass, the least slot among ties, whose pass becomes the floor; none exactly
+    /// where no slot is active, and then nothing changes. Takes one pass over the slots.
+    pub fn choose(&mut self) -> Option<u32>
+        ensures choice { result ≡ choice_of (strides_of self.old) }
+        ensures least { IfSome result (λ s. IsChoice (strides_of self.old) s) }
+        ensures none { IfNone result ((s : ℕ) → s < (strides_of self.old).slots
+            → (strides_of self.old).active s ≡ false) }
+        ensures may_advance { IfSome result (λ s. MayAdvance (strides_of self.new) s) }
+        ensures floor { IfSome result (λ s. strides_of self.new ≡ stride_after (strides_of self.old) (Choose s)) }
+        ensures unchanged { IfNone result (self.new ≡ self.old) }
+    {
+        let s = choice(&self.slots)?;
+        self.floor = self.slots[s as usize].pass;
+        Some(s)
+    }
+
+    /// The pass of slot `s` grows by its stride for `ns` nanoseconds at this priority (100 to 10,000 in use), and
+    /// stays at 2^128 - 1 where it would pass it. The slot is active and at the floor, as after the `choose`
+    /// that answered it, with no advance since. Takes one pass over the slots.
+    pub fn advance(&mut self, s: u32, ns: u64, priority: u32)
+        requires chosen { MayAdvance (strides_of self.old) s }
+        requires time { ns ≤ 2 ^ 36 }
+        requires priority { 0 < priority }
+        ensures { strides_of self.new ≡ stride_after (strides_of self.old) (Advance s ns priority) }
+    {
+        let advance = ns * STRIDE_UNIT / u64::from(priority);
+        let slot = &mut self.slots[s as usize];
+        slot.pass = slot.pass.saturating_add(u128::from(advance));
+        self.largest = self.largest.max(advance);
+        self.widest = self.widest.max(spread(&self.slots));
+    }
+
+    /// The pass of the slot chosen last, 0 before any. Takes constant time, as each call below does.
+    pub fn floor(&self) -> u128
+        ensures { result ≡ self.now.floor }
+    {
+        self.floor
+    }
+
+    /// The largest advance so far, 0 before any.
+    pub fn largest(&self) -> u64
+        ensures { result ≡ self.now.largest }
+    {
+        self.largest
+    }
+
+    /// The greatest difference of the passes of two slots that were active at the same time, after any call;
+    /// 0 before two were.
+    pub fn widest(&self) -> u128
+        ensures value { result ≡ self.now.widest }
+        ensures bounded { IsBounded (strides_of self.now) }
+    {
+        self.widest
+    }
+
+    /// Whether slot `s` may be chosen.
+    pub fn is_active(&self, s: u32) -> bool
+        requires { s < (strides_of self.now).slots }
+        ensures { result ≡ (strides_of self.now).active s }
+    {
+        self.slots[s as usize].active
+    }
+
+    /// The pass of slot `s`, kept while it is not active.
+    pub fn pass(&self, s: u32) -> u128
+        requires { s < (strides_of self.now).slots }
+        ensures { result ≡ (strides_of self.now).pass s }
+    {
+        self.slots[s as usize].pass
+    }
+}
+
+// The greatest difference of the passes of two active slots.
+fn spread(slots: &[Slot]) -> u128
+    ensures { result ≡ spread_among slots.now }
+{
+    let mut least = u128::MAX;
+    let mut greatest = 0u128;
+    for slot in slots {
+        if slot.active {
+            least = least.min(slot.pass);
+            greatest = greatest.max(slot.pass);
+        }
+    }
+    greatest.saturating_sub(least)
+}
+
+// The first active slot of least pass.
+fn choice(slots: &[Slot]) -> Option<u32>
+    requires { length slots.now < 2 ^ 32 }
+    ensures { result ≡ choice_among slots.now }
+{
+    let mut choice = None;
+    for (s, slot) in slots.iter().enumerate() {
+        if slot.active && comes_before(slots, s, choice) {
+            choice = Some(s as u32);
+        }
+    }
+    choice
+}
+
+// Whether the pass of slot `s` is less than that of the choice so far, or there is none yet.
+fn comes_before(slots: &[Slot], s: usize, choice: Option<u32>) -> bool
+    requires in_range { s < length slots.now }
+    requires choice_in_range { ForSome choice (λ t. t < length slots.now) }
+    ensures { result ≡ comes_before (pass_in slots.now) s choice }
+{
+    match choice {
+        None => true,
+        Some(t) => slots[s].pass < slots[t as usize].pass,
+    }
+}
+
+/// The law of the bounds: after any lawful calls of a new set each active pass lies within the floor and the
+/// floor plus the largest advance, each other pass is at most that sum, and the widest gap is at most the
+/// largest advance. And `widest` is the greatest difference of the passes of two slots that were active at
+/// the same time, after any of the calls.
+pub fn calls_keep_the_bounds()
+    ensures bounded { (slots : ℕ) (calls : List Call) → AreLawful (new_strides slots) calls
+        → IsBounded (fold stride_after (new_strides slots) calls) }
+    ensures widest { (slots : ℕ) (calls : List Call)
+        → (fold stride_after (new_strides slots) calls).widest ≡ widest_gap (new_strides slots) calls }
+{}
+
+#[cfg(test)]
+mod tests {
+    use super::*;
+    use std::test::Fail;
+
+    #[test]
+    fn an_advance_is_inverse_to_the_priority(rt: HostRuntime) -> Result<(), Fail> {
+        let mut set = StrideSet::new(rt.alloc(), 1)?;
+        set.join_change(0);
+        assert_eq!(rt; set.choose(), Some(0));
+        set.advance(0, 2_000_000, 10_000);
+        assert_eq!(rt; set.pass(0), 209_715_200);
+        assert_eq!(rt; set.largest(), 209_715_200);
+        assert_eq!(rt; set.choose(), Some(0));
+        set.advance(0, 2_000_000, 100);
+        assert_eq!(rt; set.pass(0), 209_715_200 + 20_971_520_000);
+        assert_eq!(rt; set.largest(), 20_971_520_000);
+        Ok(())
+    }
+
+    #[test]
+    fn two_slots_take_turns_and_join_again(rt: HostRuntime) -> Result<(), Fail> {
+        let mut set = StrideSet::new(rt.alloc(), 2)?;
+        assert_eq!(rt; set.choose(), None);
+        set.join_change(0);
+        set.join_change(1);
+        assert_eq!(rt; set.choose(), Some(0));
+        set.advance(0, 300, 10_000);
+        assert_eq!(rt; set.choose(), Some(1));
+        set.advance(1, 300, 5_000);
+        assert_eq!(rt; set.pass(0), 31_457);
+        assert_eq!(rt; set.pass(1), 62_914);
+        assert_eq!(rt; set.floor(), 0);
+        assert_eq!(rt; set.widest(), 31_457);
+        assert_eq!(rt; set.largest(), 62_914);
+        assert_eq!(rt; set.choose(), Some(0));
+        assert_eq!(rt; set.floor(), 31_457);
+        set.drop_slot(1);
+        assert!(rt; !set.is_active(1));
+        set.join_return(1);
+        assert!(rt; set.is_active(1));
+        assert_eq!(rt; set.pass(1), 62_914);
+        set.join_change(1);
+        assert_eq!(rt; set.pass(1), 31_457);
+        Ok(())
+    }
+}

@@ -1,0 +1,195 @@
+//! The sizes of morsels: how many tuples of a task set a worker takes at once.
+//!
+//! A `Sizer` belongs to one worker and one task set. In startup nothing is known of the pace, and the
+//! sizes double from 16 tuples until a morsel takes a millisecond. Then an estimate of the time per
+//! tuple sets the default size, which aims at 2,000,000 nanoseconds a morsel. Near the end of the task
+//! set, in shutdown, the workers share the tuples that rest, so that they end at about the same time.
+//! The phases are those of Wagner, Kohn and Neumann, "Self-Tuning Query Scheduling for Analytical
+//! Workloads" (SIGMOD 2021); the numbers are this project's own.
+//!
+//! The layer stands on no other. The one fact for the layer above: `next` is `size_of` of the morsels
+//! taken so far, the tuples of the task set, the end of the last range and the number of workers.
+#![tactic(auto)]
+
+ghost use Rattle.std.specs.Prelude.{◌≡◌, ℕ, List, [], ◌∷◌, ◌++◌, ◌-◌, ◌^◌, ◌<◌, ◌≤◌};
+ghost use Rattle.morsel_size.specs.Sizing.{Sizing, IsInRange, time_per_tuple, blend_of, pace_after, pace_of, default_size, measured_size, size_at, size_of};
+
+use std::marker::Model;
+
+/// The size of the first morsel, in tuples.
+pub const FIRST_SIZE: u32 = 16;
+
+/// The largest size of a morsel, in tuples.
+pub const LARGEST_SIZE: u32 = 65_536;
+
+/// A morsel that takes this many nanoseconds ends startup.
+pub const STARTUP_NS: u64 = 1_000_000;
+
+/// Times per tuple are kept in parts of a nanosecond, of which it has this many.
+pub const PARTS_PER_NS: u64 = 1024;
+
+/// What a morsel of the default size is to take, in parts of a nanosecond: 2,000,000 nanoseconds.
+pub const DEFAULT_TIME: u64 = 2_000_000 * PARTS_PER_NS;
+
+/// What a morsel in shutdown is to take at least, in parts of a nanosecond: 250,000 nanoseconds.
+pub const SHUTDOWN_TIME: u64 = 250_000 * PARTS_PER_NS;
+
+/// How fast a worker gets through the tuples of a task set.
+#[derive(Clone, Copy, Debug)]
+pub enum Pace {
+    /// Not known yet: the size of the next morsel, in tuples.
+    Startup(u32),
+    /// The estimate, in 1,024ths of a nanosecond per tuple.
+    Measured(u64),
+}
+
+/// The sizes of one worker's morsels in one task set.
+#[derive(Debug, Drop)]
+pub struct Sizer {
+    workers: u32,
+    pace: Pace,
+}
+
+impl Model for Sizer {
+    ghost Value = { Sizing };
+
+    ghost view = { λ s. record { workers = s.workers; pace = s.pace } };
+
+    ghost invariant = { λ s. (0 < s.workers) × IsInRange s.pace };
+}
+
+impl Sizer {
+    /// The sizes for a task set that this many workers share, with no morsel taken yet.
+    /// Takes constant time and no memory, as each call does.
+    pub fn new(workers: u32) -> Sizer
+        requires { 0 < workers }
+        ensures workers { result.workers ≡ workers }
+        ensures pace { result.pace ≡ pace_of [] }
+    {
+        Sizer {
+            workers,
+            pace: Pace::Startup(FIRST_SIZE),
+        }
+    }
+
+    /// How many tuples to take next of a task set of `total` tuples, where the worker's last range of it
+    /// ended at `last_end` (0 before the first): 1 to 65,536. Startup heeds neither the workers nor the
+    /// rest; whoever claims cuts the range to what is left.
+    pub fn next(&self, total: u32, last_end: u32) -> u32
+        requires { last_end ≤ total }
+        ensures size { result ≡ size_at self.now.workers self.now.pace (total - last_end) }
+        ensures taken { (taken : List (ℕ × ℕ)) → self.now.pace ≡ pace_of taken
+            → result ≡ size_of self.now.workers taken total last_end }
+        ensures least { 1 ≤ result }
+        ensures most { result ≤ LARGEST_SIZE }
+    {
+        match self.pace {
+            Pace::Startup(size) => size,
+            Pace::Measured(estimate) => measured_size(self.workers, estimate, total - last_end),
+        }
+    }
+
+    /// Takes note of a morsel of `tuples` tuples that took `ns` nanoseconds. The first that takes a millisecond
+    /// or more ends startup with its time per tuple as the estimate; each later one is blended into it.
+    pub fn took(&mut self, tuples: u32, ns: u64)
+        requires some_tuples { 0 < tuples }
+        requires some_time { 0 < ns }
+        requires time { ns ≤ 2 ^ 36 }
+        ensures pace { self.new ≡ record self.old { pace = pace_after self.old.pace tuples ns } }
+        ensures taken { (taken : List (ℕ × ℕ)) → self.old.pace ≡ pace_of taken
+            → self.new.pace ≡ pace_of (taken ++ (tuples, ns) ∷ []) }
+    {
+        self.pace = match self.pace {
+            Pace::Startup(size) if ns < STARTUP_NS => Pace::Startup((2 * size).min(LARGEST_SIZE)),
+            Pace::Startup(_) => Pace::Measured(time_per_tuple(tuples, ns)),
+            Pace::Measured(estimate) => Pace::Measured(blend(time_per_tuple(tuples, ns), estimate)),
+        };
+    }
+}
+
+fn time_per_tuple(tuples: u32, ns: u64) -> u64
+    requires some_tuples { 0 < tuples }
+    requires some_time { 0 < ns }
+    requires time { ns ≤ 2 ^ 36 }
+    ensures value { result ≡ time_per_tuple tuples ns }
+    ensures least { 1 ≤ result }
+    ensures most { result ≤ 2 ^ 46 }
+{
+    (ns * PARTS_PER_NS).div_ceil(u64::from(tuples))
+}
+
+// Four fifths of the latest pace and a fifth of the estimate before: at least 1, since both are.
+fn blend(latest: u64, estimate: u64) -> u64
+    requires latest { (1 ≤ latest) × (latest ≤ 2 ^ 46) }
+    requires estimate { (1 ≤ estimate) × (estimate ≤ 2 ^ 46) }
+    ensures value { result ≡ blend_of latest estimate }
+    ensures least { 1 ≤ result }
+    ensures most { result ≤ 2 ^ 46 }
+{
+    (4 * latest + estimate) / 5
+}
+
+fn measured_size(workers: u32, estimate: u64, rest: u32) -> u32
+    requires workers { 0 < workers }
+    requires estimate { 1 ≤ estimate }
+    ensures value { result ≡ measured_size workers estimate rest }
+    ensures least { 1 ≤ result }
+    ensures most { result ≤ LARGEST_SIZE }
+{
+    let default = (DEFAULT_TIME / estimate).clamp(1, u64::from(LARGEST_SIZE));
+    if u64::from(workers) * default <= u64::from(rest) {
+        return default as u32;
+    }
+    let share = u64::from(rest.div_ceil(workers));
+    (SHUTDOWN_TIME / estimate).max(share).clamp(1, default) as u32
+}
+
+#[cfg(test)]
+mod tests {
+    use super::*;
+
+    #[test]
+    fn sizes_double_then_settle_then_share_the_rest(rt: HostRuntime) {
+        let mut sizer = Sizer::new(1);
+        let mut end = 0;
+        for (count, size) in [
+            (1, 16),
+            (1, 32),
+            (1, 64),
+            (1, 128),
+            (1, 256),
+            (1, 512),
+            (1, 1024),
+            (1, 2048),
+            (1, 4096),
+            (1, 8192),
+            (1, 16384),
+            (8, 20000),
+            (1, 7248),
+        ] {
+            for _ in 0..count {
+                assert!(rt; end <= 200_000);
+                let next = sizer.next(200_000, end);
+                assert_eq!(rt; next, size, "at {end}");
+                sizer.took(next, u64::from(next) * 100);
+                end += next;
+            }
+        }
+        assert_eq!(rt; end, 200_000);
+    }
+
+    #[test]
+    fn workers_share_a_small_rest(rt: HostRuntime) {
+        let mut sizer = Sizer::new(4);
+        sizer.took(10_000, 1_000_000);
+        assert_eq!(rt; sizer.next(1000, 0), 2500);
+    }
+
+    #[test]
+    fn an_estimate_blends_four_fifths_of_the_latest(rt: HostRuntime) {
+        let mut sizer = Sizer::new(1);
+        sizer.took(10_000, 1_000_000);
+        sizer.took(10_000, 2_000_000);
+        assert_eq!(rt; sizer.next(200_000, 0), 11_111);
+    }
+}

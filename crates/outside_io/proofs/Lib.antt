@@ -1,0 +1,3 @@
+mod FaultsLemmas
+mod FilesInMemoryLemmas
+mod PiecesLemmas

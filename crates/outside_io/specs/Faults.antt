@@ -1,0 +1,19 @@
+-- How often a name or a sink failed, and when such a count rose.
+use Rattle.std.specs.Prelude.{◌≡◌, ℕ, ◌+◌, ◌-◌, ◌^◌, ◌<◌, ◌≤◌, min, List, ◌++◌, count_by}
+use Rattle.std.specs.Str.{bytes_eq}
+
+-- the count of faults of a name: how often it stands in the list of the names that failed
+abbrev pub fault_count : List (List ℕ) → List ℕ → ℕ
+fault_count failed name = count_by (bytes_eq name) failed
+
+-- the new list is the old one with more names behind it, or none
+abbrev pub Grew : List (List ℕ) → List (List ℕ) → Type 0
+Grew old new = (more : List (List ℕ)) × (new ≡ old ++ more)
+
+-- the name failed between the old list and the new one
+abbrev pub NameFailed : List (List ℕ) → List (List ℕ) → List ℕ → Type 0
+NameFailed old new name = fault_count old name < fault_count new name
+
+-- a counter went up by one at least, and stands still at the last value of its type
+abbrev pub CountRose : ℕ → ℕ → Type 0
+CountRose old new = min (old + 1) (2 ^ 64 - 1) ≤ new

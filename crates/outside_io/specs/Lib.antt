@@ -1,0 +1,6 @@
+pub mod Faults
+pub mod Pieces
+pub mod Refusals
+pub mod FilesInMemory
+pub mod SinkInMemory
+pub mod Adapters

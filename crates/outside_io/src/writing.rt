@@ -1,0 +1,46 @@
+//! The place that a program writes to.
+ghost use Rattle.std.specs.Prelude.{◌≡◌, ℕ, ◌<◌, ◌≤◌, List, Option, None, IfOk, IsErr, OnErr, OnOk, length};
+ghost use Rattle.std.specs.Io.KnownBytes.{Appends, WriteAppends};
+ghost use Rattle.outside_io.specs.Faults.{CountRose};
+ghost use Rattle.outside_io.specs.Pieces.{AppendsPrefix};
+
+use thiserror::Error;
+
+/// A write that failed.
+#[derive(Clone, Copy, Debug, PartialEq, Eq, Error)]
+#[error("the write failed")]
+pub struct Failed;
+
+/// A place that takes bytes, in pieces whose length it chooses.
+pub trait Sink {
+    // The bytes written so far, where the sink tells them.
+    ghost written: { Self → Option (List ℕ) } = { λ _. None };
+
+    // How many writes failed; it stands still at 2^64 - 1.
+    ghost faults: { Self → ℕ };
+
+    /// Takes the first bytes of a piece, at least one where it is not empty, and answers how many. A
+    /// call that fails takes none.
+    fn write_piece(&mut self, bytes: &[u8]) -> Result<usize, Failed>
+        ensures within { IfOk result (λ count. count ≤ length bytes.now) }
+        ensures goes_on { IfOk result (λ count. 0 < length bytes.now → 0 < count) }
+        ensures appended { WriteAppends (written self.old) (written self.new) result bytes.now }
+        ensures never_falls { faults self.old ≤ faults self.new }
+        ensures failed { OnErr result (CountRose (faults self.old) (faults self.new)) };
+}
+
+/// Writes all the bytes, in as many pieces as the sink wants. Each call of the sink is handed all that
+/// is not written yet. After a refusal a beginning of the bytes was written. It takes no memory.
+pub fn write_all<S: Sink>(sink: &mut S, bytes: &[u8]) -> Result<(), Failed>
+    ensures ok { OnOk result (Appends (S.written sink.old) (S.written sink.new) bytes.now) }
+    ensures err { OnErr result (AppendsPrefix (S.written sink.old) (S.written sink.new) bytes.now) }
+    ensures never_falls { S.faults sink.old ≤ S.faults sink.new }
+    ensures failed { OnErr result (CountRose (S.faults sink.old) (S.faults sink.new)) }
+{
+    let mut rest = bytes;
+    while !rest.is_empty() {
+        let count = sink.write_piece(rest)?;
+        rest = &rest[count..];
+    }
+    Ok(())
+}

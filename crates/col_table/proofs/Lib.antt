@@ -1,0 +1,4 @@
+pub mod Across
+pub mod NameFacts
+pub mod NamedRowsFacts
+pub mod Stored

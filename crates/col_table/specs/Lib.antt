@@ -1,0 +1,5 @@
+pub mod Columns
+pub mod Name
+pub mod NamedRows
+pub mod Refusals
+pub mod Stored

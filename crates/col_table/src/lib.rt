@@ -1,0 +1,23 @@
+//! Integer tables: legal names, columns of `i64` values, and rows that are added one at a time.
+//!
+//! This is the lowest layer of the data side and stands on `std` alone. The layers above read tables
+//! from text, check queries against them and scan them.
+//!
+//! The one fact that they may use: a table is a list of names and a list of rows (`NamedRows`). Its names
+//! are legal and differ, there are 1 to 32 of them, each row has one value a name, and there are at most
+//! 1,048,576 rows (`IsTable`).
+#![tactic(auto)]
+
+mod lists;
+mod name;
+mod table;
+
+pub use crate::lists::{ListOf, Text};
+pub use crate::name::{BadName, ColumnName, MAX_NAME_BYTES};
+pub use crate::table::{MAX_COLUMNS, MAX_ROWS, RowRefusal, ShapeRefusal, Table};
+
+/// The name of a column or of a table.
+pub type Name = ColumnName;
+
+#[cfg(test)]
+mod tests;

@@ -1,0 +1,85 @@
+// Names of columns and tables.
+ghost use Rattle.std.specs.Prelude.{◌≡◌, ◌↔◌, IsTrue, IfOk, IfErr};
+ghost use Rattle.std.specs.String.{string_bytes};
+ghost use Rattle.col_table.specs.Name.{IsName};
+
+use std::marker::Model;
+
+/// The greatest number of bytes of a name.
+pub const MAX_NAME_BYTES: usize = 64;
+
+/// A text that is no name, handed back as it was.
+#[derive(Debug, Drop)]
+pub struct BadName(pub String);
+
+/// The name of a column: a text of 0 to 64 bytes without control characters, as `new` has it.
+///
+/// Two names are equal exactly where their bytes are. The empty name is one too.
+#[derive(Clone, Debug, Drop)]
+pub struct ColumnName {
+    text: String,
+}
+
+// Clauses see the bytes of the name.
+impl Model for ColumnName {
+    ghost use Rattle.std.specs.Prelude.{List, ℕ};
+    ghost use Rattle.std.specs.String.{string_bytes};
+    ghost use Rattle.col_table.specs.Name.{IsName};
+
+    ghost Value = { List ℕ };
+
+    ghost view = { λ name. string_bytes name.text };
+
+    ghost invariant = { λ name. IsName (string_bytes name.text) };
+}
+
+impl ColumnName {
+    /// The name with this text: at most 64 bytes, with no character below U+0020 and without U+007F.
+    ///
+    /// Any other text is handed back. It takes no memory.
+    pub fn new(text: String) -> Result<ColumnName, BadName>
+        ensures named { IfOk result (λ name. IsName (string_bytes text) × (name ≡ string_bytes text)) }
+        ensures refused { IfErr result (λ bad. ¬ IsName (string_bytes text) × (bad.0 ≡ text)) }
+    {
+        if is_name(text.as_str()) {
+            Ok(ColumnName { text })
+        } else {
+            Err(BadName(text))
+        }
+    }
+
+    /// The text of the name.
+    pub fn as_str(&self) -> &str
+        ensures text { result.now ≡ self.now }
+        ensures legal { IsName self.now }
+    {
+        self.text.as_str()
+    }
+}
+
+impl PartialEq for ColumnName {
+    ghost use Rattle.std.specs.Prelude.{nat_eq};
+    ghost use Rattle.std.specs.Cmp as Cmp;
+    ghost use Rattle.std.specs.Cmp.Lexicographic.{pointwise, nat_list_eq_equiv};
+
+    ghost eq = { pointwise nat_eq };
+
+    ghost laws = { Cmp.partial_equiv_from_equiv nat_list_eq_equiv };
+
+    fn eq(&self, other: &ColumnName) -> bool {
+        self.text == other.text
+    }
+}
+
+impl Eq for ColumnName {
+    ghost use Rattle.std.specs.Cmp.Lexicographic.{nat_list_eq_equiv};
+
+    ghost laws = { nat_list_eq_equiv };
+}
+
+// Whether a text may be a name.
+fn is_name(text: &str) -> bool
+    ensures { IsTrue result ↔ IsName text.now }
+{
+    text.len() <= MAX_NAME_BYTES && text.bytes().all(|byte| byte >= 0x20 && byte != 0x7f)
+}

@@ -1,0 +1,41 @@
+-- How a table grows row by row.
+use Rattle.std.proofs.Common.{◌≡◌, ◌≢◌, ℕ, ◌+◌, ◌<◌, List, [], ◌∷◌, ◌++◌, All, length, map, refl, sym, ap, ◌∙◌, arith, subst}
+use Rattle.std.proofs.lemmas.List.{append-nil, append_assoc, get_or_at, length-append, length-map, length_push, map-append}
+use Rattle.std.proofs.lemmas.List.Elements.{All-push}
+use Rattle.col_table.specs.NamedRows.{IsTable, NamedRows, with_row}
+use Rattle.col_table.specs.declared.table.TheConstants.{MAX_ROWS}
+use Rattle.csv_tables.specs.Loading.{GrowsBy, IsRow}
+use Rattle.csv_tables.specs.Numbers.{number_of}
+
+-- a table grows by no record to itself
+pub grows_none : (table : NamedRows) → IsTable table → GrowsBy table [] table
+grows_none table shape = record { names = refl; lines = λ k d h. absurd (omega arith); rows = sym (append-nil table.rows); shape = shape }
+
+-- and by one record more to the table with one row more
+pub grows_more : (old table : NamedRows) (records : List (List (List ℕ))) (fields : List (List ℕ)) → GrowsBy old records table → IsRow (length old.names) fields → length table.rows ≢ MAX_ROWS
+    → GrowsBy old (records ++ fields ∷ []) (with_row table (map number_of fields))
+grows_more old table records fields grows row room = record {
+  names = grows.names;
+  lines = All-push (IsRow (length old.names)) records fields grows.lines row;
+  rows =
+      ap (λ rows. rows ++ map number_of fields ∷ []) grows.rows
+      ∙ append_assoc old.rows (map (map number_of) records) (map number_of fields ∷ [])
+      ∙ ap (λ rows. old.rows ++ rows) (sym (map-append (map number_of) records (fields ∷ [])));
+  shape = record {
+    heading = grows.shape.heading;
+    widths = All-push (λ values. length values ≡ length table.names) table.rows (map number_of fields) grows.shape.widths (length-map fields number_of ∙ row.width ∙ sym (ap length grows.names));
+    few = omega (arith, grows.shape.few, length_push table.rows (map number_of fields))
+  }
+}
+
+-- each record by which a table grows is a row
+pub row_of-grows : (old table : NamedRows) (records rest : List (List (List ℕ))) (fields : List (List ℕ)) → GrowsBy old (records ++ fields ∷ rest) table → IsRow (length old.names) fields
+row_of-grows old table records rest fields grows =
+    subst (IsRow (length old.names)) (get_or_at records fields rest [] (length records) refl) (grows.lines (length records) [] (omega (arith, length-append records (fields ∷ rest))))
+
+-- a full table grows by no record more
+pub full_grows_not : (old table grown : NamedRows) (records rest : List (List (List ℕ))) (fields : List (List ℕ)) → GrowsBy old records table → length table.rows ≡ MAX_ROWS → ¬ (GrowsBy old (records ++ fields ∷ rest) grown)
+full_grows_not old table grown records rest fields grows full more =
+    let count = ap length grows.rows ∙ length-append old.rows (map (map number_of) records) in
+    let counted = ap length more.rows ∙ length-append old.rows (map (map number_of) (records ++ fields ∷ rest)) in
+    omega (arith, count, counted, length-map records (map number_of), length-map (records ++ fields ∷ rest) (map number_of), length-append records (fields ∷ rest), more.shape.few)

@@ -1,0 +1,12 @@
+use Rattle.std.proofs.Common.{◌≡◌, ◌-◌, ◌++◌, List, ℕ, length}
+use Rattle.col_table.specs.declared.table.TheConstants.{MAX_ROWS}
+use Rattle.csv_tables.specs.Loading.{GrowsBy}
+use Rattle.csv_tables.specs.Reading.{IsReading, records_left}
+use Rattle.csv_tables.proofs.reading.read_rows.Given as goal
+
+abbrev pub invariant-loop-record : goal.invariant-loop-record
+invariant-loop-record l =
+    (done : List (List (List ℕ))) × IsReading l.reader × (records_left l.fn.reader ≡ done ++ records_left l.reader) × GrowsBy l.fn.table done l.table × (length l.row ≡ length l.fn.table.names)
+
+abbrev pub decreases-loop-record : goal.decreases-loop-record
+decreases-loop-record l = MAX_ROWS - length l.table.rows

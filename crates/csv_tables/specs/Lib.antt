@@ -1,0 +1,4 @@
+pub mod Loading
+pub mod Numbers
+pub mod Reading
+pub mod Refusals

@@ -1,0 +1,20 @@
+-- Which fields are numbers, and which numbers they are.
+use Rattle.std.specs.Prelude.{ℕ, ℤ, pos, neg_ℤ, List, drop, if◌then◌else◌, FitsSigned}
+use Rattle.std.specs.Int.{w64}
+use Rattle.std.specs.Str.Parse.{IsNumeral, digits_value, starts_with_minus}
+
+-- the digits of a field: what is left without a minus sign
+abbrev pub digits_of : List ℕ → List ℕ
+digits_of field = if starts_with_minus field then drop 1 field else field
+
+-- a field is a number: an optional minus sign, and one decimal digit or more
+abbrev pub IsNumber : List ℕ → Type 0
+IsNumber field = IsNumeral 10 (digits_of field)
+
+-- the number that a field writes
+abbrev pub number_of : List ℕ → ℤ
+number_of field = if starts_with_minus field then neg_ℤ (pos (digits_value 10 (digits_of field))) else pos (digits_value 10 (digits_of field))
+
+-- a field is a number that an `i64` holds
+abbrev pub IsValue : List ℕ → Type 0
+IsValue field = IsNumber field × FitsSigned w64 (number_of field)

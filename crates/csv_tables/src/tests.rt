@@ -1,0 +1,85 @@
+use super::*;
+use col_table::Table;
+use std::test::Fail;
+
+// The rows of a table, value by value and row by row.
+fn values(rt: &HostRuntime, table: &Table) -> Result<Vec<i64>, Fail> {
+    let mut values = Vec::new(rt.alloc());
+    for row in 0..table.rows() {
+        for col in 0..table.cols() {
+            values.push(table.value(row, col))?;
+        }
+    }
+    Ok(values)
+}
+
+// Texts that stand for tables, with the values of their rows, whatever the form of lines and fields.
+#[test]
+fn loads_each_form(rt: HostRuntime) -> Result<(), Fail> {
+    for (text, columns, want) in [
+        (
+            b"k,v\n1,10\n1,20\n2,5\n".as_slice(),
+            2,
+            [1, 10, 1, 20, 2, 5].as_slice(),
+        ),
+        (b"v", 1, &[]),
+        (b"v\n7", 1, &[7]),
+        (b"\n\r\n\rv\n\r\n\r1\r\r\n2\n\r3", 1, &[1, 2, 3]),
+        (b"a,b,c\n\"1\",\"2\",\"3\"\n", 3, &[1, 2, 3]),
+        (b"v\n\"1\"2\n", 1, &[12]),
+        (b"v\n\"1", 1, &[1]),
+        (b"\"\"\n5\n", 1, &[5]),
+        (b"\xef\xbb\xbfv\n1\n", 1, &[1]),
+        (b"a,\n1,2", 2, &[1, 2]),
+        (
+            b"v\n-0\n000000000000000000000000001\n-0009\n",
+            1,
+            &[0, 1, -9],
+        ),
+        (
+            b"v\n9223372036854775807\n-9223372036854775808\n",
+            1,
+            &[i64::MAX, i64::MIN],
+        ),
+    ] {
+        let table = load(rt.alloc(), text)?;
+        assert_eq!(rt; table.cols(), columns, "at {text:?}");
+        assert_eq!(rt; values(&rt, &table)?.as_slice(), want, "at {text:?}");
+    }
+    Ok(())
+}
+
+// Texts that stand for no table.
+#[test]
+fn refuses_each_fault(rt: HostRuntime) {
+    for text in [
+        b"".as_slice(),
+        b"\xef\xbb\xbf",
+        b"\n\r\n",
+        b",",
+        b"a,b,a\n",
+        b"\xff\n",
+        b"a\x7f\n",
+        b"a,b,c\n1,2\n",
+        b"a\n1,2\n",
+        b"v\n9223372036854775808\n",
+        b"v\n-9223372036854775809\n",
+        b"v\n99999999999999999999999999\n",
+        b"v\n\"\"\n",
+        b"v\n-\n",
+        b"v\n--1\n",
+        b"v\n+1\n",
+        b"v\n1 \n",
+        b"v\n \n",
+        b"v\n1\"\n",
+        b"v\n\"1\n",
+        b"v\n1.0\n",
+        b"v\n\xff\n",
+    ] {
+        let refused = match load(rt.alloc(), text) {
+            Ok(_) => None,
+            Err(refusal) => Some(refusal),
+        };
+        assert_eq!(rt; refused, Some(TableRefusal::NotThisForm), "at {text:?}");
+    }
+}

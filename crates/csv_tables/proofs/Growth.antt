@@ -1,6 +1,6 @@
 -- How a table grows row by row.
-use Rattle.std.proofs.Common.{◌≡◌, ◌≢◌, ℕ, ◌+◌, ◌<◌, List, [], ◌∷◌, ◌++◌, All, length, map, refl, sym, ap, ◌∙◌, arith, subst}
-use Rattle.std.proofs.lemmas.List.{append-nil, append_assoc, get_or_at, length-append, length-map, length_push, map-append}
+use Rattle.std.proofs.Common.{◌≡◌, ◌≢◌, ℕ, List, [], ◌∷◌, ◌++◌, length, map, refl, sym, ap, ◌∙◌, arith}
+use Rattle.std.proofs.lemmas.List.{append-nil, append_assoc, length-map, length_push, map-append}
 use Rattle.std.proofs.lemmas.List.Elements.{All-push}
 use Rattle.col_table.specs.NamedRows.{IsTable, NamedRows, with_row}
 use Rattle.col_table.specs.declared.table.TheConstants.{MAX_ROWS}
@@ -24,18 +24,6 @@ grows_more old table records fields grows row room = record {
   shape = record {
     heading = grows.shape.heading;
     widths = All-push (λ values. length values ≡ length table.names) table.rows (map number_of fields) grows.shape.widths (length-map fields number_of ∙ row.width ∙ sym (ap length grows.names));
-    few = omega (arith, grows.shape.few, length_push table.rows (map number_of fields))
-  }
+    few = omega (arith, grows.shape.few, length_push table.rows (map number_of fields));
+  };
 }
-
--- each record by which a table grows is a row
-pub row_of-grows : (old table : NamedRows) (records rest : List (List (List ℕ))) (fields : List (List ℕ)) → GrowsBy old (records ++ fields ∷ rest) table → IsRow (length old.names) fields
-row_of-grows old table records rest fields grows =
-    subst (IsRow (length old.names)) (get_or_at records fields rest [] (length records) refl) (grows.lines (length records) [] (omega (arith, length-append records (fields ∷ rest))))
-
--- a full table grows by no record more
-pub full_grows_not : (old table grown : NamedRows) (records rest : List (List (List ℕ))) (fields : List (List ℕ)) → GrowsBy old records table → length table.rows ≡ MAX_ROWS → ¬ (GrowsBy old (records ++ fields ∷ rest) grown)
-full_grows_not old table grown records rest fields grows full more =
-    let count = ap length grows.rows ∙ length-append old.rows (map (map number_of) records) in
-    let counted = ap length more.rows ∙ length-append old.rows (map (map number_of) (records ++ fields ∷ rest)) in
-    omega (arith, count, counted, length-map records (map number_of), length-map (records ++ fields ∷ rest) (map number_of), length-append records (fields ∷ rest), more.shape.few)

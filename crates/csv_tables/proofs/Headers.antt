@@ -1,5 +1,5 @@
 -- Headers, and the places of their fields.
-use Rattle.std.proofs.Common.{◌≡◌, ℕ, ◌<◌, List, Some, length, arith, inl, inr, sym, ◌∙◌}
+use Rattle.std.proofs.Common.{◌≡◌, ℕ, ◌<◌, List, Some, length, arith, inl, inr}
 use Rattle.std.proofs.lemmas.Bool.{cases_lt}
 use Rattle.col_table.specs.NamedRows.{IsHeading}
 use Rattle.col_table.specs.Refusals.{RefusesNames}

@@ -1,10 +1,8 @@
 -- What a read of a record leaves of a reader.
-use Rattle.std.proofs.Common.{◌≡◌, ℕ, ◌+◌, Bool, true, false, IsTrue, if◌then◌else◌, List, [], ◌∷◌, Option, Some, None, IsSome, length, refl, sym, ap, ◌∙◌, inl, inr}
-use Rattle.csv.specs.Machine.{Read, ends_at_end, next_record}
-use Rattle.csv.specs.Reading.{NextIs, ReadRecord, ReadsNext, default_config, names_headers, pending_of, reader_config, reader_headers, reader_state, reader_trim, records, took_first}
+use Rattle.std.proofs.Common.{◌≡◌, ℕ, Bool, true, false, IsTrue, if◌then◌else◌, List, [], ◌∷◌, Option, Some, None, IsSome, refl, ◌∙◌, inl}
+use Rattle.csv.specs.Machine.{Read, next_record}
+use Rattle.csv.specs.Reading.{NextIs, ReadRecord, ReadsNext, default_config, pending_of, took_first}
 use Rattle.csv.specs.declared.parser.State.{State}
-use Rattle.csv.specs.declared.parser.State.TheVariants as st
-use Rattle.csv.specs.declared.reader.Trim.TheVariants as trim
 use Rattle.csv_tables.specs.Reading.{IsReading, SliceReader, bytes_left, records_left}
 use Rattle.csv_tables.proofs.Records.{between-more, records-more, records-none}
 
@@ -38,8 +36,7 @@ read_more : (old new : SliceReader) (fields : List (List ℕ)) → IsReading old
 read_more old new fields reading r first =
     let (xs, at) = some_is (bytes_left old) reading.going in
     let (ys, left, next) = reads_found old.state new.state xs (pending_of (Some new.rdr.now) new) fields (rw (reading.config, at) at r.0) in
-    let rest : bytes_left new ≡ Some ys = rw r.1 left in
-    (
+    let rest : bytes_left new ≡ Some ys = rw r.1 left in (
       record { config = r.2 ∙ reading.config; trim = r.3 ∙ reading.trim; ready = inl first; between = between-more old.state xs (fields, new.state, ys) next; going = rw rest refl },
       rw (at, rest) (records-more old.state xs (fields, new.state, ys) reading.between next),
     )
@@ -49,12 +46,6 @@ read_none : (old new : SliceReader) (fields : List (List ℕ)) → IsReading old
 read_none old new fields reading r =
     let (xs, at) = some_is (bytes_left old) reading.going in
     rw at (records-none old.state xs (reads_none old.state new.state xs (pending_of (Some new.rdr.now) new) fields (rw (reading.config, at) at r.0)))
-
--- a new reader has all records of its bytes left
-pub read_start : (reader : SliceReader) (bytes : List ℕ) → reader_config reader ≡ default_config → reader_trim reader ≡ trim.None → names_headers reader ≡ false → reader_headers reader ≡ None
-    → reader_state reader ≡ st.StartRecord → bytes_left reader ≡ Some bytes → IsReading reader × (records_left reader ≡ records default_config bytes)
-read_start reader bytes config how headers row state left =
-    (record { config = config; trim = how; ready = inr (inr (headers, row)); between = rw state refl; going = rw left refl }, rw (left, state) refl)
 
 -- what a read says, whether it found a record or not
 pub read_either : (old new : SliceReader) (found : Bool) (fields : List (List ℕ)) → IsReading old → ReadRecord (λ slice. Some slice.now) old new found fields → took_first new ≡ true

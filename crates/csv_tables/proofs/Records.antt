@@ -1,5 +1,5 @@
 -- The records of a text, one after another.
-use Rattle.std.proofs.Common.{◌≡◌, ◌⊎◌, ℕ, zero, suc, ◌+◌, ◌<◌, ◌≤◌, Bool, true, false, cond, List, [], ◌∷◌, Option, Some, None, length, refl, sym, ap, ◌∙◌, inl, inr, arith, add-one, if◌then◌else◌, ◌==◌, ◌||◌}
+use Rattle.std.proofs.Common.{◌≡◌, ◌⊎◌, ℕ, zero, suc, ◌+◌, ◌<◌, ◌≤◌, Bool, true, false, List, [], ◌∷◌, Option, Some, None, length, refl, ap, inl, inr, arith, add-one, if◌then◌else◌, ◌==◌}
 use Rattle.csv.specs.Machine.{Read, carriage_return, ends_at_end, ends_with, field_after, fields_after, in_field, is_end, line_feed, next_record, start_field, start_record, step}
 use Rattle.csv.specs.Reading.{default_config, records_from, records_next}
 use Rattle.csv.specs.declared.parser.Action.{Action}
@@ -88,8 +88,8 @@ count_same zero m s xs between hn hm = absurd (omega arith)
 count_same (suc n) zero s xs between hn hm = absurd (omega arith)
 count_same (suc n) (suc m) s xs between hn hm =
     next_same n m (next_record default_config s [] [] xs) (λ p h.
-      let shorter = rest_shorter s xs p between h in
-      count_same n m p.1 p.2 (rest_between s [] [] xs p h).1 (omega arith) (omega arith))
+    let shorter = rest_shorter s xs p between h in
+    count_same n m p.1 p.2 (rest_between s [] [] xs p h).1 (omega arith) (omega arith))
 
 -- the records of some bytes, where a first one is read
 pub records-more : (s : State) (xs : List ℕ) (p : Read) → ends_at_end s ≡ false → next_record default_config s [] [] xs ≡ Some p

@@ -21,35 +21,37 @@ use std::alloc::Global;
 /// optional `-` and one or more decimal digits, whose number an `i64` holds; leading zeros and `-0` are
 /// accepted. A byte order mark at the very start is dropped, and empty lines are skipped.
 ///
-/// It reads the text once, and keeps no copy of it.
+/// `NotThisForm` comes exactly where the text stands for no table. `OutOfMemory` may come at any text. The
+/// text is read once, and no copy of it is kept.
 pub fn load(alloc: Global, bytes: &[u8]) -> Result<Table, TableRefusal>
     ensures loaded { IfOk result (LoadsTable bytes.now) }
+    ensures unique { IfOk result (λ table. (other : NamedRows) → LoadsTable bytes.now other → other ≡ table) }
     ensures refused { IfErr result (RefusesTable bytes.now) }
 {
     let mut reader = ReaderBuilder::new()
         .has_headers(false)
         .flexible(true)
         .from_reader(alloc, bytes);
-    let mut record = ByteRecord::new(alloc);
-    if !read_record(&mut reader, &mut record)? {
+    let mut fields = ByteRecord::new(alloc);
+    if !read_record(&mut reader, &mut fields)? {
         return Err(TableRefusal::NotThisForm);
     }
-    let mut table = table_under(alloc, &record)?;
-    read_rows(&mut reader, &mut record, &mut table)?;
+    let mut table = table_under(alloc, &fields)?;
+    read_rows(&mut reader, &mut fields, &mut table)?;
     Ok(table)
 }
 
 // Reads the next record, if there is one.
 //
 // A slice never fails to be read, and a record may have any length, so what fails is memory.
-fn read_record(reader: &mut Reader<&[u8]>, record: &mut ByteRecord) -> Result<bool, TableRefusal>
+fn read_record(reader: &mut Reader<&[u8]>, fields: &mut ByteRecord) -> Result<bool, TableRefusal>
     requires { IsReading reader.old }
     ensures reading { IfOk result (λ found. IsTrue found → IsReading reader.new) }
-    ensures found { IfOk result (λ found. records_left reader.old ≡ (if found then fields_of record.new ∷ records_left reader.new else [])) }
+    ensures found { IfOk result (λ found. records_left reader.old ≡ (if found then fields_of fields.new ∷ records_left reader.new else [])) }
     ensures refused { IfErr result (λ refusal. refusal ≡ TableRefusal.OutOfMemory) }
 {
     reader
-        .read_byte_record(record)
+        .read_byte_record(fields)
         .map_err(|_| TableRefusal::OutOfMemory)
 }
 
@@ -90,7 +92,7 @@ fn parse_name(alloc: Global, field: &[u8]) -> Result<ColumnName, TableRefusal>
 // Adds the rows that the records left in a reader write.
 fn read_rows(
     reader: &mut Reader<&[u8]>,
-    record: &mut ByteRecord,
+    fields: &mut ByteRecord,
     table: &mut Table,
 ) -> Result<(), TableRefusal>
     requires { IsReading reader.old }
@@ -99,23 +101,23 @@ fn read_rows(
 {
     let mut values = [0; MAX_COLUMNS];
     let row = &mut values[..table.cols() as usize];
-    while read_record(reader, record)? {
-        parse_row(record, row)?;
+    while read_record(reader, fields)? {
+        parse_row(fields, row)?;
         table.push_row(row)?;
     }
     Ok(())
 }
 
 // Fills a row with the values of a record that has as many.
-fn parse_row(record: &ByteRecord, row: &mut [i64]) -> Result<(), TableRefusal>
-    ensures ok { OnOk result (IsRow (length row.old) (fields_of record.now) × (row.new ≡ map number_of (fields_of record.now))) }
-    ensures refused { IfErr result (λ refusal. (refusal ≡ TableRefusal.NotThisForm) × ¬ (IsRow (length row.old) (fields_of record.now))) }
+fn parse_row(fields: &ByteRecord, row: &mut [i64]) -> Result<(), TableRefusal>
+    ensures ok { OnOk result (IsRow (length row.old) (fields_of fields.now) × (row.new ≡ map number_of (fields_of fields.now))) }
+    ensures refused { IfErr result (λ refusal. (refusal ≡ TableRefusal.NotThisForm) × ¬ (IsRow (length row.old) (fields_of fields.now))) }
 {
-    if record.len() != row.len() {
+    if fields.len() != row.len() {
         return Err(TableRefusal::NotThisForm);
     }
     for (place, value) in row.iter_mut().enumerate() {
-        let field = record.get(place).ok_or(TableRefusal::NotThisForm)?;
+        let field = fields.get(place).ok_or(TableRefusal::NotThisForm)?;
         *value = parse_value(field).ok_or(TableRefusal::NotThisForm)?;
     }
     Ok(())

@@ -41,9 +41,8 @@ impl From<ShapeRefusal> for TableRefusal {
 
     fn from(cause: ShapeRefusal) -> TableRefusal {
         match cause {
-            ShapeRefusal::NoColumns
-            | ShapeRefusal::TooManyColumns
-            | ShapeRefusal::TwiceNamed(_) => TableRefusal::NotThisForm,
+            ShapeRefusal::NoColumns | ShapeRefusal::TooManyColumns | ShapeRefusal::TwiceNamed(_) =>
+                TableRefusal::NotThisForm,
             ShapeRefusal::OutOfMemory => TableRefusal::OutOfMemory,
         }
     }

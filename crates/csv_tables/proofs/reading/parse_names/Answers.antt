@@ -17,8 +17,8 @@ returns-in_err-parse_name-clause-refused c =
     let at = c.loop-field.field-iterator.at in
     let there : field_at fields at ≡ Some c.in-Some.field.now = ap (λ row. field_at (fields_of row) at) (sym c.loop-field.invariant.row) ∙ sym c.in-Some.ensures.steps.1 in
     rw (p.1, p.2) (λ e legal.
-      let same : c.in_err-parse_name.field-0.0 ≡ NotThisForm = cc in
-      c.in_err-parse_name.ensures.refused (ap (λ refusal. Err refusal) same) (subst IsName (field-get fields at c.in-Some.field.now there) (legal at [] (field_within fields at c.in-Some.field.now there))))
+    let same : c.in_err-parse_name.field-0.0 ≡ NotThisForm = cc in
+    c.in_err-parse_name.ensures.refused (ap (λ refusal. Err refusal) same) (subst IsName (field-get fields at c.in-Some.field.now there) (legal at [] (field_within fields at c.in-Some.field.now there))))
 
 pub loop-field-preserved : goal.loop-field-preserved
 loop-field-preserved c =

@@ -1,4 +1,4 @@
-use Rattle.std.proofs.Common.{◌≡◌, ◌<◌, ◌∙◌, ◌++◌, ◌∷◌, [], All, Some, ap, arith, get_or, length, map, option_map, subst, sym, take, to_z, of_z, w64, FitsSigned}
+use Rattle.std.proofs.Common.{◌<◌, ◌∙◌, ◌++◌, ◌∷◌, [], All, ap, arith, get_or, length, map, option_map, subst, sym, take, to_z, of_z, w64, FitsSigned}
 use Rattle.std.proofs.lemmas.Int.{to_z-of_z}
 use Rattle.std.proofs.lemmas.List.{length-set, map-append, take_more, take_more_set}
 use Rattle.std.proofs.lemmas.List.Elements.{All-push}
@@ -10,12 +10,12 @@ use Rattle.csv_tables.proofs.reading.parse_row.Goals as goal
 
 pub returns-in_err-field-clause-refused : goal.returns-in_err-field-clause-refused
 returns-in_err-field-clause-refused c =
-    absurd (field-there (fields_of c.args.record.now) c.loop-place.place (omega (arith, c.loop-place.invariant.width)) (sym c.get.ensures.value ∙ ap (option_map (λ s. s.now)) c.in_err-field.ensures.ok_part))
+    absurd (field-there (fields_of c.args.fields.now) c.loop-place.place (omega (arith, c.loop-place.invariant.width)) (sym c.get.ensures.value ∙ ap (option_map (λ s. s.now)) c.in_err-field.ensures.ok_part))
 
 pub returns-in_err-value-clause-refused : goal.returns-in_err-value-clause-refused
 returns-in_err-value-clause-refused c =
     let p = err_from_is_err_and c.from_residual-in_err-value.result c.from_residual-in_err-value.ensures.1 in
-    let fields = fields_of c.args.record.now in
+    let fields = fields_of c.args.fields.now in
     let here = field-get fields c.loop-place.place c.in_ok-field.field.now (sym c.get.ensures.value ∙ ap (option_map (λ s. s.now)) c.in_ok-field.ensures.ok_part) in
     let refused = rw c.in_err-value.ensures.ok_part at c.in_err-value.ensures.value in
     let none = rw c.in_err-value.ensures.ok_part at c.parse_value.ensures.none in
@@ -23,7 +23,7 @@ returns-in_err-value-clause-refused c =
 
 pub loop-place-preserved : goal.loop-place-preserved
 loop-place-preserved c =
-    let fields = fields_of c.args.record.now in
+    let fields = fields_of c.args.fields.now in
     let place = c.loop-place.place in
     let row = c.loop-place.row in
     let read = c.in_ok-value.field-0 in

@@ -5,7 +5,7 @@ use Rattle.csv_tables.proofs.reading.parse_row.Given as goal
 
 abbrev pub invariant-loop-place : goal.invariant-loop-place
 invariant-loop-place l = record {
-  width : length l.row ≡ length (fields_of l.record);
-  values : All IsValue (take l.place (fields_of l.record));
-  row : take l.place l.row ≡ map number_of (take l.place (fields_of l.record));
+  width : length l.row ≡ length (fields_of l.fields);
+  values : All IsValue (take l.place (fields_of l.fields));
+  row : take l.place l.row ≡ map number_of (take l.place (fields_of l.fields));
 }

@@ -4,9 +4,9 @@ use Rattle.csv_tables.specs.Loading.{GrowsBy}
 use Rattle.csv_tables.specs.Reading.{IsReading, records_left}
 use Rattle.csv_tables.proofs.reading.read_rows.Given as goal
 
-abbrev pub invariant-loop-record : goal.invariant-loop-record
-invariant-loop-record l =
+abbrev pub invariant-loop-fields : goal.invariant-loop-fields
+invariant-loop-fields l =
     (done : List (List (List ℕ))) × IsReading l.reader × (records_left l.fn.reader ≡ done ++ records_left l.reader) × GrowsBy l.fn.table done l.table × (length l.row ≡ length l.fn.table.names)
 
-abbrev pub decreases-loop-record : goal.decreases-loop-record
-decreases-loop-record l = MAX_ROWS - length l.table.rows
+abbrev pub decreases-loop-fields : goal.decreases-loop-fields
+decreases-loop-fields l = MAX_ROWS - length l.table.rows

@@ -1,0 +1,2 @@
+pub mod OneSum
+pub mod Places

@@ -1,0 +1,4 @@
+pub mod Answer
+pub mod Checks
+pub mod Names
+pub mod Subject

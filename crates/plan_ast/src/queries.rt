@@ -1,0 +1,108 @@
+// Queries as a script has them, and the tables that they name.
+ghost use Rattle.plan_ast.specs.Checks.{IsOneSum, Sums};
+
+use col_table::{ListOf, Name, Table, Text};
+
+/// A column of one of a query's tables. Side 0 is the scanned table, side j the table of join j.
+#[derive(Clone, Debug, Drop)]
+pub struct NameRef {
+    pub side: u32,
+    pub name: Name,
+}
+
+/// How a filter compares a column's value with its own.
+#[derive(Clone, Copy, Debug, PartialEq, Eq)]
+pub enum Op {
+    Eq,
+    Ne,
+    Lt,
+    Le,
+    Gt,
+    Ge,
+}
+
+/// Lets the rows of a table pass whose value in `column` stands in the relation `op` to `value`.
+#[derive(Clone, Debug, Drop)]
+pub struct Filter {
+    pub column: Name,
+    pub op: Op,
+    pub value: i64,
+}
+
+/// Joins the rows of `table` that pass `filters` and whose value in `right` is the value of `left` so far.
+#[derive(Clone, Debug, Drop)]
+pub struct Join {
+    pub table: Name,
+    pub left: NameRef,
+    pub right: Name,
+    pub filters: ListOf<Filter>,
+}
+
+/// What an aggregate makes of the values of a column.
+#[derive(Clone, Copy, Debug, PartialEq, Eq)]
+pub enum Func {
+    Count,
+    Sum,
+    Min,
+    Max,
+}
+
+/// An aggregate. It has no column exactly where it counts.
+#[derive(Clone, Debug, Drop)]
+pub struct Agg {
+    pub func: Func,
+    pub column: Option<NameRef>,
+}
+
+/// What a query puts out of its joined rows: these columns of each, totals over all, or totals for each key.
+#[derive(Clone, Debug, Drop)]
+pub enum Output {
+    Rows(ListOf<NameRef>),
+    Totals(ListOf<Agg>),
+    Groups {
+        by: ListOf<NameRef>,
+        aggs: ListOf<Agg>,
+    },
+}
+
+/// A query over one scanned table and the tables of its joins.
+#[derive(Clone, Debug, Drop)]
+pub struct Query {
+    /// How many task sets must be done before the query arrives: 0 to 16,384.
+    pub after: u32,
+
+    /// Its share of the workers' time: 1 to 10.
+    pub weight: u32,
+
+    /// The cost of one tuple, in nanoseconds: 1 to 1,000,000.
+    pub cost: u32,
+
+    pub scan: Name,
+    pub filters: ListOf<Filter>,
+    pub joins: ListOf<Join>,
+    pub output: Output,
+}
+
+impl Query {
+    // The column that a query of one sum adds up.
+    pub(crate) fn summed_column(&self) -> &Name
+        requires { IsOneSum self.now }
+        ensures { Sums self.now result.now }
+    {
+        let Output::Totals(aggs) = &self.output else {
+            unreachable!();
+        };
+        let Some(column) = &aggs.as_slice()[0].column else {
+            unreachable!();
+        };
+        &column.name
+    }
+}
+
+/// A table, with the name that queries give it and the file that it was read from.
+#[derive(Debug, Drop)]
+pub struct NamedTable {
+    pub name: Name,
+    pub file: Text,
+    pub table: Table,
+}

@@ -1,2 +1,3 @@
 pub mod OneSum
 pub mod Places
+pub mod Summed

@@ -1,5 +1,5 @@
 -- The names of a query of one sum. Its scanned table stands at `place`, and `other` is any table.
-use Rattle.std.proofs.Common.{◌≡◌, ℕ, ◌<◌, List, [], ◌∷◌, length, get_or, slice_get, not, is_some, cond, Option, Some, None, option_map, filter_map, find, refl, sym, ap, ◌∙◌, subst}
+use Rattle.std.proofs.Common.{◌≡◌, ℕ, ◌<◌, List, [], ◌∷◌, length, get_or, not, is_some, cond, Option, Some, None, option_map, filter_map, find, sym, ap, ◌∙◌, subst}
 use Rattle.std.proofs.lemmas.List.Quantifiers.{position-Some}
 use Rattle.std.proofs.lemmas.Option.{slice_get-get_or}
 use Rattle.std.specs.List.{cons_option}
@@ -11,10 +11,10 @@ use Rattle.plan_ast.specs.declared.checks.PlanRefusal.{PlanRefusal}
 use Rattle.plan_ast.specs.declared.checks.PlanRefusal.TheVariants.{UnknownColumn}
 
 -- the mention of the column that is added up
-abbrev summed : Query → List ℕ → Mention
+abbrev pub summed : Query → List ℕ → Mention
 summed query column = of_column (query.scan ∷ []) (record { side = 0; name = column })
 
-mentions_of-Sums : (query : Query) (column : List ℕ) → Sums query column → mentions_of query ≡ of_table query.scan ∷ summed query column ∷ []
+pub mentions_of-Sums : (query : Query) (column : List ℕ) → Sums query column → mentions_of query ≡ of_table query.scan ∷ summed query column ∷ []
 mentions_of-Sums query column sums = rw (sums.filters, sums.joins, sums.output)
 
 pub table_named-at : (tables : List NamedTable) (name : List ℕ) (place : ℕ) (other : NamedTable) → Some place ≡ table_place tables name → table_named tables name ≡ (get_or tables place other).table

@@ -1,12 +1,11 @@
 -- Where a column stands by its name.
-use Rattle.std.proofs.Common.{◌≡◌, ℕ, ◌<◌, ◌≤◌, List, [], ◌∷◌, length, get_or, slice_get, Bool, true, false, cond, Option, Some, None, Contains, bytes_eq, position, ltb, refl, sym, ap, ◌∙◌, subst, arith, true≢false}
+use Rattle.std.proofs.Common.{◌≡◌, ℕ, ◌<◌, List, [], length, get_or, slice_get, Bool, true, false, cond, Some, None, Contains, bytes_eq, position, ltb, refl, sym, ◌∙◌, arith}
 use Rattle.std.proofs.lemmas.Bool.{lt-ltb, ltb-true}
 use Rattle.std.proofs.lemmas.List.Sums.{position_or_len_is, passes_at_first}
 use Rattle.std.proofs.lemmas.Option.{slice_get_within, get_or_from_slice_get}
 use Rattle.std.proofs.lemmas.Slice.Eq.{bytes_eq-Decides}
 use Rattle.std.specs.List.{position_or_len}
-use Rattle.col_table.specs.NamedRows.{NamedRows, AllDiffer}
-use Rattle.plan_ast.specs.Names.{column_place}
+use Rattle.col_table.specs.NamedRows.{AllDiffer}
 
 differ : (xs ys : List ℕ) (b : Bool) → bytes_eq xs ys ≡ b → (xs ≡ ys → ⊥) → b ≡ false
 differ xs ys true e apart = absurd (apart ((bytes_eq-Decides xs ys).0 e))

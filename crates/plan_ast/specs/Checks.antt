@@ -1,7 +1,6 @@
 -- Checked queries.
 use Rattle.std.specs.Prelude.{◌≡◌, ℕ, List, [], ◌∷◌, Some, filter_map}
 use Rattle.plan_ast.specs.Names.{table_place, column_number, mentions_of}
-use Rattle.plan_ast.specs.declared.queries.NameRef.{NameRef}
 use Rattle.plan_ast.specs.declared.queries.Func.TheVariants.{Sum}
 use Rattle.plan_ast.specs.declared.queries.Output.TheVariants.{Totals}
 use Rattle.plan_ast.specs.declared.queries.NamedTable.{NamedTable}
@@ -21,10 +20,6 @@ IsOneSum query = (column : List ℕ) × Sums query column
 -- the query of a checked query
 abbrev pub query_of : Checked → Query
 query_of checked = checked.query
-
--- the number of the column that it adds up
-abbrev pub summed_column_of : Checked → ℕ
-summed_column_of checked = checked.summed
 
 -- what `check` gives: each table and each column that the query mentions stands at its number
 pub record IsCheckedFor (tables : List NamedTable) (checked : Checked) : Type 0 where

@@ -1,6 +1,6 @@
 -- The names in a query, and which of them are there.
-use Rattle.std.specs.Prelude.{◌≡◌, ℕ, List, [], ◌∷◌, ◌++◌, map, length, take, Bool, not, is_some, Option, Some, None, option_map, option_and_then, flat_map, find, position, bytes_eq, slice_get, slice_index_or}
-use Rattle.std.specs.List.{enumerate_from, cons_option}
+use Rattle.std.specs.Prelude.{ℕ, List, [], ◌∷◌, ◌++◌, map, Bool, not, is_some, Option, None, option_map, option_and_then, find, position, bytes_eq, slice_get}
+use Rattle.std.specs.List.{cons_option}
 use Rattle.std.specs.Option.{option_map_or}
 use Rattle.col_table.specs.NamedRows.{NamedRows, no_rows}
 use Rattle.plan_ast.specs.declared.queries.NameRef.{NameRef}

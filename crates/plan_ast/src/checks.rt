@@ -1,10 +1,11 @@
 // The check of a query against its tables.
 ghost use Rattle.std.specs.Prelude.{◌≡◌, ◌⊎◌, IfErr, IfOk, None, OnOk, Some};
-ghost use Rattle.plan_ast.specs.Names.{column_place, refusal_of, table_named, table_place};
-ghost use Rattle.plan_ast.specs.Checks.{IsCheckedFor, IsOneSum, query_of, summed_column_of};
+ghost use Rattle.plan_ast.specs.Answer.{answer_of, sum_of};
+ghost use Rattle.plan_ast.specs.Names.{refusal_of, table_place};
+ghost use Rattle.plan_ast.specs.Checks.{IsCheckedFor, IsOneSum, query_of};
 
 use crate::queries::{NamedTable, Query};
-use col_table::{Name, Table};
+use col_table::Name;
 use std::alloc::{AllocError, Global};
 
 /// Why a query cannot be answered over its tables.
@@ -46,19 +47,15 @@ impl Checked {
         &self.query
     }
 
-    /// The scanned table, among the tables for which the query was checked. It takes no memory.
-    pub fn scanned<'a>(&self, tables: &'a [NamedTable]) -> &'a Table
-        requires { IsCheckedFor tables.now self.now }
-        ensures { result.now ≡ table_named tables.now (query_of self.now).scan }
+    /// The values that the query adds up: one for each row of the scanned table, in order and side by side.
+    ///
+    /// `tables` are those for which the query was checked. It takes no memory.
+    pub fn summed_values<'a>(&self, tables: &'a [NamedTable]) -> &'a [i64]
+        requires one_sum { IsOneSum (query_of self.now) }
+        requires checked { IsCheckedFor tables.now self.now }
+        ensures { answer_of tables.now (query_of self.now) ≡ sum_of result.now }
     {
-        &tables[self.scanned].table
-    }
-
-    /// The number of the column that the query adds up, in the scanned table. It takes no memory.
-    pub fn summed_column(&self) -> u32
-        ensures { result ≡ summed_column_of self.now }
-    {
-        self.summed
+        tables[self.scanned].table.column(self.summed)
     }
 }
 
@@ -101,7 +98,7 @@ fn find_table(tables: &[NamedTable], name: &Name) -> Option<usize>
 mod tests {
     use super::*;
     use crate::queries::{Agg, Func, NameRef, Output};
-    use col_table::{ListOf, Text};
+    use col_table::{ListOf, Table, Text};
     use std::process::Abort;
     use std::test::Fail;
 
@@ -109,10 +106,14 @@ mod tests {
         Ok(Name::new(String::from_str(rt.alloc(), text)?).expect(rt, "a name"))
     }
 
-    // The table `t` with the columns `k` and `v`.
+    // The table `t` with the columns `k` and `v` and two rows.
     fn tables(rt: &(impl Abort + AllocGlobal)) -> Result<Vec<NamedTable>, Fail> {
         let names = vec![in rt.alloc(); name(rt, "k")?, name(rt, "v")?]?;
-        let table = Table::new(rt.alloc(), names).expect(rt, "a table");
+        let mut table = Table::new(rt.alloc(), names).expect(rt, "a table");
+        for row in [[1, 10], [2, -5]] {
+            assert!(rt; table.cols() == 2);
+            table.push_row(&row).expect(rt, "a row");
+        }
         let named = NamedTable {
             name: name(rt, "t")?,
             file: Text::of(String::from_str(rt.alloc(), "t.csv")?),
@@ -152,7 +153,10 @@ mod tests {
             &rt,
             "all names are there",
         );
-        assert_eq!(rt; checked.summed_column(), 1);
+        assert_eq!(rt;
+            checked.summed_values(tables.as_slice()),
+            [10, -5].as_slice()
+        );
         assert_eq!(rt; checked.query().scan.as_str(), "t");
         assert_eq!(rt; checked.query().cost, 100);
         Ok(())

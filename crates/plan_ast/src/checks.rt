@@ -176,7 +176,8 @@ mod tests {
                     "column {}",
                     name.as_str()
                 )?,
-                _ => String::new(rt.alloc()),
+                Err(PlanRefusal::OutOfMemory) => String::new(rt.alloc()),
+                Ok(_checked) => String::new(rt.alloc()),
             };
             assert_eq!(rt; told.as_str(), missing);
         }

@@ -3,7 +3,7 @@ ghost use Rattle.plan_ast.specs.Checks.{IsOneSum, Sums};
 
 use col_table::{ListOf, Name, Table, Text};
 
-/// A column of one of a query's tables. Side 0 is the scanned table, side j the table of join j.
+/// A column of one of a query's tables. Side 0 is the scanned table, and side j, 1 or 2, the table of join j.
 #[derive(Clone, Debug, Drop)]
 pub struct NameRef {
     pub side: u32,
@@ -29,7 +29,8 @@ pub struct Filter {
     pub value: i64,
 }
 
-/// Joins the rows of `table` that pass `filters` and whose value in `right` is the value of `left` so far.
+/// Joins the rows of `table` that pass `filters` and whose value in `right` is that of the column `left`, which
+/// is of a side before.
 #[derive(Clone, Debug, Drop)]
 pub struct Join {
     pub table: Name,
@@ -77,9 +78,16 @@ pub struct Query {
     /// The cost of one tuple, in nanoseconds: 1 to 1,000,000.
     pub cost: u32,
 
+    /// The table whose rows are scanned.
     pub scan: Name,
+
+    /// What its rows must pass: 0 to 16 filters.
     pub filters: ListOf<Filter>,
+
+    /// The tables that are joined to it, one after another: 0 to 2.
     pub joins: ListOf<Join>,
+
+    /// 1 to 8 columns or aggregates, and for groups 1 or 2 columns of the key.
     pub output: Output,
 }
 

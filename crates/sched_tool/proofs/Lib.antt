@@ -1,0 +1,9 @@
+mod CompletenessLemmas
+mod EndingsLemmas
+mod FaultsLemmas
+mod OutcomesLemmas
+mod PrintedLemmas
+mod QueriesLemmas
+mod ScriptsLemmas
+mod SubjectsLemmas
+mod UniqueLemmas

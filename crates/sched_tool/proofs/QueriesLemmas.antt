@@ -1,0 +1,72 @@
+-- Queries one after another.
+use Rattle.std.proofs.Common.{◌≡◌, ℕ, zero, suc, ◌+◌, ◌<◌, List, [], ◌∷◌, ◌++◌, length, map, take, get_or, All, Some, None, sym, ap, ◌∙◌, subst, inl, inr, ◌⊎◌, arith}
+use Rattle.std.specs.List.{enumerate_from}
+use Rattle.std.proofs.lemmas.List.{get_or-map, length-map, length-take-le, map-append, take_more}
+use Rattle.std.proofs.lemmas.List.Elements.{All-append}
+use Rattle.std.proofs.lemmas.Option.{slice_get-get_or}
+use Rattle.plan_ast.specs.Answer.{answer_of}
+use Rattle.plan_ast.specs.Checks.{query_of}
+use Rattle.plan_ast.specs.Names.{refusal_of}
+use Rattle.plan_ast.specs.Subject.{Subject}
+use Rattle.plan_ast.specs.declared.checks.Checked.{Checked}
+use Rattle.plan_ast.specs.declared.checks.PlanRefusal.{PlanRefusal}
+use Rattle.plan_ast.specs.declared.checks.PlanRefusal.TheVariants.{UnknownTable, UnknownColumn, OutOfMemory}
+use Rattle.plan_ast.specs.declared.queries.NamedTable.{NamedTable}
+use Rattle.plan_ast.specs.declared.queries.Query.{Query}
+use Rattle.sched_tool.specs.Openings.{IsQueryRefused, query_refusal}
+use Rattle.sched_tool.specs.Outcomes.{replies_of}
+use Rattle.sched_tool.specs.Subjects.{AllFound}
+use Rattle.sched_tool.specs.declared.answers_text.QueryReply.{QueryReply}
+use Rattle.sched_tool.specs.declared.answers_text.Reply.TheVariants.{Answer}
+
+All-one : {X : Type 0} (P : X → Type 0) (x : X) → P x → All P (x ∷ [])
+All-one P x p zero d short = p
+All-one P x p (suc k) d short = absurd (omega arith)
+
+-- one more element
+pub All-push : {X : Type 0} (P : X → Type 0) (xs : List X) (x : X) → All P xs → P x → All P (xs ++ x ∷ [])
+All-push P xs x all p = All-append P xs (x ∷ []) all (All-one P x p)
+
+-- the queries checked so far, and the next
+pub same_more : (queries : List Query) (all : List Checked) (checked : Checked) (number : ℕ) (query : Query) → number < length queries → query ≡ get_or queries number query → map query_of all ≡ take number queries → query_of checked ≡ query → map query_of (all ++ checked ∷ []) ≡ take (number + 1) queries
+same_more queries all checked number query short is before same =
+    map-append query_of all (checked ∷ []) ∙ ap (λ v. v ++ query_of checked ∷ []) before ∙ ap (λ v. take number queries ++ v ∷ []) (same ∙ is) ∙ sym (take_more queries number query short)
+
+-- the queries whose names were found so far, and the next
+pub AllFound-more : (tables : List NamedTable) (queries : List Query) (number : ℕ) (query : Query) → number < length queries → query ≡ get_or queries number query → AllFound tables (take number queries) → refusal_of tables query ≡ None → AllFound tables (take (number + 1) queries)
+AllFound-more tables queries number query short is before found =
+    let P : Query → Type 0 = λ q. refusal_of tables q ≡ None in
+    subst (All P) (ap (λ q. take number queries ++ q ∷ []) is ∙ sym (take_more queries number query short)) (All-push P (take number queries) query before found)
+
+-- the first query that is refused
+pub IsQueryRefused-first : (subject : Subject) (number : ℕ) (query : Query) (refusal : PlanRefusal) → number < length subject.queries → query ≡ get_or subject.queries number query → AllFound subject.tables (take number subject.queries) → ((refusal ≡ OutOfMemory) ⊎ (refusal_of subject.tables query ≡ Some refusal)) → IsQueryRefused subject (query_refusal number refusal)
+IsQueryRefused-first subject number query (UnknownTable name) short is first (inl e) = absurd (cc)
+IsQueryRefused-first subject number query (UnknownTable name) short is first (inr e) = record { query = query; is = slice_get-get_or subject.queries number query short ∙ ap (λ v. Some v) (sym is); refused = e; first = first }
+IsQueryRefused-first subject number query (UnknownColumn name) short is first (inl e) = absurd (cc)
+IsQueryRefused-first subject number query (UnknownColumn name) short is first (inr e) = record { query = query; is = slice_get-get_or subject.queries number query short ∙ ap (λ v. Some v) (sym is); refused = e; first = first }
+IsQueryRefused-first subject number query OutOfMemory short is first e = tt
+
+-- the queries of checked queries have a form that all queries have
+pub All-query_of : (P : Query → Type 0) (all : List Checked) (queries : List Query) → map query_of all ≡ queries → All P queries → All (λ c. P (query_of c)) all
+All-query_of P all queries same form k d short =
+    let count : length all ≡ length queries = sym (length-map all query_of) ∙ ap length same in
+    let at : get_or queries k (query_of d) ≡ query_of (get_or all k d) = ap (λ v. get_or v k (query_of d)) (sym same) ∙ get_or-map query_of all k d (query_of d) short in
+    subst P at (form k (query_of d) (omega arith))
+
+-- one more query is numbered by the count of those before it
+enumerate_from-push : {X : Type 0} (n : ℕ) (xs : List X) (x : X) → enumerate_from n (xs ++ x ∷ []) ≡ enumerate_from n xs ++ (n + length xs, x) ∷ []
+enumerate_from-push n [] x = ap (λ k. (k, x) ∷ []) (omega arith)
+enumerate_from-push n (y ∷ xs) x = ap (λ v. (n, y) ∷ v) (enumerate_from-push (n + 1) xs x ∙ ap (λ k. enumerate_from (n + 1) xs ++ (k, x) ∷ []) (omega arith))
+
+-- the replies so far, and the next
+pub replies_of-more : (tables : List NamedTable) (all : List Checked) (number : ℕ) (checked : Checked) (reply : QueryReply) → number < length all → checked ≡ get_or all number checked → reply ≡ record { query = number; reply = Answer (answer_of tables (query_of checked)) } → replies_of (record { tables = tables; queries = map query_of (take number all) }) ++ reply ∷ [] ≡ replies_of (record { tables = tables; queries = map query_of (take (number + 1) all) })
+replies_of-more tables all number checked reply short is replied =
+    let numbered : ℕ × Query → QueryReply = λ q. record { query = q.0; reply = Answer (answer_of tables q.1) } in
+    let before = map query_of (take number all) in
+    let count : 0 + length before ≡ number = omega (arith, length-map (take number all) query_of, length-take-le number all (omega arith)) in
+    let queries : map query_of (take (number + 1) all) ≡ before ++ query_of checked ∷ [] = ap (map query_of) (take_more all number checked short) ∙ map-append query_of (take number all) (get_or all number checked ∷ []) ∙ ap (λ c. before ++ query_of c ∷ []) (sym is) in
+    let said : reply ≡ numbered (0 + length before, query_of checked) = replied ∙ ap (λ k. numbered (k, query_of checked)) (sym count) in
+    ap (λ r. map numbered (enumerate_from 0 before) ++ r ∷ []) said
+    ∙ sym (map-append numbered (enumerate_from 0 before) ((0 + length before, query_of checked) ∷ []))
+    ∙ ap (map numbered) (sym (enumerate_from-push 0 before (query_of checked)))
+    ∙ ap (λ v. map numbered (enumerate_from 0 v)) (sym queries)

@@ -1,0 +1,10 @@
+pub mod Answers
+pub mod Commands
+pub mod Endings
+pub mod ErrorLines
+pub mod Openings
+pub mod Outcomes
+pub mod Scripts
+pub mod Subjects
+pub mod Told
+pub mod Words

@@ -1,0 +1,114 @@
+//! The command `check`: the answers to the queries of a script, one after another.
+ghost use Rattle.std.specs.Prelude.{◌≡◌, ◌≤◌, ℕ, List, All, Some, Err, IfErr, IfOk, OnOk, length, map};
+ghost use Rattle.std.specs.List.{enumerate_from};
+ghost use Rattle.outside_io.specs.Faults.{Grew, NameFailed};
+ghost use Rattle.plan_ast.specs.Checks.{IsCheckedFor, IsOneSum, query_of};
+ghost use Rattle.sched_tool.specs.Answers.{CanBePrinted};
+ghost use Rattle.sched_tool.specs.Told.{MayHold};
+ghost use Rattle.sched_tool.specs.Subjects.{AllFound};
+ghost use Rattle.sched_tool.specs.Openings.{IsQueryRefused, query_refusal};
+ghost use Rattle.sched_tool.specs.Outcomes.{IsCheckRefused, Answers, check_text, replies_of};
+ghost use Rattle.sched_tool.specs.Words.{check as asks_check};
+
+use super::answers_text::{QueryReply, Reply, answers_text};
+use super::plain_answer::plain_answer;
+use super::read_script::Script;
+use super::refusal::{Refusal, ScriptFault};
+use super::subject::{open_script, open_tables};
+use outside_io::Files;
+use plan_ast::{Checked, NamedTable, PlanRefusal, Query, check};
+use std::alloc::{AllocError, Global};
+
+/// The text of `check` for the script in a file: the answer to each query, and `end`.
+///
+/// The script is read first, then each of its tables; then each query is checked, and last each is answered.
+/// The first refusal ends it.
+pub fn check_script<F: Files>(alloc: Global, files: &mut F, file: &str) -> Result<Vec<u8>, Refusal>
+    ensures kept { (any : List ℕ) → F.content files.new any ≡ F.content files.old any }
+    ensures grew { Grew (F.failed files.old) (F.failed files.new) }
+    ensures ok { IfOk result (λ text. Answers (MayHold (F.content files.old)) (Some (asks_check file.now)) text.items) }
+    ensures err { IfErr result (IsCheckRefused (MayHold (F.content files.old)) file.now) }
+    ensures fault { (name : List ℕ) → result ≡ Err (Refusal.CannotRead name) →
+        NameFailed (F.failed files.old) (F.failed files.new) name }
+{
+    let Script { tables, queries } = open_script(alloc, files, file)?;
+    let tables = open_tables(alloc, files, tables)?;
+    let checked = check_queries(alloc, tables.as_slice(), queries.as_slice())?;
+    Ok(text_of(alloc, tables.as_slice(), checked.as_slice())?)
+}
+
+// Checks each query against the tables, in order.
+fn check_queries(
+    alloc: Global,
+    tables: &[NamedTable],
+    queries: &[Query],
+) -> Result<Vec<Checked>, Refusal>
+    requires form { All IsOneSum queries.now }
+    requires few { length queries.now ≤ 4096 }
+    ensures same { IfOk result (λ checked. map query_of checked.items ≡ queries.now) }
+    ensures placed { IfOk result (λ checked. All (IsCheckedFor tables.now) checked.items) }
+    ensures found { OnOk result (AllFound tables.now queries.now) }
+    ensures err { IfErr result (IsQueryRefused (record { tables = tables.now; queries = queries.now })) }
+{
+    let mut all = Vec::with_capacity(alloc, queries.len())?;
+    for (number, query) in queries.iter().enumerate() {
+        match check(alloc, query, tables) {
+            Ok(checked) => all.push(checked)?,
+            Err(refusal) => return Err(refusal_of_query(number as u32, refusal)),
+        }
+    }
+    Ok(all)
+}
+
+// The refusal of a command that a refused query brings.
+fn refusal_of_query(query: u32, refusal: PlanRefusal) -> Refusal
+    ensures { result ≡ query_refusal query refusal }
+{
+    match refusal {
+        PlanRefusal::UnknownTable(name) => Refusal::Script(ScriptFault::UnknownTable {
+            query,
+            name,
+        }),
+        PlanRefusal::UnknownColumn(name) => Refusal::Script(ScriptFault::UnknownColumn {
+            query,
+            name,
+        }),
+        PlanRefusal::OutOfMemory => Refusal::OutOfMemory,
+    }
+}
+
+// Answers each query, and writes the answers out.
+fn text_of(alloc: Global, tables: &[NamedTable], checked: &[Checked]) -> Result<Vec<u8>, AllocError>
+    requires placed { All (IsCheckedFor tables.now) checked.now }
+    requires form { All (λ c. IsOneSum (query_of c)) checked.now }
+    requires few { length checked.now ≤ 4096 }
+    ensures { IfOk result (λ text. text.items ≡ check_text (record { tables = tables.now; queries = map query_of checked.now })) }
+{
+    let replies = answer_queries(alloc, tables, checked)?;
+    let mut text = answers_text(alloc, replies.as_slice())?;
+    text.extend_from_slice(b"end\n")?;
+    Ok(text)
+}
+
+// Answers each query, in order.
+fn answer_queries(
+    alloc: Global,
+    tables: &[NamedTable],
+    checked: &[Checked],
+) -> Result<Vec<QueryReply>, AllocError>
+    requires placed { All (IsCheckedFor tables.now) checked.now }
+    requires form { All (λ c. IsOneSum (query_of c)) checked.now }
+    requires few { length checked.now ≤ 4096 }
+    ensures answers { IfOk result (λ replies. replies.items
+        ≡ replies_of (record { tables = tables.now; queries = map query_of checked.now })) }
+    ensures printed { IfOk result (λ replies. All CanBePrinted replies.items) }
+{
+    let mut replies = Vec::with_capacity(alloc, checked.len())?;
+    for (query, checked) in checked.iter().enumerate() {
+        replies.push(QueryReply {
+            query: query as u32,
+            reply: Reply::Answer(plain_answer(alloc, checked, tables)?),
+        })?;
+    }
+    Ok(replies)
+}

@@ -1,0 +1,100 @@
+-- What places and notes say of the cells of a slot, before and after a call.
+use Rattle.std.proofs.Common.{◌≡◌, ◌≢◌, ℕ, ◌<◌, ◌⊎◌, Bool, true, false, cond, eqb, List, Option, refl, sym, ap, ◌∙◌, subst, inl, inr, ⊎_elim, eq-eqb, ne_eqb}
+use mathlib.Core.Logic.{dite}
+use mathlib.Core.Bool.{true≢false}
+use native.Mathlib.Decide.{ℕ_discrete}
+use Rattle.slot_history.specs.declared.shape.Shape.{Shape}
+use Rattle.slot_history.specs.declared.act.Act.{Act}
+use Rattle.slot_history.specs.declared.act.Act.TheVariants.{LookOpen, ClaimRange, PayLast, SweepLast, ReserveGot}
+use Rattle.slot_history.specs.declared.act.Entry.{Entry}
+use Rattle.slot_history.specs.declared.place.Held.{Held}
+use Rattle.slot_history.specs.declared.place.Place.{Place}
+use Rattle.slot_history.specs.declared.place.Place.TheVariants.{Free, Entered, Inside, Used, Behind, Leading, Asking, Owing, Holding}
+use Rattle.slot_history.specs.States.{SlotState, ObjectState, is_open, is_shut, id_at, is_inside, has_own_cell}
+use Rattle.slot_history.specs.Steps.{state_after}
+use Rattle.slot_history.specs.Allowed.{IsAllowed}
+use Rattle.slot_history.specs.Histories.{place_of, ranges_of}
+use Rattle.slot_history.specs.Table.{duty_of, Meets, IsChainOf, IsTable}
+use Rattle.slot_history.proofs.Duties.{held-mine}
+use Rattle.slot_history.proofs.Places.{inside-slots}
+use Rattle.plain_slots.specs.declared.note.Note.{Note}
+use Rattle.plain_slots.specs.Cells.{has_cell, noted}
+use Rattle.plain_slots.specs.Plain.{CellAt}
+use Rattle.plain_slots.proofs.CellSteps.{IsHeldBy}
+
+-- ---- places
+
+pub false-of : (b : Bool) → (b ≡ true → ⊥) → b ≡ false
+false-of true never = absurd (never refl)
+false-of false never = refl
+
+-- whoever has its own cell of a slot is inside with the id that its place names
+pub own-inside : (p : Place) (s : ℕ) → has_own_cell p s ≡ true → is_inside p (id_at p) ≡ true
+own-inside (Inside t id) s h = eq-eqb id id refl
+own-inside (Used t id) s h = eq-eqb id id refl
+own-inside (Behind t id) s h = eq-eqb id id refl
+own-inside (Leading t id) s h = eq-eqb id id refl
+own-inside _ s h = absurd (cc)
+
+-- whoever has its own cell of some slot has its own cell
+pub own-has : (p : Place) (s : ℕ) → has_own_cell p s ≡ true → has_cell p ≡ true
+own-has (Inside t id) s h = refl
+own-has (Used t id) s h = refl
+own-has (Behind t id) s h = refl
+own-has (Leading t id) s h = refl
+own-has _ s h = absurd (cc)
+
+-- a slot that is held is neither open nor shut
+held-closed : (w : ℕ) (k : Held) (X : SlotState) → IsHeldBy w k X → (is_open X ≡ true) ⊎ (is_shut X ≡ true) → ⊥
+held-closed w k X (inl is) open_ = ⊎_elim (λ e. true≢false (sym e ∙ ap is_open is)) (λ e. true≢false (sym e ∙ ap is_shut is)) open_
+held-closed w k X (inr (id, is)) open_ = ⊎_elim (λ e. true≢false (sym e ∙ ap is_open is)) (λ e. true≢false (sym e ∙ ap is_shut is)) open_
+
+-- so nobody is inside there
+pub held-outside : (d : Shape) (S : ObjectState) → IsTable d S → (s v w : ℕ) (k : Held) → v < d.workers → IsHeldBy w k (S.slots s) → has_own_cell (S.places v) s ≡ false
+held-outside d S ok s v w k low held = false-of (has_own_cell (S.places v) s)
+    (λ h. held-closed w k (S.slots s) held (inside-slots d S ok s v (id_at (S.places v)) low h (own-inside (S.places v) s h)).0)
+
+-- whoever holds a slot, by its state, is a worker that is there
+pub holder-place : (d : Shape) (S : ObjectState) → IsTable d S → (s u : ℕ) (k : Held) → IsHeldBy u k (S.slots s) → S.places u ≡ Holding s k
+holder-place d S ok s u k (inl is) =
+    let low : u < d.workers = subst (IsChainOf d) is (ok.chain s) in
+    subst (λ D. Meets d s D (S.places u)) (ap (λ X. duty_of X u) is ∙ held-mine k u) (ok.duty s u low)
+holder-place d S ok s u k (inr (id, is)) =
+    let low : u < d.workers = subst (IsChainOf d) is (ok.chain s) in
+    subst (λ D. Meets d s D (S.places u)) (ap (λ X. duty_of X u) is ∙ held-mine k u) (ok.duty s u low)
+
+-- ---- notes
+
+-- no call of a worker that holds a slot changes a note
+noted-held : (d : Shape) (S : ObjectState) (w : ℕ) (a : Act) (s : ℕ) (k : Held) → IsAllowed d S w a → S.places w ≡ Holding s k → (v : ℕ) (n : Note) → noted a w v n ≡ n
+noted-held d S w (LookOpen id) s k ok at v n = absurd (let r : Holding s k ≡ Entered ok.0 = sym at ∙ ok.1 in cc)
+noted-held d S w (ClaimRange m from to) s k ok at v n = absurd (let r : Holding s k ≡ Inside ok.0 ok.1 = sym at ∙ ok.2 in cc)
+noted-held d S w PayLast s k ok at v n = absurd (let r : Holding s k ≡ Owing ok.0 ok.1 = sym at ∙ ok.2 in cc)
+noted-held d S w SweepLast s k ok at v n = absurd (let r : Holding s k ≡ Asking ok.0 ok.1 ok.2 ok.3 = sym at ∙ ok.4 in cc)
+noted-held d S w (ReserveGot t) s k ok at v n = absurd (let r : Holding s k ≡ Free = sym at ∙ ok.0 in cc)
+noted-held d S w _ s k ok at v n = refl
+
+-- the notes after a call of w
+abbrev pub notes_after : ℕ → Act → (ℕ → ℕ → Note) → ℕ → ℕ → Note
+notes_after w a N u v = cond (eqb u w) (noted a u v (N u v)) (N u v)
+
+pub note-mine : (w : ℕ) (a : Act) (N : ℕ → ℕ → Note) (v : ℕ) → notes_after w a N w v ≡ noted a w v (N w v)
+note-mine w a N v = ap (λ b. cond b (noted a w v (N w v)) (N w v)) (eq-eqb w w refl)
+
+pub note-other : (w : ℕ) (a : Act) (N : ℕ → ℕ → Note) (u v : ℕ) → u ≢ w → notes_after w a N u v ≡ N u v
+note-other w a N u v other = ap (λ b. cond b (noted a u v (N u v)) (N u v)) (ne_eqb u w other)
+
+-- the notes of whoever holds a slot before a call are the same after it
+pub notes-held : (d : Shape) (S : ObjectState) (w : ℕ) (a : Act) (N : ℕ → ℕ → Note) → IsTable d S → IsAllowed d S w a
+    → (s v u : ℕ) (k : Held) → IsHeldBy u k (S.slots s) → notes_after w a N u v ≡ N u v
+notes-held d S w a N ok allowed s v u k held = dite (ℕ_discrete u w)
+    (λ same. subst (λ t. notes_after w a N t v ≡ N t v) (sym same)
+    (note-mine w a N v ∙ noted-held d S w a s k allowed (ap S.places (sym same) ∙ holder-place d S ok s u k held) v (N w v)))
+    (λ other. note-other w a N u v other)
+
+-- ---- cells
+
+-- what is known of the cell of v at the slot s after a history, where workers have these notes of cells and the values of v
+-- meet `fits`
+abbrev pub CellOf : {B : Type 0} → (ℕ → List (ℕ × ℕ) → B → Type 0) → Shape → List Entry → (ℕ → ℕ → Note) → ℕ → ℕ → Option B → Type 0
+CellOf fits d h N s v x = CellAt fits (λ id. ranges_of d v id h) ((state_after d h).slots s) (has_own_cell (place_of d h v) s) (N v v) (λ u. N u v) x

@@ -1,0 +1,206 @@
+-- What an object keeps follows its calls.
+use Rattle.std.proofs.Common.{◌≡◌, ◌≢◌, ℕ, zero, suc, ◌+◌, ◌<◌, ◌≤◌, Bool, true, false, cond, List, ◌∷◌, set, get_or, slice_get, slice_set, Some, refl, sym, ap, ◌∙◌, subst, arith}
+use Rattle.std.proofs.lemmas.Option.{get_or_from_slice_get}
+use Rattle.slot_history.specs.declared.shape.Shape.{Shape}
+use Rattle.slot_history.specs.declared.shape.TheConstants.{MOST_WORKERS}
+use Rattle.slot_history.specs.declared.act.Act.{Act}
+use Rattle.slot_history.specs.declared.place.Place.{Place}
+use Rattle.slot_history.specs.declared.place.Place.TheVariants.{Free, Entered, Astray, Inside as At, Used, Behind, Leading, Asking, Owing, Holding, Announcing}
+use Rattle.slot_history.specs.Sets.{upd, count_of}
+use Rattle.slot_history.specs.States.{SlotState, ObjectState, slot_of, owes}
+use Rattle.slot_history.specs.Steps.{site, moved, slot_after, changes_after, returns_after, admitted_after, finished_after, next}
+use Rattle.slot_history.specs.Allowed.{IsAllowed}
+use Rattle.slot_history.specs.Histories.{IsLegal}
+use Rattle.slot_history.specs.Table.{Duty, Meets, IsTable}
+use Rattle.slot_history.specs.Bounds.{IsPlaceWithin, IsWithin}
+use Rattle.slot_history.proofs.Table.{table}
+use Rattle.slot_history.proofs.Within.{within}
+use Rattle.slot_history.proofs.Duties.{asking-leads}
+use Rattle.slot_history.proofs.Sets.{upd-same}
+use Rattle.plain_slots.specs.declared.object.Object.TheInside.{Inside}
+use Rattle.plain_slots.specs.declared.log.Logged.{Logged}
+use Rattle.plain_slots.specs.declared.slot.Slot.{Slot}
+use Rattle.plain_slots.specs.Log.{calls_of, call}
+use Rattle.plain_slots.specs.Places.{IsCounted}
+use Rattle.plain_slots.specs.Slots.{shown}
+use Rattle.plain_slots.specs.Objects.{Story, MakesCall, place_in, state_in, HasSlots, HasDebts, HasMasks, IsObject}
+use Rattle.plain_slots.proofs.Objects.{after-call, slots-kept, debts-kept}
+
+-- an element that is known is the one that is read
+pub read : {A : Type 0} (l : List A) (i : ℕ) (x r : A) → slice_get l i ≡ Some x → r ≡ get_or l i r → r ≡ x
+read l i x r is e = e ∙ get_or_from_slice_get l i x r is
+
+count-step : (b : Bool) (k n : ℕ) → k ≤ n → cond b 1 0 + k ≤ suc n
+count-step true k n h = omega arith
+count-step false k n h = omega arith
+
+count-most : (n : ℕ) (f : ℕ → Bool) → count_of n f ≤ n
+count-most zero f = omega arith
+count-most (suc n) f = count-step (f n) (count_of n f) n (count-most n f)
+
+counted : (d : Shape) (p : Place) (D : Duty) → d.workers ≤ MOST_WORKERS → Meets d (slot_of p) D p → IsPlaceWithin d p → IsCounted p
+counted d (Asking s id n m) D most meets low =
+    let (e, is, asked) = asking-leads d s id n m D meets in
+    let less = asked.within in
+    let marks = asked.marks in
+    let some = count-most d.workers e.marked in (omega arith, omega arith)
+counted d (Announcing s again told) D most meets low = let less = low.1 in omega arith
+counted d p D most meets low = tt
+
+abbrev pub Kept : Inside → Type 0
+Kept o = IsObject o.shape o.slots.items o.owing.items o.places.items o.returns.items o.changes.items o.admitted o.finished o.log
+
+abbrev pub now_of : Inside → ObjectState
+now_of o = state_in o.shape o.log
+
+-- what a step writes into places and log
+abbrev pub Wrote : Inside → ℕ → Act → List Place → List Logged → Type 0
+Wrote o w a places log = ((p : Place) → slice_get o.places.items w ≡ Some p → places ≡ slice_set o.places.items w (moved o.shape a p)) × (log ≡ call w a ∷ o.log)
+
+-- a call that changes no notices and no numbers
+abbrev pub Calm : Act → Type 0
+Calm a = ((w : ℕ) (p : Place) (f : ℕ → ℕ → Bool) → changes_after w a p f ≡ f) × ((w : ℕ) (p : Place) (f : ℕ → ℕ → Bool) → returns_after w a p f ≡ f) × ((n : ℕ) → admitted_after a n ≡ n) × ((n : ℕ) → finished_after a n ≡ n)
+
+-- a call that changes no slot
+abbrev pub Still : Act → Type 0
+Still a = (d : Shape) (w : ℕ) (x : SlotState) → slot_after d w a x ≡ x
+
+module _ (o : Inside) (ok : Kept o) where
+  pub tabled : IsTable o.shape (now_of o)
+  tabled = table o.shape (calls_of o.log) ok.legal
+
+  pub bounded : IsWithin o.shape (now_of o)
+  bounded = within o.shape (calls_of o.log) ok.legal
+
+  module _ (w : ℕ) (low : w < o.shape.workers) where
+    pub place-is : slice_get o.places.items w ≡ Some ((now_of o).places w)
+    place-is = ok.places_are.are w low
+
+    pub place-counted : IsCounted ((now_of o).places w)
+    place-counted = let p = (now_of o).places w in counted o.shape p _ ok.shape.workers.1 (tabled.duty (slot_of p) w low) (bounded.places w)
+
+    -- for a step, the counts of the place that is read
+    pub counted-at : (p : Place) → slice_get o.places.items w ≡ Some p → IsCounted p
+    counted-at p is = let e : (now_of o).places w ≡ p = let t = place-is in cc in subst IsCounted e place-counted
+
+    -- after a call, where the rest that is kept is that of the next state
+    pub follow : (a a' : Act) → a' ≡ a → IsAllowed o.shape (now_of o) w a → (places : List Place) (log : List Logged) → Wrote o w a' places log
+        → (slots : List Slot) (owing : List Bool) (returns changes : List ℕ) (admitted finished : ℕ)
+        → (let S = next o.shape (now_of o) w a in HasSlots o.shape slots S.slots × HasDebts o.shape owing S.slots × HasMasks o.shape S.returns returns × HasMasks o.shape S.changes changes × (admitted ≡ S.admitted) × (finished ≡ S.finished))
+        → IsObject o.shape slots owing places returns changes admitted finished log
+    follow a a' is allowed places log wrote slots owing returns changes admitted finished new =
+        let p = (now_of o).places w in
+        let e : places ≡ set o.places.items w (moved o.shape a p) = wrote.0 p place-is ∙ ap (λ b. set o.places.items w (moved o.shape b p)) is in
+        let f : log ≡ call w a ∷ o.log = wrote.1 ∙ ap (λ b. call w b ∷ o.log) is in
+        subst (λ q. IsObject o.shape slots owing q returns changes admitted finished log) (sym e)
+        (subst (λ l. IsObject o.shape slots owing (set o.places.items w (moved o.shape a p)) returns changes admitted finished l) (sym f)
+        (after-call o.shape o.slots.items slots o.owing.items owing o.places.items o.returns.items returns o.changes.items changes o.admitted admitted o.finished finished o.log w a ok low allowed new))
+
+    -- notices and numbers after a call that changes none
+    resting : (a : Act) → Calm a → (let S = next o.shape (now_of o) w a in HasMasks o.shape S.returns o.returns.items × HasMasks o.shape S.changes o.changes.items × (o.admitted ≡ S.admitted) × (o.finished ≡ S.finished))
+    resting a calm = let S = now_of o in let p = S.places w in (
+      subst (λ f. HasMasks o.shape f o.returns.items) (sym (calm.1 w p S.returns)) ok.returns_are,
+      subst (λ f. HasMasks o.shape f o.changes.items) (sym (calm.0 w p S.changes)) ok.changes_are,
+      ok.admitted_is ∙ sym (calm.2 S.admitted),
+      ok.finished_is ∙ sym (calm.3 S.finished),
+    )
+
+    -- after a call that changes its worker's place alone
+    pub quiet : (a a' : Act) → a' ≡ a → IsAllowed o.shape (now_of o) w a → (places : List Place) (log : List Logged) → Wrote o w a' places log → Still a → Calm a
+        → IsObject o.shape o.slots.items o.owing.items places o.returns.items o.changes.items o.admitted o.finished log
+    quiet a a' is allowed places log wrote still calm =
+        let S = now_of o in
+        let k = site a (S.places w) in
+        let same : slot_after o.shape w a (S.slots k) ≡ S.slots k = still o.shape w (S.slots k) in
+        let rest = resting a calm in
+        follow a a' is allowed places log wrote o.slots.items o.owing.items o.returns.items o.changes.items o.admitted o.finished (
+          slots-kept o.shape o.slots.items S.slots k (slot_after o.shape w a (S.slots k)) ok.slots_are (ap shown same),
+          debts-kept o.shape o.owing.items S.slots k (slot_after o.shape w a (S.slots k)) ok.debts_are (λ v h. ap (λ x. owes x v) same),
+          rest.0,
+          rest.1,
+          rest.2,
+          rest.3,
+        )
+
+    -- after a call that changes no notices and no numbers, where the slot and the debts are those of the next state
+    pub writes : (a a' : Act) → a' ≡ a → IsAllowed o.shape (now_of o) w a → (places : List Place) (log : List Logged) → Wrote o w a' places log → Calm a → (k : ℕ) → k ≡ site a ((now_of o).places w)
+        → (slots : List Slot) (owing : List Bool) → (let S = now_of o in HasSlots o.shape slots (upd S.slots k (slot_after o.shape w a (S.slots k))) × HasDebts o.shape owing (upd S.slots k (slot_after o.shape w a (S.slots k))))
+        → IsObject o.shape slots owing places o.returns.items o.changes.items o.admitted o.finished log
+    writes a a' is allowed places log wrote calm k at slots owing new =
+        let S = now_of o in
+        let rest = resting a calm in
+        follow a a' is allowed places log wrote slots owing o.returns.items o.changes.items o.admitted o.finished (
+          subst (λ j. HasSlots o.shape slots (upd S.slots j (slot_after o.shape w a (S.slots j)))) at new.0,
+          subst (λ j. HasDebts o.shape owing (upd S.slots j (slot_after o.shape w a (S.slots j)))) at new.1,
+          rest.0,
+          rest.1,
+          rest.2,
+          rest.3,
+        )
+
+-- what the call ensures of the object
+pub makes : (d : Shape) (log new : List Logged) (old : Story) (w : ℕ) (a a' : Act) → record { shape = d; log = log } ≡ old → a' ≡ a → new ≡ call w a' ∷ log → IsLegal d (calls_of new) → MakesCall old w a (record { shape = d; log = new })
+makes d log new old w a a' view is wrote legal = record {
+  story = ap (λ l. record { shape = d; log = l }) (wrote ∙ ap (λ b. call w b ∷ log) is) ∙ ap (λ (x : Story). record x { log = call w a ∷ x.log }) view;
+  legal = legal;
+}
+
+-- ---- where a call works
+
+pub within-slots : (d : Shape) (p : Place) → IsPlaceWithin d p → p ≢ Free → slot_of p < d.slots
+within-slots d Free low ne = absurd (ne refl)
+within-slots d (Announcing s again told) low ne = low.0
+within-slots d (Entered s) low ne = low
+within-slots d (Astray s) low ne = low
+within-slots d (At s id) low ne = low
+within-slots d (Used s id) low ne = low
+within-slots d (Behind s id) low ne = low
+within-slots d (Leading s id) low ne = low
+within-slots d (Asking s id n m) low ne = low
+within-slots d (Owing s id) low ne = low
+within-slots d (Holding s h) low ne = low
+
+-- a worker, the place that was read for it, and the slot that this names
+pub record Spot (o : Inside) (w : ℕ) (p : Place) (k : ℕ) : Type 0 where
+  pub low : w < o.shape.workers
+  pub is : p ≡ (now_of o).places w
+  pub slot : k ≡ slot_of p
+  pub in_slots : k < o.shape.slots
+  pub index : k < o.slots.len
+
+pub spot : (o : Inside) (ok : Kept o) (old : Story) → record { shape = o.shape; log = o.log } ≡ old → (w : ℕ) → w < old.shape.workers → place_in old w ≢ Free → (p : Place) → p ≡ get_or o.places.items w p → (k : ℕ) → k ≡ slot_of p → Spot o w p k
+spot o ok old view w low busy p is k slot =
+    let at = subst (λ (x : Story). (w < x.shape.workers) × (place_in x w ≢ Free)) (sym view) (low, busy) in
+    let e : p ≡ (now_of o).places w = read o.places.items w ((now_of o).places w) p (place-is o ok w at.0) is in
+    let in_k : k < o.shape.slots = subst (λ j. j < o.shape.slots) (sym (slot ∙ ap slot_of e)) (within-slots o.shape ((now_of o).places w) ((bounded o ok).places w) at.1) in
+    record { low = at.0; is = e; slot = slot; in_slots = in_k; index = (let c = ok.slots_are.count in let l = o.slots.ok.0 in omega arith) }
+
+-- what the slot shows that was read there
+pub slot-read : (o : Inside) (ok : Kept o) (k : ℕ) → k < o.shape.slots → (x : Slot) → x ≡ get_or o.slots.items k x → x ≡ shown ((now_of o).slots k)
+slot-read o ok k in_k x is = read o.slots.items k (shown ((now_of o).slots k)) x (ok.slots_are.are k in_k) is
+
+-- a fact of the object's place, of the place that was read
+pub spotted : (o : Inside) (old : Story) (w : ℕ) (p : Place) (k : ℕ) → record { shape = o.shape; log = o.log } ≡ old → Spot o w p k → (P : Place → Type 0) → P (place_in old w) → P p
+spotted o old w p k view s P h = subst P (sym s.is) (subst (λ (x : Story). P (place_in x w)) (sym view) h)
+
+-- where the worker is after its call
+pub gone : (o : Inside) (w : ℕ) (a a' : Act) → a' ≡ a → (log : List Logged) → log ≡ call w a' ∷ o.log → (state_in o.shape log).places w ≡ moved o.shape a ((now_of o).places w)
+gone o w a a' is log wrote = ap (λ l. (state_in o.shape l).places w) (wrote ∙ ap (λ b. call w b ∷ o.log) is) ∙ upd-same (now_of o).places w (moved o.shape a ((now_of o).places w))
+
+-- a fact of the shape that is kept, of the object's
+pub of-shape : (o : Inside) (old : Story) → record { shape = o.shape; log = o.log } ≡ old → (P : Shape → Type 0) → P o.shape → P old.shape
+of-shape o old view P h = subst P (ap (λ (x : Story). x.shape) view) h
+
+-- a fact of the object's story, of what is kept
+pub of-story : (o : Inside) (old : Story) → record { shape = o.shape; log = o.log } ≡ old → (P : Story → Type 0) → P old → P (record { shape = o.shape; log = o.log })
+of-story o old view P h = subst P (sym view) h
+
+-- how many workers there are
+pub workers-are : (o : Inside) (old : Story) → record { shape = o.shape; log = o.log } ≡ old → old.shape.workers ≡ o.shape.workers
+workers-are o old view = sym (ap (λ (x : Story). x.shape.workers) view)
+
+pub workers-above : (o : Inside) (old : Story) → record { shape = o.shape; log = o.log } ≡ old → (n : ℕ) → n < old.shape.workers → n < o.shape.workers
+workers-above o old view n h = subst (λ k. n < k) (workers-are o old view) h
+
+pub place-index : (o : Inside) (ok : Kept o) (v : ℕ) → v < o.shape.workers → v < o.places.len
+place-index o ok v low = let c = ok.places_are.count in let l = o.places.ok.0 in omega arith

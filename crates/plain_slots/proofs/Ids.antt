@@ -1,0 +1,45 @@
+-- The ids of slots: whoever is inside with one is so at the one slot that has it, and one that is installed was never
+-- claimed of.
+use Rattle.std.proofs.Common.{◌≡◌, ℕ, ◌+◌, ◌/◌, ◌<◌, ◌≤◌, ◌⊎◌, true, cond, eqb, List, [], ◌∷◌, Some, ⊎_elim, refl, ap, ◌∙◌, eq-eqb, arith}
+use Rattle.slot_history.specs.declared.shape.Shape.{Shape}
+use Rattle.slot_history.specs.declared.shape.TheConstants.{STAGES}
+use Rattle.slot_history.specs.declared.act.Act.TheVariants.{Install}
+use Rattle.slot_history.specs.declared.act.Entry.{Entry}
+use Rattle.slot_history.specs.States.{SlotState, Empty, Reserved, Open, Shut, Finishing, has_id, id_of, is_open, is_shut, is_inside, has_own_cell}
+use Rattle.slot_history.specs.Steps.{state_after}
+use Rattle.slot_history.specs.Histories.{IsLegal, entry, installs_of, place_of, ranges_of}
+use Rattle.slot_history.specs.Lives.{query_in}
+use Rattle.slot_history.proofs.Table.{table}
+use Rattle.slot_history.proofs.Places.{inside-slots}
+use Rattle.slot_history.proofs.Book.{book}
+use Rattle.slot_history.proofs.Counts.{only-once}
+use Rattle.slot_history.proofs.Claims.{no-early-claims}
+
+id-query : (X : SlotState) → has_id X ≡ true → query_in X ≡ Some (id_of X / STAGES)
+id-query (Open t) has = refl
+id-query (Shut t e) has = refl
+id-query (Finishing id w h) has = refl
+id-query _ has = absurd (cc)
+
+-- a slot with a task set that may be worked on has an id
+pub open-has : (X : SlotState) → (is_open X ≡ true) ⊎ (is_shut X ≡ true) → has_id X ≡ true
+open-has (Open t) h = refl
+open-has (Shut t e) h = refl
+open-has (Finishing id w k) h = refl
+open-has Empty h = ⊎_elim (λ k. k) (λ k. k) h
+open-has (Reserved w k) h = ⊎_elim (λ k. k) (λ k. k) h
+
+-- whoever is inside with an id is so at the one slot that has it
+pub inside-one : (d : Shape) (h : List Entry) → IsLegal d h → (v t id : ℕ) → v < d.workers → has_own_cell (place_of d h v) t ≡ true → is_inside (place_of d h v) id ≡ true
+    → (s : ℕ) → has_id ((state_after d h).slots s) ≡ true → id_of ((state_after d h).slots s) ≡ id → t ≡ s
+inside-one d h legal v t id low own inside s has same =
+    let X : ℕ → SlotState = (state_after d h).slots in
+    let at = inside-slots d (state_after d h) (table d h legal) t v id low own inside in
+    (book d h legal).apart t s (id / STAGES) (id-query (X t) (open-has (X t) at.0) ∙ ap (λ i. Some (i / STAGES)) at.1) (id-query (X s) has ∙ ap (λ i. Some (i / STAGES)) same)
+
+-- of a task set that is installed now nobody has claimed
+pub unclaimed : (d : Shape) (h : List Entry) (w id : ℕ) → IsLegal d (entry w (Install id) ∷ h) → (v : ℕ) → ranges_of d v id h ≡ []
+unclaimed d h w id legal v =
+    let one : cond {A = ℕ} (eqb id id) 1 0 ≡ 1 = ap (λ b. cond b 1 0) (eq-eqb id id refl) in
+    let most : cond {A = ℕ} (eqb id id) 1 0 + installs_of id h ≤ 1 = (only-once d (entry w (Install id) ∷ h) legal).0 id in
+    (no-early-claims d h legal.2 id (omega arith)).1 v

@@ -1,0 +1,78 @@
+-- What is kept of the object at run time follows the history.
+use Rattle.std.proofs.Common.{◌≡◌, ◌≢◌, ℕ, ◌+◌, ◌*◌, ◌<◌, Bool, List, ◌∷◌, length, set, slice_get, Some, sym, ap, ◌∙◌, length-set, arith}
+use native.Mathlib.Decide.{ℕ_discrete}
+use Rattle.slot_history.specs.declared.shape.Shape.{Shape}
+use Rattle.slot_history.specs.declared.act.Act.{Act}
+use Rattle.slot_history.specs.declared.place.Place.{Place}
+use Rattle.slot_history.specs.Sets.{upd}
+use Rattle.slot_history.specs.States.{SlotState, owes}
+use Rattle.slot_history.specs.Steps.{moved, next}
+use Rattle.slot_history.specs.Allowed.{IsAllowed}
+use Rattle.slot_history.proofs.Sets.{upd-same, upd-else}
+use Rattle.plain_slots.specs.declared.log.Logged.{Logged}
+use Rattle.plain_slots.specs.declared.slot.Slot.{Slot}
+use Rattle.plain_slots.specs.Log.{call}
+use Rattle.plain_slots.specs.Slots.{shown}
+use Rattle.plain_slots.specs.Objects.{state_in, HasSlots, HasDebts, HasPlaces, HasMasks, IsObject}
+use Rattle.plain_slots.proofs.Lists.{lists-set, lists-kept, get-set_same, get-set_other, same-pair, pair-within}
+
+module _ (d : Shape) where
+  pub slots-set : (slots : List Slot) (f : ℕ → SlotState) (k : ℕ) (x : SlotState) → HasSlots d slots f → k < d.slots → HasSlots d (set slots k (shown x)) (upd f k x)
+  slots-set slots f k x has low = record { count = length-set slots k _ ∙ has.count; are = lists-set shown d.slots slots f k x has.count low has.are }
+
+  pub slots-kept : (slots : List Slot) (f : ℕ → SlotState) (k : ℕ) (x : SlotState) → HasSlots d slots f → shown x ≡ shown (f k) → HasSlots d slots (upd f k x)
+  slots-kept slots f k x has same = record { count = has.count; are = lists-kept shown d.slots slots f k x same has.are }
+
+  pub places-set : (places : List Place) (f : ℕ → Place) (w : ℕ) (p : Place) → HasPlaces d places f → w < d.workers → HasPlaces d (set places w p) (upd f w p)
+  places-set places f w p has low = record { count = length-set places w p ∙ has.count; are = lists-set (λ q. q) d.workers places f w p has.count low has.are }
+
+  debts-kept-at : (owing : List Bool) (f : ℕ → SlotState) (k : ℕ) (x : SlotState) → HasDebts d owing f → ((v : ℕ) → v < d.workers → owes x v ≡ owes (f k) v)
+      → (s v : ℕ) → s < d.slots → v < d.workers → Dec (s ≡ k) → slice_get owing (s * d.workers + v) ≡ Some (owes (upd f k x s) v)
+  debts-kept-at owing f k x has same s v in_s in_v (yes e) =
+      has.are s v in_s in_v ∙ ap (λ j. Some (owes (f j) v)) e ∙ ap Some (sym (same v in_v)) ∙ ap (λ y. Some (owes y v)) (sym (upd-same f k x) ∙ ap (upd f k x) (sym e))
+  debts-kept-at owing f k x has same s v in_s in_v (no ne) = has.are s v in_s in_v ∙ ap (λ y. Some (owes y v)) (sym (upd-else f k x s ne))
+
+  -- nobody's debt changed
+  pub debts-kept : (owing : List Bool) (f : ℕ → SlotState) (k : ℕ) (x : SlotState) → HasDebts d owing f → ((v : ℕ) → v < d.workers → owes x v ≡ owes (f k) v) → HasDebts d owing (upd f k x)
+  debts-kept owing f k x has same = record { count = has.count; are = λ s v in_s in_v. debts-kept-at owing f k x has same s v in_s in_v (ℕ_discrete s k) }
+
+  debts-set-here : (owing : List Bool) (f : ℕ → SlotState) (k u : ℕ) (x : SlotState) (b : Bool) → HasDebts d owing f → k < d.slots → u < d.workers → owes x u ≡ b → ((v : ℕ) → v < d.workers → v ≢ u → owes x v ≡ owes (f k) v)
+      → (v : ℕ) → v < d.workers → Dec (v ≡ u) → slice_get (set owing (k * d.workers + u) b) (k * d.workers + v) ≡ Some (owes x v)
+  debts-set-here owing f k u x b has in_k in_u now same v in_v (yes e) =
+      let low : k * d.workers + u < length owing = rw has.count (pair-within d.slots d.workers k u in_k in_u) in
+      ap (λ j. slice_get (set owing (k * d.workers + u) b) (k * d.workers + j)) e ∙ get-set_same owing (k * d.workers + u) b low ∙ ap Some (sym now) ∙ ap (λ j. Some (owes x j)) (sym e)
+  debts-set-here owing f k u x b has in_k in_u now same v in_v (no ne) =
+      get-set_other owing (k * d.workers + u) (k * d.workers + v) b (λ e. ne (let r : v ≡ u = omega arith in r)) ∙ has.are k v in_k in_v ∙ ap Some (sym (same v in_v ne))
+
+  debts-set-at : (owing : List Bool) (f : ℕ → SlotState) (k u : ℕ) (x : SlotState) (b : Bool) → HasDebts d owing f → k < d.slots → u < d.workers → owes x u ≡ b → ((v : ℕ) → v < d.workers → v ≢ u → owes x v ≡ owes (f k) v)
+      → (s v : ℕ) → s < d.slots → v < d.workers → Dec (s ≡ k) → slice_get (set owing (k * d.workers + u) b) (s * d.workers + v) ≡ Some (owes (upd f k x s) v)
+  debts-set-at owing f k u x b has in_k in_u now same s v in_s in_v (yes e) =
+      ap (λ j. slice_get (set owing (k * d.workers + u) b) (j * d.workers + v)) e ∙ debts-set-here owing f k u x b has in_k in_u now same v in_v (ℕ_discrete v u)
+      ∙ ap (λ y. Some (owes y v)) (sym (upd-same f k x) ∙ ap (upd f k x) (sym e))
+  debts-set-at owing f k u x b has in_k in_u now same s v in_s in_v (no ne) =
+      get-set_other owing (k * d.workers + u) (s * d.workers + v) b (λ e. ne (same-pair d.workers s k v u in_v in_u e).0) ∙ has.are s v in_s in_v ∙ ap (λ y. Some (owes y v)) (sym (upd-else f k x s ne))
+
+  -- the debt of one worker at one slot changed
+  pub debts-set : (owing : List Bool) (f : ℕ → SlotState) (k u : ℕ) (x : SlotState) (b : Bool) → HasDebts d owing f → k < d.slots → u < d.workers → owes x u ≡ b → ((v : ℕ) → v < d.workers → v ≢ u → owes x v ≡ owes (f k) v)
+      → HasDebts d (set owing (k * d.workers + u) b) (upd f k x)
+  debts-set owing f k u x b has in_k in_u now same = record {
+    count = length-set owing (k * d.workers + u) b ∙ has.count;
+    are = λ s v in_s in_v. debts-set-at owing f k u x b has in_k in_u now same s v in_s in_v (ℕ_discrete s k);
+  }
+
+-- After a call, where slots, debts, notices and numbers are those of the next state. The worker goes to its next place.
+pub after-call : (d : Shape) (slots slots' : List Slot) (owing owing' : List Bool) (places : List Place) (returns returns' changes changes' : List ℕ) (admitted admitted' finished finished' : ℕ) (log : List Logged) (w : ℕ) (a : Act)
+    → IsObject d slots owing places returns changes admitted finished log → w < d.workers → IsAllowed d (state_in d log) w a
+    → (let S = next d (state_in d log) w a in HasSlots d slots' S.slots × HasDebts d owing' S.slots × HasMasks d S.returns returns' × HasMasks d S.changes changes' × (admitted' ≡ S.admitted) × (finished' ≡ S.finished))
+    → IsObject d slots' owing' (set places w (moved d a ((state_in d log).places w))) returns' changes' admitted' finished' (call w a ∷ log)
+after-call d slots slots' owing owing' places returns returns' changes changes' admitted admitted' finished finished' log w a ok low allowed new = record {
+  shape = ok.shape;
+  legal = (low, allowed, ok.legal);
+  slots_are = new.0;
+  debts_are = new.1;
+  places_are = places-set d places (state_in d log).places w (moved d a ((state_in d log).places w)) ok.places_are low;
+  returns_are = new.2;
+  changes_are = new.3;
+  admitted_is = new.4;
+  finished_is = new.5;
+}

@@ -1,0 +1,480 @@
+-- A call over a seat of a table.
+use Rattle.std.proofs.Common.{◌≡◌, ◌≢◌, ℕ, ◌+◌, ◌<◌, ◌⊎◌, ⊎_elim, min, IsSome, IsSomeAnd, Bool, true, false, cond, eqb, ◌&&◌, inl, inr, arith, List, [], ◌∷◌, ◌++◌, All, Option, Some, None, slice_get, refl, sym, ap, ap₂, ◌∙◌, subst, eq-eqb, ne_eqb}
+use Rattle.std.proofs.lemmas.List.Elements.{All-cons}
+use Rattle.std.proofs.lemmas.Option.{slice_get_cases, get_or_from_slice_get}
+use mathlib.Core.Bool.{true≢false}
+use mathlib.Core.Logic.{∥∥₁_map}
+use native.Mathlib.Decide.{ℕ_discrete}
+use Rattle.slot_history.specs.declared.shape.Shape.{Shape}
+use Rattle.slot_history.specs.declared.act.Act.{Act}
+use Rattle.slot_history.specs.declared.act.Act.TheVariants.{Enter, LookOpen, LookInvalid, LookVacant, ClaimRange, ClaimUsed, ShutWon, ShutLost, LeaveLeft, LeaveOwe, PayLast, PayDone, MarkMarked, MarkMissed, SweepLast, SweepOthers, ReserveGot, ReserveTaken, AdmitGot, AdmitLost, Arrivals, Finished, Note as NoteDone, Total, Install, Release, Tell, TakeReturn, TakeChange}
+use Rattle.slot_history.specs.declared.act.Entry.{Entry}
+use Rattle.slot_history.specs.declared.place.Place.{Place}
+use Rattle.slot_history.specs.declared.place.Place.TheVariants.{Free, Entered, Astray, Inside as At, Used, Behind, Leading, Asking, Owing, Holding, Announcing}
+use Rattle.slot_history.specs.States.{SlotState, Empty, Reserved, Open, Shut, Finishing, ObjectState, held_at, slot_of, id_of, id_at, task_of, is_open, is_shut, is_inside, has_own_cell, owes, can_leave}
+use Rattle.slot_history.specs.Steps.{moved, left, asked_one, holding_after, told_one}
+use Rattle.slot_history.specs.Allowed.{IsReady}
+use Rattle.slot_history.specs.Bounds.{IsPlaceWithin}
+use Rattle.slot_history.specs.Histories.{IsLegal, IsOfTotals, Begins, Called, entry, place_of, total_of, is_install}
+use Rattle.slot_history.proofs.Sets.{pick, choose, upd-same}
+use Rattle.slot_history.proofs.Own.{place-mine, place-other}
+use Rattle.slot_history.proofs.Table.{table}
+use Rattle.slot_history.proofs.Within.{within}
+use Rattle.slot_history.proofs.Places.{inside-slots}
+use Rattle.plain_slots.specs.declared.note.Note.{Note}
+use Rattle.plain_slots.specs.declared.note.Note.TheVariants.{Kept, Fresh}
+use Rattle.plain_slots.specs.declared.note.Note.TheVariants as note
+use Rattle.plain_slots.specs.declared.token.Holder.{Holder}
+use Rattle.plain_slots.specs.declared.token.Coordinator.{Coordinator}
+use Rattle.plain_slots.specs.declared.token.Announcer.{Announcer}
+use Rattle.plain_slots.specs.declared.reply.Look.{Look}
+use Rattle.plain_slots.specs.declared.reply.Look.TheVariants as look
+use Rattle.plain_slots.specs.declared.reply.Leave.{Leave}
+use Rattle.plain_slots.specs.declared.reply.Leave.TheVariants as leave
+use Rattle.plain_slots.specs.declared.reply.Claim.{Claim}
+use Rattle.plain_slots.specs.declared.reply.Claim.TheVariants as claim
+use Rattle.plain_slots.specs.declared.reply.Shut.{Shut as Shutting}
+use Rattle.plain_slots.specs.declared.reply.Shut.TheVariants as shut
+use Rattle.plain_slots.specs.declared.reply.Mark.{Mark}
+use Rattle.plain_slots.specs.declared.reply.Mark.TheVariants as mark
+use Rattle.plain_slots.specs.declared.reply.Sweep.{Sweep}
+use Rattle.plain_slots.specs.declared.reply.Sweep.TheVariants as sweep
+use Rattle.plain_slots.specs.declared.reply.Pay.{Pay}
+use Rattle.plain_slots.specs.declared.reply.Pay.TheVariants as pay
+use Rattle.plain_slots.specs.declared.reply.Reserve.{Reserve}
+use Rattle.plain_slots.specs.declared.reply.Reserve.TheVariants as reserve
+use Rattle.plain_slots.specs.declared.reply.Admit.{Admit}
+use Rattle.plain_slots.specs.declared.reply.Admit.TheVariants as admit
+use Rattle.plain_slots.specs.declared.log.Logged.{Logged}
+use Rattle.plain_slots.specs.Cells.{has_cell, noted}
+use Rattle.plain_slots.specs.Replies.{look_act, leave_act, claim_act, shut_act, mark_act, sweep_act, pay_act, reserve_act, admit_act, admitted_holder, marked_more, SeesTaskSet, OwesTaskSet, IsCutRange}
+use Rattle.plain_slots.specs.Desks.{Desk, place_at, held_by, Makes}
+use Rattle.plain_slots.specs.Log.{calls_of, note_in, call, who}
+use Rattle.plain_slots.specs.Plain.{Plain, IsPlain, InstallsOf, AllOfTotals, HoldsTaskSet}
+use Rattle.plain_slots.specs.Objects.{Story, MakesCall, place_in, state_in}
+use Rattle.plain_slots.specs.Tokens.{IsHolder, IsCoordinator, IsAnnouncer, IsDone, opens, last_opened}
+use Rattle.plain_slots.specs.Seats.{IsSince, desk_over, trail_in}
+use Rattle.plain_slots.proofs.Following.{within-slots}
+use Rattle.plain_slots.proofs.Trails.{own-trail, place-trail}
+use Rattle.plain_slots.proofs.OwnCells.{NotesAllow}
+use Rattle.plain_slots.proofs.CellsKept.{plain-call}
+
+-- the trail is a beginning of the history
+begins-step : (w : ℕ) (e : Entry) (es : List Entry) → Begins es (trail_in w es) → Dec (w ≡ e.worker) → Begins (e ∷ es) (trail_in w (e ∷ es))
+begins-step w e es ih (yes same) = ([], sym (ap (λ b. cond b (e ∷ es) (trail_in w es)) (eq-eqb w e.worker same)))
+begins-step w e es ih (no other) = (e ∷ ih.0, ap (λ l. e ∷ l) ih.1 ∙ ap (λ l. (e ∷ ih.0) ++ l) (sym (ap (λ b. cond b (e ∷ es) (trail_in w es)) (ne_eqb w e.worker other))))
+
+pub begins : (w : ℕ) (h : List Entry) → Begins h (trail_in w h)
+begins w [] = ([], refl)
+begins w (e ∷ es) = begins-step w e es (begins w es) (ℕ_discrete w e.worker)
+
+-- a call of w is the last that its trail has
+pub trail-call : (w : ℕ) (a : Act) (h : List Entry) → trail_in w (entry w a ∷ h) ≡ entry w a ∷ h
+trail-call w a h = ap (λ b. cond b (entry w a ∷ h) (trail_in w h)) (eq-eqb w w refl)
+
+pub called : (d : Shape) (w : ℕ) (a : Act) (h : List Entry) → IsLegal d (entry w a ∷ h) → Called d w a (trail_in w h) (trail_in w (entry w a ∷ h))
+called d w a h legal = (h, trail-call w a h, begins w h, sym (own-trail w h), subst (IsLegal d) (sym (trail-call w a h)) legal)
+
+-- what a call makes of the worker's trail and notes
+pub made : {Sub : Type 0} (total : Sub → ℕ → Option ℕ) (D : Desk Sub) (a : Act) (log : List Logged) → IsLegal D.shape (calls_of (call D.worker a ∷ log)) → IsOfTotals (total D.subject) D.shape (calls_of (call D.worker a ∷ log))
+    → Makes total D a (trail_in D.worker (calls_of log)) (trail_in D.worker (calls_of (call D.worker a ∷ log))) (note_in log D.worker) (note_in (call D.worker a ∷ log) D.worker)
+made total D a log legal of_totals = record {
+  called = called D.shape D.worker a (calls_of log) legal;
+  of_subject = subst (IsOfTotals (total D.subject) D.shape) (sym (trail-call D.worker a (calls_of log))) of_totals;
+  notes = λ v h. ap (λ b. cond b (noted a D.worker v (note_in log D.worker v)) (note_in log D.worker v)) (eq-eqb D.worker D.worker refl);
+}
+
+-- one more step of the worker
+pub since-step : {Sub : Type 0} (start was now : Plain Sub) (w : ℕ) (x : Logged) → who x ≡ w → now ≡ record was { log = x ∷ was.log } → IsSince start was w → IsSince start now w
+since-step {Sub = Sub} start was now w x mine is old = record {
+  more = x ∷ old.more;
+  log = ap (λ (t : Plain Sub). t.log) is ∙ ap (λ l. x ∷ l) old.log;
+  own = All-cons (λ y. who y ≡ w) x old.more mine old.own;
+}
+
+-- ---- of the subject
+
+of-totals-step : (totals : ℕ → Option ℕ) (a : Act) (held rest : Option ℕ) (id total : ℕ) → InstallsOf totals a held → (rest ≡ Some total → totals id ≡ Some total) → cond (is_install a id) held rest ≡ Some total → totals id ≡ Some total
+of-totals-step totals (Install jd) held rest id total inst ih h = pick jd id held rest (λ o. o ≡ Some total → totals id ≡ Some total) (λ e k. ap totals (sym e) ∙ inst.1 ∙ k) (λ ne k. ih k) h
+of-totals-step totals _ held rest id total inst ih h = ih h
+
+-- a history each of whose installs is of the subject
+pub of-totals : (totals : ℕ → Option ℕ) (d : Shape) (h : List Entry) → AllOfTotals totals d h → IsOfTotals totals d h
+of-totals totals d [] all id total h = absurd (cc h)
+of-totals totals d (e ∷ es) all id total h = of-totals-step totals e.act (held_at (place_of d es e.worker)).total (total_of d id es) id total all.0 (of-totals totals d es all.1 id total) h
+
+-- ---- what a call makes of the table and of the seat
+
+module _ {B Sub : Type 0} (total : Sub → ℕ → Option ℕ) (fits : Sub → ℕ → ℕ → List (ℕ × ℕ) → B → Type 0) where
+  -- the table after a call that its worker's notes allow
+  pub table-after : (o new : Story) (subject : Sub) (cells : List (Option B)) (w : ℕ) (a : Act) → MakesCall o w a new → NotesAllow (total subject) o.shape w (place_of o.shape (trail_in w (calls_of o.log)) w) (note_in o.log w) a
+      → IsPlain total fits o.shape subject o.log cells → IsPlain total fits new.shape subject new.log cells
+  table-after o new subject cells w a m allow ok =
+      let P : Story → Type 0 = λ x. IsPlain total fits x.shape subject x.log cells in
+      let legal : IsLegal o.shape (calls_of (call w a ∷ o.log)) = subst (λ (x : Story). IsLegal x.shape (calls_of x.log)) m.story m.legal in
+      subst P (sym m.story) (plain-call total fits o.shape subject o.log cells w a legal allow ok)
+
+-- what is in a table of this object and subject is this, of a seat that was made when it was `start`
+module _ {Sub : Type 0} (o : Story) (subject : Sub) (start now : Plain Sub) (view : record { shape = o.shape; subject = subject; log = o.log } ≡ now) (shape : now.shape ≡ start.shape) (same : now.subject ≡ start.subject) (w : ℕ) where
+  pub object-shape : o.shape ≡ start.shape
+  object-shape = ap (λ (t : Plain Sub). t.shape) view ∙ shape
+
+  pub table-subject : subject ≡ start.subject
+  table-subject = ap (λ (t : Plain Sub). t.subject) view ∙ same
+
+  -- a fact of the place that the trail gives, of the object's
+  pub place-for : (P : Place → Type 0) → P (place_at (desk_over start w) (trail_in w (calls_of now.log))) → P (place_in o w)
+  place-for P h =
+      let at : P (place_of start.shape (calls_of now.log) w) = subst P (place-trail start.shape w (calls_of now.log)) h in
+      let here : P (place_of now.shape (calls_of now.log) w) = subst (λ d. P (place_of d (calls_of now.log) w)) (sym shape) at in
+      subst (λ (t : Plain Sub). P (place_of t.shape (calls_of t.log) w)) (sym view) here
+
+  -- where the worker is, by the object and by its trail
+  pub place-of : place_in o w ≡ place_at (desk_over start w) (trail_in w (calls_of now.log))
+  place-of = sym (place-for (λ p. place_at (desk_over start w) (trail_in w (calls_of now.log)) ≡ p) refl)
+
+  pub own-below : w < now.shape.workers → w < o.shape.workers
+  own-below low = subst (λ (t : Plain Sub). w < t.shape.workers) (sym view) low
+
+  -- a fact of the seat's desk, of the object
+  pub shape-for : (P : Shape → Type 0) → P start.shape → P o.shape
+  shape-for P h = subst P (sym object-shape) h
+
+  -- of notes
+  pub notes-for : (P : (ℕ → Note) → Type 0) → P (note_in now.log w) → P (note_in o.log w)
+  notes-for P h = subst (λ (t : Plain Sub). P (note_in t.log w)) (sym view) h
+
+  -- of the place by the object's trail
+  pub own-place-for : (P : Place → Type 0) → P (place_in o w) → P (place_of o.shape (trail_in w (calls_of o.log)) w)
+  own-place-for P h = subst P (sym (place-trail o.shape w (calls_of o.log))) h
+
+  -- a token, by the place before the call
+  pub token-old : (X : Shape → Place → Type 0) → X start.shape (place_at (desk_over start w) (trail_in w (calls_of now.log))) → X o.shape (place_in o w)
+  token-old X h = place-for (λ p. X o.shape p) (subst (λ d. X d (place_at (desk_over start w) (trail_in w (calls_of now.log)))) (sym object-shape) h)
+
+  -- a fact of desk and log, of the seat and of the object
+  desk-same : desk_over now w ≡ desk_over start w
+  desk-same = ap₂ (λ (d : Shape) (u : Sub). let D : Desk Sub = record { worker = w; shape = d; subject = u } in D) shape same
+
+  pub to-object : (P : Desk Sub → List Logged → Type 0) → P (desk_over start w) now.log → P (record { worker = w; shape = o.shape; subject = subject }) o.log
+  to-object P h = subst (λ (t : Plain Sub). P (desk_over t w) t.log) (sym view) (subst (λ D. P D now.log) (sym desk-same) h)
+
+  pub to-seat : (P : Desk Sub → List Logged → Type 0) → P (record { worker = w; shape = o.shape; subject = subject }) o.log → P (desk_over start w) now.log
+  to-seat P h = subst (λ D. P D now.log) desk-same (subst (λ (t : Plain Sub). P (desk_over t w) t.log) view h)
+
+  -- the seat's fields after an exchange
+  pub exchanged-since : (x : Logged) → who x ≡ w → ∥ IsSince start now w ∥₁ → ∥ IsSince start (record { shape = o.shape; subject = subject; log = x ∷ o.log }) w ∥₁
+  exchanged-since x mine old =
+      ∥∥₁_map old (since-step start now (record { shape = o.shape; subject = subject; log = x ∷ o.log }) w x mine (ap (λ (t : Plain Sub). record t { log = x ∷ t.log }) view))
+
+  -- what the notes and the subject allow
+  own-trail-place : place_of o.shape (trail_in w (calls_of o.log)) w ≡ place_at (desk_over start w) (trail_in w (calls_of now.log))
+  own-trail-place = place-trail o.shape w (calls_of o.log) ∙ place-of
+
+  pub leave-kept : (has_cell (place_at (desk_over start w) (trail_in w (calls_of now.log))) ≡ true → note_in now.log w w ≡ Kept) → has_cell (place_of o.shape (trail_in w (calls_of o.log)) w) ≡ true → note_in o.log w w ≡ Kept
+  leave-kept h k = notes-for (λ n. n w ≡ Kept) (h (subst (λ p. has_cell p ≡ true) own-trail-place k))
+
+  all-cells : (n : Note) → ((v : ℕ) → v < start.shape.workers → note_in now.log w v ≡ n) → (v : ℕ) → v < o.shape.workers → note_in o.log w v ≡ n
+  all-cells n cells v low = notes-for (λ f. f v ≡ n) (cells v (subst (λ (d : Shape). v < d.workers) object-shape low))
+
+  pub install-allows : (total : Sub → ℕ → Option ℕ) (id : ℕ) → IsReady (held_by (desk_over start w) (trail_in w (calls_of now.log))) → (held_by (desk_over start w) (trail_in w (calls_of now.log))).total ≡ total start.subject id
+      → ((v : ℕ) → v < start.shape.workers → note_in now.log w v ≡ Fresh) → NotesAllow (total subject) o.shape w (place_of o.shape (trail_in w (calls_of o.log)) w) (note_in o.log w) (Install id)
+  install-allows total id ready set cells =
+      (all-cells Fresh cells, subst (λ p. IsSome (held_at p).total × (total subject id ≡ (held_at p).total)) (sym own-trail-place) (ready.has_total, ap (λ u. total u id) table-subject ∙ sym set))
+
+  pub release-allows : (total : Sub → ℕ → Option ℕ) → ((v : ℕ) → v < start.shape.workers → note_in now.log w v ≡ note.Empty) → NotesAllow (total subject) o.shape w (place_of o.shape (trail_in w (calls_of o.log)) w) (note_in o.log w) Release
+  release-allows total cells = all-cells note.Empty cells
+
+  module _ (a : Act) (new : Story) (m : MakesCall o w a new) where
+    -- where the worker is after the call
+    pub new-place : place_in new w ≡ moved o.shape a (place_in o w)
+    new-place = ap (λ (x : Story). place_in x w) m.story ∙ upd-same (state_in o.shape o.log).places w (moved o.shape a (place_in o w))
+
+    pub new-shape : new.shape ≡ start.shape
+    new-shape = ap (λ (x : Story). x.shape) m.story ∙ object-shape
+
+    -- the seat's fields after the call
+    pub new-below : w < now.shape.workers → w < new.shape.workers
+    new-below low = subst (λ (d : Shape). w < d.workers) (shape ∙ sym new-shape) low
+
+    pub new-since : ∥ IsSince start now w ∥₁ → ∥ IsSince start (record { shape = new.shape; subject = subject; log = new.log }) w ∥₁
+    new-since old =
+        let is : record { shape = new.shape; subject = subject; log = new.log } ≡ record now { log = call w a ∷ now.log } =
+        ap (λ (x : Story). let t : Plain Sub = record { shape = x.shape; subject = subject; log = x.log } in t) m.story ∙ ap (λ (t : Plain Sub). record t { log = call w a ∷ t.log }) view in
+        ∥∥₁_map old (since-step start now (record { shape = new.shape; subject = subject; log = new.log }) w (call w a) refl is)
+
+    -- a token, by the place after the call
+    pub token-for : (X : Shape → Place → Type 0) → X o.shape (place_in new w) → X start.shape (place_at (desk_over start w) (trail_in w (calls_of new.log)))
+    token-for X h = subst (X start.shape) (ap (λ d. place_of d (calls_of new.log) w) new-shape ∙ sym (place-trail start.shape w (calls_of new.log))) (subst (λ d. X d (place_in new w)) object-shape h)
+
+    -- what the call makes of trail and notes
+    pub seat-makes : {B : Type 0} (total : Sub → ℕ → Option ℕ) (fits : Sub → ℕ → ℕ → List (ℕ × ℕ) → B → Type 0) (cells : List (Option B)) → IsPlain total fits new.shape subject new.log cells
+        → Makes total (desk_over start w) a (trail_in w (calls_of now.log)) (trail_in w (calls_of new.log)) (note_in now.log w) (note_in new.log w)
+    seat-makes total fits cells ok =
+        let d = start.shape in
+        let grows : new.log ≡ call w a ∷ now.log = ap (λ (x : Story). x.log) m.story ∙ ap (λ (t : Plain Sub). call w a ∷ t.log) view in
+        let legal : IsLegal d (calls_of (call w a ∷ now.log)) = subst (λ l. IsLegal d (calls_of l)) grows (subst (λ e. IsLegal e (calls_of new.log)) new-shape m.legal) in
+        let all : AllOfTotals (total start.subject) d (calls_of (call w a ∷ now.log)) =
+        subst (λ l. AllOfTotals (total start.subject) d (calls_of l)) grows (subst (λ e. AllOfTotals (total start.subject) e (calls_of new.log)) new-shape (subst (λ u. AllOfTotals (total u) new.shape (calls_of new.log)) table-subject ok.of_subject)) in
+        subst (λ l. Makes total (desk_over start w) a (trail_in w (calls_of now.log)) (trail_in w (calls_of l)) (note_in now.log w) (note_in l w)) (sym grows)
+        (made total (desk_over start w) a now.log legal (of-totals (total start.subject) d (calls_of (call w a ∷ now.log)) all))
+
+-- ---- what a caller needs of a reply's numbers
+
+some-is : (o : Option ℕ) (x : ℕ) → o ≡ Some x → IsSome o
+some-is o x e = subst IsSome (sym e) refl
+
+-- of the table's object o, which kept its task sets, after a call of w
+module _ (totals : ℕ → Option ℕ) (o : Story) (sets : (s : ℕ) → s < o.shape.slots → HoldsTaskSet totals ((state_in o.shape o.log).slots s)) (w : ℕ) where
+  abbrev S : ObjectState
+  S = state_in o.shape o.log
+
+  found : (a : Act) (new : Story) → MakesCall o w a new → IsLegal o.shape (calls_of (call w a ∷ o.log))
+  found a new m = subst (λ (x : Story). IsLegal x.shape (calls_of x.log)) m.story m.legal
+
+  in-slots : (a : Act) (new : Story) → MakesCall o w a new → (p : Place) → S.places w ≡ p → p ≢ Free → slot_of p < o.shape.slots
+  in-slots a new m p at busy = within-slots o.shape p (subst (IsPlaceWithin o.shape) at ((within o.shape (calls_of o.log) (found a new m).2).places w)) busy
+
+  open-set : (x : SlotState) → HoldsTaskSet totals x → is_open x ≡ true → IsSome (totals (id_of x))
+  open-set (Open t) has open_ = some-is (totals t.id) t.total has
+  open-set Empty has open_ = absurd (true≢false (sym open_))
+  open-set (Reserved u h) has open_ = absurd (true≢false (sym open_))
+  open-set (Shut t e) has open_ = absurd (true≢false (sym open_))
+  open-set (Finishing id u h) has open_ = absurd (true≢false (sym open_))
+
+  owed-set : (x : SlotState) (v : ℕ) → HoldsTaskSet totals x → owes x v ≡ true → IsSome (totals (id_of x))
+  owed-set (Shut t e) v has owed = some-is (totals t.id) t.total has
+  owed-set Empty v has owed = absurd (true≢false (sym owed))
+  owed-set (Reserved u h) v has owed = absurd (true≢false (sym owed))
+  owed-set (Open t) v has owed = absurd (true≢false (sym owed))
+  owed-set (Finishing id u h) v has owed = absurd (true≢false (sym owed))
+
+  pub sees : (l : Look) (new : Story) → MakesCall o w (look_act l) new → SeesTaskSet totals l
+  sees (look.Open id) new m =
+      let r = (found (LookOpen id) new m).1 in
+      subst (λ i. IsSome (totals i)) (sym r.3) (open-set (S.slots r.0) (sets r.0 (in-slots (LookOpen id) new m (Entered r.0) r.1 (λ e. cc))) r.2)
+  sees look.Invalid new m = tt
+  sees look.Vacant new m = tt
+
+  leaves : (p : Place) → can_leave p ≡ true → p ≢ Free
+  leaves p can e = true≢false (sym can ∙ ap can_leave e)
+
+  pub owes-set : (l : Leave) (new : Story) → MakesCall o w (leave_act l) new → OwesTaskSet totals l
+  owes-set (leave.Owe x) new m =
+      let r = (found (LeaveOwe x.id) new m).1 in
+      let s = slot_of (S.places w) in
+      subst (λ i. IsSome (totals i)) (sym r.2) (owed-set (S.slots s) w (sets s (in-slots (LeaveOwe x.id) new m (S.places w) refl (leaves (S.places w) r.0))) r.1)
+  owes-set leave.Left new m = tt
+
+  work-set : (x : SlotState) → HoldsTaskSet totals x → (is_open x ≡ true) ⊎ (is_shut x ≡ true) → totals (id_of x) ≡ Some (task_of x).total
+  work-set (Open t) has k = has
+  work-set (Shut t e) has k = has
+  work-set Empty has k = absurd (⊎_elim (λ e. true≢false (sym e)) (λ e. true≢false (sym e)) k)
+  work-set (Reserved u h) has k = absurd (⊎_elim (λ e. true≢false (sym e)) (λ e. true≢false (sym e)) k)
+  work-set (Finishing id u h) has k = absurd (⊎_elim (λ e. true≢false (sym e)) (λ e. true≢false (sym e)) k)
+
+  pub cuts : (n : ℕ) (c : Claim) (new : Story) → w < o.shape.workers → MakesCall o w (claim_act n c) new → IsCutRange (totals (id_at (S.places w))) n c
+  cuts n (claim.Range from to) new low m =
+      let (s, id, at, some_, most, begins, below, ends) = (found (ClaimRange n from to) new m).1 in
+      let x = S.slots s in
+      let was = inside-slots o.shape S (table o.shape (calls_of o.log) (found (ClaimRange n from to) new m).2) s w id low (subst (λ q. has_own_cell q s ≡ true) (sym at) (eq-eqb s s refl)) (subst (λ q. is_inside q id ≡ true) (sym at) (eq-eqb id id refl)) in
+      let has : totals (id_of x) ≡ Some (task_of x).total = work-set x (sets s (in-slots (ClaimRange n from to) new m (At s id) at (λ e. cc))) was.0 in
+      let same : id_at (S.places w) ≡ id_of x = ap id_at at ∙ sym was.1 in
+      subst (λ t. IsSomeAnd t (λ u. (from < u) × (to ≡ min u (from + n)))) (sym (ap totals same ∙ has)) (below, ends)
+  cuts n (claim.Exhausted x) new low m = tt
+
+-- ---- what a call asks of notes
+
+module _ (totals : ℕ → Option ℕ) (d : Shape) (w : ℕ) (p : Place) (notes : ℕ → Note) where
+  pub look-allows : (l : Look) → NotesAllow totals d w p notes (look_act l)
+  look-allows (look.Open id) = tt
+  look-allows look.Invalid = tt
+  look-allows look.Vacant = tt
+
+  pub claim-allows : (n : ℕ) (c : Claim) → NotesAllow totals d w p notes (claim_act n c)
+  claim-allows n (claim.Range from to) = tt
+  claim-allows n (claim.Exhausted x) = tt
+
+  pub shut-allows : (r : Shutting) → NotesAllow totals d w p notes (shut_act r)
+  shut-allows (shut.Won x) = tt
+  shut-allows shut.Lost = tt
+
+  pub mark-allows : (r : Mark) → NotesAllow totals d w p notes (mark_act r)
+  mark-allows mark.Marked = tt
+  mark-allows mark.Missed = tt
+
+  pub sweep-allows : (r : Sweep) → NotesAllow totals d w p notes (sweep_act r)
+  sweep-allows (sweep.Last x) = tt
+  sweep-allows (sweep.Others n) = tt
+
+  pub pay-allows : (r : Pay) → NotesAllow totals d w p notes (pay_act r)
+  pay-allows (pay.Last x) = tt
+  pay-allows pay.Done = tt
+
+  pub reserve-allows : (s : ℕ) (r : Reserve) → NotesAllow totals d w p notes (reserve_act s r)
+  reserve-allows s (reserve.Got x) = tt
+  reserve-allows s (reserve.Taken word) = tt
+
+  pub admit-allows : (q : ℕ) (r : Admit) → NotesAllow totals d w p notes (admit_act q r)
+  admit-allows q admit.Got = tt
+  admit-allows q (admit.Lost now) = tt
+
+-- who leaves has kept its own cell, as a leave asks
+pub leave-allows : (totals : ℕ → Option ℕ) (d : Shape) (w : ℕ) (p : Place) (notes : ℕ → Note) (l : Leave) → (has_cell p ≡ true → notes w ≡ Kept) → NotesAllow totals d w p notes (leave_act l)
+leave-allows totals d w p notes leave.Left h = h
+leave-allows totals d w p notes (leave.Owe x) h = h
+
+-- ---- the cells of a new table
+
+-- an element of a list whose elements are None
+pub none-of : {A : Type 0} (l : List (Option A)) → All (λ x. x ≡ None) l → (i : ℕ) (x : Option A) → slice_get l i ≡ Some x → x ≡ None
+none-of l all i x is = ⊎_elim (λ (y, low, at, read_). sym (get_or_from_slice_get l i x x is) ∙ all i x low) (λ (past, at). absurd (cc (is, at))) (slice_get_cases l i).1
+
+-- ---- tokens after a call
+
+-- a holder after it admitted a query, noted or set a total; where the admission is lost it is the same
+pub admit-holds : (d : Shape) (w : ℕ) (p r : Place) (h : Holder) (q : ℕ) (a : Admit) → IsHolder d w p h → r ≡ moved d (admit_act q a) p → IsHolder d w r (admitted_holder q a h)
+admit-holds d w p r h q admit.Got ok goes = record { worker = ok.worker; noted = ok.noted; total = ok.total; place = goes ∙ ap (moved d (AdmitGot q)) ok.place }
+admit-holds d w p r h q (admit.Lost now) ok goes = record { worker = ok.worker; noted = ok.noted; total = ok.total; place = goes ∙ ok.place }
+
+pub note-holds : (d : Shape) (w : ℕ) (p r : Place) (h : Holder) (k : ℕ) → IsHolder d w p h → r ≡ moved d (NoteDone k) p → IsHolder d w r h
+note-holds d w p r h k ok goes = record { worker = ok.worker; noted = k; total = ok.total; place = goes ∙ ap (moved d (NoteDone k)) ok.place }
+
+pub total-holds : (d : Shape) (w : ℕ) (p r : Place) (h : Holder) (t : ℕ) → IsHolder d w p h → r ≡ moved d (Total t) p → IsHolder d w r h
+total-holds d w p r h t ok goes = record { worker = ok.worker; noted = ok.noted; total = Some t; place = goes ∙ ap (moved d (Total t)) ok.place }
+
+-- a coordinator that asked one more
+pub mark-holds : (d : Shape) (w : ℕ) (p r : Place) (c : Coordinator) (k : Mark) → IsCoordinator d w p c → r ≡ moved d (mark_act k) p → IsCoordinator d w r (record c { asked = c.asked + 1; marked = c.marked + marked_more k })
+mark-holds d w p r c mark.Marked ok goes = record { worker = ok.worker; workers = ok.workers; place = goes ∙ ap (moved d MarkMarked) ok.place }
+mark-holds d w p r c mark.Missed ok goes = record { worker = ok.worker; workers = ok.workers; place = goes ∙ ap (moved d MarkMissed) ok.place }
+
+-- an announcer that told one more, and is not done
+pub tell-holds : (d : Shape) (w : ℕ) (p r : Place) (x : Announcer) → IsAnnouncer d w p x → r ≡ moved d Tell p → x.told + 1 < d.workers → IsAnnouncer d w r (record x { told = x.told + 1 })
+tell-holds d w p r x ok goes more = record {
+  worker = ok.worker;
+  workers = ok.workers;
+  place = goes ∙ ap (moved d Tell) ok.place ∙ ap (λ b. cond b Free (Announcing x.slot x.again (x.told + 1))) (ne_eqb (x.told + 1) d.workers (λ e. omega arith));
+}
+
+-- ---- the slot that an announcer opened
+
+left-else : (p : Place) (s k : ℕ) (again : Bool) → left p ≢ Announcing s again k
+left-else Free s k again = λ e. cc
+left-else (Entered t) s k again = λ e. cc
+left-else (Astray t) s k again = λ e. cc
+left-else (At t id) s k again = λ e. cc
+left-else (Used t id) s k again = λ e. cc
+left-else (Behind t id) s k again = λ e. cc
+left-else (Leading t id) s k again = λ e. cc
+left-else (Asking t id n m) s k again = λ e. cc
+left-else (Owing t id) s k again = λ e. cc
+left-else (Holding t h) s k again = λ e. cc
+left-else (Announcing t b n) s k again = λ e. cc
+
+asked-else : (p : Place) (j s k : ℕ) (again : Bool) → asked_one p j ≡ Announcing s again k → p ≡ Announcing s again k
+asked-else (Asking t id n m) j s k again e = absurd (cc e)
+asked-else Free j s k again e = e
+asked-else (Entered t) j s k again e = e
+asked-else (Astray t) j s k again e = e
+asked-else (At t id) j s k again e = e
+asked-else (Used t id) j s k again e = e
+asked-else (Behind t id) j s k again e = e
+asked-else (Leading t id) j s k again e = e
+asked-else (Owing t id) j s k again e = e
+asked-else (Holding t h) j s k again e = e
+asked-else (Announcing t b n) j s k again e = e
+
+holding-else : (a : Act) (p : Place) (s k : ℕ) (again : Bool) → holding_after a p ≡ Announcing s again k → p ≡ Announcing s again k
+holding-else a (Holding t h) s k again e = absurd (cc e)
+holding-else a Free s k again e = e
+holding-else a (Entered t) s k again e = e
+holding-else a (Astray t) s k again e = e
+holding-else a (At t id) s k again e = e
+holding-else a (Used t id) s k again e = e
+holding-else a (Behind t id) s k again e = e
+holding-else a (Leading t id) s k again e = e
+holding-else a (Asking t id n m) s k again e = e
+holding-else a (Owing t id) s k again e = e
+holding-else a (Announcing t b n) s k again e = e
+
+told-else : (d : Shape) (p : Place) (s k : ℕ) (again : Bool) → told_one d p ≡ Announcing s again k → (j : ℕ) × (p ≡ Announcing s again j)
+told-else d (Announcing t b n) s k again = choose (eqb (n + 1) d.workers) Free (Announcing t b (n + 1)) (λ q. q ≡ Announcing s again k → (j : ℕ) × (Announcing t b n ≡ Announcing s again j)) (λ h e. absurd (cc e)) (λ h e. (n, cc))
+told-else d Free s k again = λ e. absurd (cc e)
+told-else d (Entered t) s k again = λ e. absurd (cc e)
+told-else d (Astray t) s k again = λ e. absurd (cc e)
+told-else d (At t id) s k again = λ e. absurd (cc e)
+told-else d (Used t id) s k again = λ e. absurd (cc e)
+told-else d (Behind t id) s k again = λ e. absurd (cc e)
+told-else d (Leading t id) s k again = λ e. absurd (cc e)
+told-else d (Asking t id n m) s k again = λ e. absurd (cc e)
+told-else d (Owing t id) s k again = λ e. absurd (cc e)
+told-else d (Holding t h) s k again = λ e. absurd (cc e)
+
+-- who announces did so before, or has just installed
+abbrev Announced : Act → Place → ℕ → Bool → Type 0
+Announced a p s again = ((j : ℕ) × (p ≡ Announcing s again j) × (opens a ≡ false)) ⊎ ((opens a ≡ true) × (slot_of p ≡ s) × ((held_at p).again ≡ again))
+
+announced : (d : Shape) (a : Act) (p : Place) (s k : ℕ) (again : Bool) → moved d a p ≡ Announcing s again k → Announced a p s again
+announced d (Install id) p s k again e = inr (refl, cc, cc)
+announced d Tell p s k again e = let r = told-else d p s k again e in inl (r.0, r.1, refl)
+announced d LeaveLeft p s k again e = absurd (left-else p s k again e)
+announced d MarkMarked p s k again e = inl (k, asked-else p 1 s k again e, refl)
+announced d MarkMissed p s k again e = inl (k, asked-else p 0 s k again e, refl)
+announced d (AdmitGot q) p s k again e = inl (k, holding-else (AdmitGot q) p s k again e, refl)
+announced d (NoteDone n) p s k again e = inl (k, holding-else (NoteDone n) p s k again e, refl)
+announced d (Total t) p s k again e = inl (k, holding-else (Total t) p s k again e, refl)
+announced d (ClaimRange n from to) p s k again e = inl (k, e, refl)
+announced d (ReserveTaken t word) p s k again e = inl (k, e, refl)
+announced d (AdmitLost q now) p s k again e = inl (k, e, refl)
+announced d (Arrivals n) p s k again e = inl (k, e, refl)
+announced d (Finished n) p s k again e = inl (k, e, refl)
+announced d (TakeReturn part bits) p s k again e = inl (k, e, refl)
+announced d (TakeChange part bits) p s k again e = inl (k, e, refl)
+announced d (Enter t) p s k again e = absurd (cc e)
+announced d (LookOpen id) p s k again e = absurd (cc e)
+announced d LookInvalid p s k again e = absurd (cc e)
+announced d LookVacant p s k again e = absurd (cc e)
+announced d (ClaimUsed n) p s k again e = absurd (cc e)
+announced d ShutWon p s k again e = absurd (cc e)
+announced d ShutLost p s k again e = absurd (cc e)
+announced d (LeaveOwe id) p s k again e = absurd (cc e)
+announced d PayLast p s k again e = absurd (cc e)
+announced d PayDone p s k again e = absurd (cc e)
+announced d SweepLast p s k again e = absurd (cc e)
+announced d (SweepOthers n) p s k again e = absurd (cc e)
+announced d (ReserveGot t) p s k again e = absurd (cc e)
+announced d Release p s k again e = absurd (cc e)
+
+opened-step : (d : Shape) (w s k : ℕ) (again : Bool) (e : Entry) (es : List Entry) → ((j : ℕ) → place_of d es w ≡ Announcing s again j → last_opened d w es ≡ Some (s, again)) → Dec (w ≡ e.worker) → place_of d (e ∷ es) w ≡ Announcing s again k → last_opened d w (e ∷ es) ≡ Some (s, again)
+opened-step d w s k again e es ih (yes same) at =
+    let goes = sym (place-mine d e es w same) ∙ at in
+    let eqs : eqb w e.worker ≡ true = eq-eqb w e.worker same in
+    ⊎_elim
+    (λ (j, was, opens_). ap₂ (λ a b. cond (a && b) (Some (slot_of (place_of d es w), (held_at (place_of d es w)).again)) (last_opened d w es)) eqs opens_ ∙ ih j was)
+    (λ (opens_, slot, kind). ap₂ (λ a b. cond (a && b) (Some (slot_of (place_of d es w), (held_at (place_of d es w)).again)) (last_opened d w es)) eqs opens_ ∙ ap₂ (λ t b. Some (t, b)) slot kind)
+    (announced d e.act (place_of d es w) s k again goes)
+opened-step d w s k again e es ih (no other) at =
+    ap (λ a. cond (a && opens e.act) (Some (slot_of (place_of d es w), (held_at (place_of d es w)).again)) (last_opened d w es)) (ne_eqb w e.worker other) ∙ ih k (sym (place-other d e es w other) ∙ at)
+
+-- the slot that an announcer tells of is the one that it opened last
+pub announcer-opened : (d : Shape) (w s : ℕ) (again : Bool) (h : List Entry) (k : ℕ) → place_of d h w ≡ Announcing s again k → last_opened d w h ≡ Some (s, again)
+announcer-opened d w s again [] k at = absurd (cc at)
+announcer-opened d w s again (e ∷ es) k at = opened-step d w s k again e es (announcer-opened d w s again es) (ℕ_discrete w e.worker) at
+
+-- an announcer that told every worker
+pub tell-done : (d : Shape) (w : ℕ) (h : List Entry) (x : Announcer) → IsAnnouncer d w (place_of d (trail_in w h) w) x → x.told + 1 ≡ d.workers → IsDone d w (trail_in w (entry w Tell ∷ h)) (record x { told = x.told + 1 })
+tell-done d w h x ok all =
+    let at : place_of d h w ≡ Announcing x.slot x.again x.told = sym (place-trail d w h) ∙ ok.place in record {
+      worker = ok.worker;
+      workers = ok.workers;
+      told = all;
+      free = place-trail d w (entry w Tell ∷ h) ∙ place-mine d (entry w Tell) h w refl ∙ ap (moved d Tell) at ∙ ap (λ b. cond b Free (Announcing x.slot x.again (x.told + 1))) (eq-eqb (x.told + 1) d.workers all);
+      opened = ap (last_opened d w) (trail-call w Tell h) ∙ ap (λ b. cond (b && false) (Some (slot_of (place_of d h w), (held_at (place_of d h w)).again)) (last_opened d w h)) (eq-eqb w w refl) ∙ announcer-opened d w x.slot x.again h x.told at;
+    }
+
+module _ {Sub : Type 0} (o : Story) (subject : Sub) (start now : Plain Sub) (view : record { shape = o.shape; subject = subject; log = o.log } ≡ now) (shape : now.shape ≡ start.shape) (same : now.subject ≡ start.subject) (w : ℕ) where
+  pub tell-seat_done : (new : Story) → MakesCall o w Tell new → (x : Announcer) → IsAnnouncer start.shape w (place_at (desk_over start w) (trail_in w (calls_of now.log))) x → x.told + 1 ≡ start.shape.workers
+      → IsDone start.shape w (trail_in w (calls_of new.log)) (record x { told = x.told + 1 })
+  tell-seat_done new m x ok all =
+      let grows : new.log ≡ call w Tell ∷ now.log = ap (λ (y : Story). y.log) m.story ∙ ap (λ (t : Plain Sub). call w Tell ∷ t.log) view in
+      subst (λ l. IsDone start.shape w (trail_in w (calls_of l)) (record x { told = x.told + 1 })) (sym grows) (tell-done start.shape w (calls_of now.log) x ok all)

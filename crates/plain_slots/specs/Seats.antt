@@ -1,0 +1,31 @@
+-- A seat of a table for one thread.
+use Rattle.std.specs.Prelude.{◌≡◌, ℕ, List, [], ◌∷◌, ◌++◌, cond, eqb, All}
+use Rattle.slot_history.specs.declared.act.Entry.{Entry}
+use Rattle.plain_slots.specs.declared.log.Logged.{Logged}
+use Rattle.plain_slots.specs.Desks.{Desk}
+use Rattle.plain_slots.specs.Log.{who}
+use Rattle.plain_slots.specs.Plain.{Plain}
+
+-- which table a seat borrows, by the name of the borrow, the table as it was when the seat was made, and whose seat it is
+pub record SeatOrigin (Sub : Type 0) : Type 0 where
+  pub name : ℕ
+  pub start : Plain Sub
+  pub worker : ℕ
+
+-- the desk of the worker w, over a table that was this
+abbrev pub desk_over : {Sub : Type 0} → Plain Sub → ℕ → Desk Sub
+desk_over t w = record { worker = w; shape = t.shape; subject = t.subject }
+
+abbrev pub desk_of : {Sub : Type 0} → SeatOrigin Sub → Desk Sub
+desk_of o = desk_over o.start o.worker
+
+-- the trail of w: the history up to its last entry
+abbrev pub trail_in : ℕ → List Entry → List Entry
+trail_in w [] = []
+trail_in w (e ∷ es) = cond (eqb w e.worker) (e ∷ es) (trail_in w es)
+
+-- the table was `start`, and since then only w has made steps on it
+pub record IsSince {Sub : Type 0} (start now : Plain Sub) (w : ℕ) : Type 0 where
+  pub more : List Logged
+  pub log : now.log ≡ more ++ start.log
+  pub own : All (λ x. who x ≡ w) more

@@ -1,0 +1,232 @@
+//! What a one-thread table answers, and what it writes for that.
+ghost use Rattle.std.specs.Prelude.{◌≡◌, ℕ, ◌+◌, ◌*◌, ◌/◌, ◌%◌, ◌^◌, ◌<◌, ◌≤◌, Bool, true, false, cond, eqb, ◌||◌, ◌&&◌, ◌∷◌, Some, length, bit_or, slice_get, slice_set, slice_index, slice_index_or};
+ghost use Rattle.slot_history.specs.declared.shape.Shape.{Shape};
+ghost use Rattle.slot_history.specs.declared.shape.TheConstants.{PARTS, MOST_SLOTS, MOST_WORKERS};
+ghost use Rattle.slot_history.specs.declared.act.Act.TheVariants.{SweepOthers, PayDone};
+ghost use Rattle.slot_history.specs.declared.place.Place.{Place};
+ghost use Rattle.slot_history.specs.declared.place.Place.TheVariants.{Asking, Announcing};
+ghost use Rattle.slot_history.specs.Sets.{count_of};
+ghost use Rattle.slot_history.specs.States as states;
+ghost use Rattle.slot_history.specs.Steps as steps;
+ghost use Rattle.slot_history.specs.Table.{nth_other};
+ghost use Rattle.plain_slots.specs.Answers.{claim_of, shut_of, leave_of, mark_of, finaliser_of, sweep_of, pay_of, reserve_of, admit_of};
+ghost use Rattle.plain_slots.specs.Log.{call};
+ghost use Rattle.plain_slots.specs.Places.{IsCounted};
+ghost use Rattle.plain_slots.specs.Slots.{shown};
+
+use crate::log::Logged;
+use crate::moves::{id_at, place_after, slot_at};
+use crate::notes::Notes;
+use crate::reply::{Admit, Claim, Leave, Mark, Pay, Reserve, Shut, Sweep};
+use crate::slot::{Slot, id_in, is_swept, sweep_in, word_in};
+use crate::token::{Coordinator, Debt, Holder, Spent};
+use slot_history::act::{Act, Entry};
+use slot_history::place::Place;
+use slot_history::shape::{PARTS, STAGES, Shape};
+
+/// The place of the cell of a slot and a worker among all cells.
+pub(crate) fn cell_index(shape: &Shape, slot: u32, worker: u32) -> usize
+    ensures { result ≡ slot * shape.now.workers + worker }
+{
+    let slot = u64::from(slot);
+    (slot * u64::from(shape.workers) + u64::from(worker)) as usize
+}
+
+/// The place of a mask word among those of all workers.
+pub(crate) fn mask_index(worker: u32, part: u32) -> usize
+    requires { (worker < MOST_WORKERS) × (part < PARTS) }
+    ensures { result ≡ worker * PARTS + part }
+{
+    (worker * PARTS + part) as usize
+}
+
+/// Puts the worker to its next place and notes its call.
+pub(crate) fn step(
+    shape: &Shape,
+    places: &mut Vec<Place>,
+    log: &mut Notes<Logged>,
+    worker: u32,
+    act: &Act,
+)
+    requires worker { worker < length places.old.items }
+    requires counted { (p : Place) → slice_get places.old.items worker ≡ Some p → IsCounted p }
+    ensures places { (p : Place) → slice_get places.old.items worker ≡ Some p → places.new.items ≡ slice_set places.old.items worker (steps.moved shape.now act.now p) }
+    ensures log { log.new ≡ call worker act.now ∷ log.old }
+{
+    let place = &mut places[worker as usize];
+    *place = place_after(shape, act, *place);
+    log.note(&Logged::Call(Entry { worker, act: *act }));
+}
+
+/// What a claim answers that got this range, or none.
+pub(crate) fn claimed_by(worker: u32, place: &Place, range: Option<(u32, u32)>) -> Claim
+    ensures { result ≡ claim_of worker place.now range }
+{
+    match range {
+        Some((from, to)) => Claim::Range(from, to),
+        None => Claim::Exhausted(Spent {
+            worker,
+            slot: slot_at(place),
+            id: id_at(place),
+        }),
+    }
+}
+
+/// What a shut answers that came first, or did not.
+pub(crate) fn shut_by(worker: u32, place: &Place, shape: &Shape, is_first: bool) -> Shut
+    ensures { result ≡ shut_of worker place.now shape.now is_first }
+{
+    if is_first {
+        Shut::Won(Coordinator {
+            worker,
+            slot: slot_at(place),
+            id: id_at(place),
+            workers: shape.workers,
+            asked: 0,
+            marked: 0,
+        })
+    } else {
+        Shut::Lost
+    }
+}
+
+/// What a leave answers of a worker that has to pay, or has not.
+pub(crate) fn left_by(worker: u32, slot: u32, id: u32, owes: bool) -> Leave
+    ensures { result ≡ leave_of worker slot id owes }
+{
+    if owes {
+        Leave::Owe(Debt { worker, slot, id })
+    } else {
+        Leave::Left
+    }
+}
+
+/// The worker that a coordinator asks next: the workers in ascending order, itself left out.
+pub(crate) fn next_to_ask(worker: u32, place: &Place) -> u32
+    requires { (s id n m : ℕ) × (place.now ≡ Asking s id n m) × (n < MOST_WORKERS) }
+    ensures { (s id n m : ℕ) → place.now ≡ Asking s id n m → result ≡ nth_other worker n }
+{
+    let Place::Asking(_, _, asked, _) = *place else {
+        unreachable!()
+    };
+    if asked < worker { asked } else { asked + 1 }
+}
+
+/// Marks a worker that is at the slot.
+pub(crate) fn mark_if(is_there: bool, owes: &mut bool) -> Mark
+    ensures mark { result ≡ mark_of is_there }
+    ensures owes { owes.new ≡ (is_there || owes.old) }
+{
+    if is_there {
+        *owes = true;
+        Mark::Marked
+    } else {
+        Mark::Missed
+    }
+}
+
+/// How many workers have to pay at a slot.
+pub(crate) fn debts_at(owing: &[bool], shape: &Shape, slot: u32) -> u32
+    requires { slot * shape.now.workers + shape.now.workers ≤ length owing.now }
+    ensures { result ≡ count_of shape.now.workers (λ v. slice_index_or owing.now (slot * shape.now.workers + v) false) }
+{
+    let mut debts = 0;
+    for worker in 0..shape.workers {
+        if owing[cell_index(shape, slot, worker)] {
+            debts += 1;
+        }
+    }
+    debts
+}
+
+/// The holder that a worker at this place becomes where it finalises.
+fn finaliser(worker: u32, place: &Place) -> Holder
+    ensures { result ≡ finaliser_of worker place.now }
+{
+    let id = id_at(place);
+    Holder {
+        worker,
+        slot: slot_at(place),
+        query: Some(id / STAGES),
+        stage: id % STAGES,
+        again: true,
+    }
+}
+
+/// Sweeps a slot at which so many workers have to pay.
+pub(crate) fn swept_by(worker: u32, place: &Place, slot: &mut Slot, debts: u32) -> Sweep
+    ensures sweep { result ≡ sweep_of worker place.now debts }
+    ensures slot { (x : states.SlotState) (d : Shape) → shown x ≡ slot.old → states.is_shut x ≡ true → slot.new ≡ cond (eqb debts 0) (shown (steps.finalised_by worker x)) (shown (steps.ended d worker (SweepOthers debts) x)) }
+{
+    if debts == 0 {
+        *slot = Slot::Finishing(id_in(slot));
+        Sweep::Last(finaliser(worker, place))
+    } else {
+        sweep_in(slot);
+        Sweep::Others(debts)
+    }
+}
+
+/// Pays at a slot at which so many other workers have to pay.
+pub(crate) fn paid_by(worker: u32, place: &Place, slot: &mut Slot, debts: u32) -> Pay
+    ensures pay { (x : states.SlotState) → shown x ≡ slot.old → result ≡ pay_of worker place.now (states.is_swept x && eqb debts 0) }
+    ensures slot { (x : states.SlotState) → shown x ≡ slot.old → states.is_shut x ≡ true → slot.new ≡ cond (states.is_swept x && eqb debts 0) (shown (steps.finalised_by worker x)) (shown x) }
+{
+    if is_swept(slot) && debts == 0 {
+        *slot = Slot::Finishing(id_in(slot));
+        Pay::Last(finaliser(worker, place))
+    } else {
+        Pay::Done
+    }
+}
+
+/// Reserves a slot that is empty.
+pub(crate) fn reserved_by(worker: u32, s: u32, slot: &mut Slot) -> Reserve
+    ensures reserve { (x : states.SlotState) → shown x ≡ slot.old → result ≡ reserve_of worker s x }
+    ensures slot { (x : states.SlotState) → shown x ≡ slot.old → slot.new ≡ cond (states.is_empty x) (shown (states.Reserved worker states.reservation)) (shown x) }
+{
+    match slot {
+        Slot::Empty => {
+            *slot = Slot::Reserved;
+            Reserve::Got(Holder {
+                worker,
+                slot: s,
+                query: None,
+                stage: 0,
+                again: false,
+            })
+        }
+        _ => Reserve::Taken(word_in(slot)),
+    }
+}
+
+/// Admits query q where it is the next one.
+pub(crate) fn admit_at(admitted: &mut u32, q: u32) -> Admit
+    requires { q + 1 < 2 ^ 32 }
+    ensures admit { result ≡ admit_of q admitted.old }
+    ensures admitted { admitted.new ≡ cond (eqb admitted.old q) (admitted.old + 1) admitted.old }
+{
+    if *admitted == q {
+        *admitted += 1;
+        Admit::Got
+    } else {
+        Admit::Lost(*admitted)
+    }
+}
+
+/// Gives the next worker that an announcer tells a notice of its slot.
+pub(crate) fn tell_at(place: &Place, returns: &mut Vec<u64>, changes: &mut Vec<u64>)
+    requires { (s told : ℕ) × (again : Bool) × (place.now ≡ Announcing s again told) × (s < MOST_SLOTS) × (told < MOST_WORKERS) × (told * PARTS + s / 64 < length returns.old.items) × (told * PARTS + s / 64 < length changes.old.items) }
+    ensures again { (s told : ℕ) → place.now ≡ Announcing s true told → (changes.new.items ≡ changes.old.items) × (returns.new.items ≡ slice_set returns.old.items (told * PARTS + s / 64) (bit_or (slice_index returns.old.items (told * PARTS + s / 64)) (1 * 2 ^ (s % 64) % 2 ^ 64))) }
+    ensures first { (s told : ℕ) → place.now ≡ Announcing s false told → (returns.new.items ≡ returns.old.items) × (changes.new.items ≡ slice_set changes.old.items (told * PARTS + s / 64) (bit_or (slice_index changes.old.items (told * PARTS + s / 64)) (1 * 2 ^ (s % 64) % 2 ^ 64))) }
+{
+    let Place::Announcing(s, again, told) = *place else {
+        unreachable!()
+    };
+    let at = mask_index(told, s / 64);
+    if again {
+        returns[at] |= 1 << (s % 64);
+    } else {
+        changes[at] |= 1 << (s % 64);
+    }
+}

@@ -1,0 +1,297 @@
+//! The station of one worker over a table for one thread.
+ghost use Rattle.std.specs.Prelude.{◌≡◌, ◌≢◌, ℕ, ◌+◌, ◌<◌, true, IfSome};
+ghost use Rattle.std.proofs.Props.{props};
+ghost use Rattle.std.specs.Coded.{Coded-set};
+ghost use Rattle.plain_slots.specs.Cells.{has_cell, kept_note, fresh_note, NoteSays};
+ghost use Rattle.plain_slots.specs.Desks.{place_at, ByTrail, OwnFits, NextFits, FinalisedFits};
+ghost use Rattle.plain_slots.specs.Log.{calls_of, note_in};
+ghost use Rattle.plain_slots.specs.Seats.{IsSince, SeatOrigin, desk_over, desk_of, trail_in};
+ghost use Rattle.plain_slots.specs.Tokens.{IsHolder};
+
+use crate::answers::cell_index;
+use crate::log::Exchange;
+use crate::moves::slot_at;
+use crate::note::{fresh_for, kept_for};
+use crate::reply::{Admit, Claim, Leave, Look, Mark, Pay, Reserve, Shut, Sweep};
+use crate::station::{Fits, Station};
+use crate::steps::Steps;
+use crate::table::PlainTable;
+use crate::token::{Announcer, Coordinator, Debt, Holder, Spent};
+use std::mem;
+use std::snapshot::Snapshot;
+use std::sync::ledger::Ledger;
+
+/// The station of one worker, while it borrows the table. When it ends, the table stands as it left it.
+pub struct PlainSeat<'a, B: Fits> {
+    pub table: &'a mut PlainTable<B>,
+    pub worker: u32,
+    /// The table as it was when the seat was made, for contracts alone.
+    pub start: Snapshot<PlainTable<B>>,
+    ghost below: { worker < table.now.shape.workers },
+    ghost shape: { table.now.shape ≡ start.value.shape },
+    ghost subject: { table.now.subject ≡ start.value.subject } by { Prim.hlevel (props, Coded-set B.Subject.code) },
+    ghost since: { ∥ IsSince start.value table.now worker ∥₁ },
+}
+
+impl<B: Fits> PlainTable<B> {
+    /// The station of one worker.
+    pub fn seat(&mut self, worker: u32) -> PlainSeat<'_, B>
+        requires { worker < self.old.shape.workers }
+        ensures same { result.table.ghost_name ≡ self.entry.ghost_name }
+        ensures table { result.table.now ≡ self.old }
+        ensures start { result.start.value ≡ self.old }
+        ensures worker { result.worker ≡ worker }
+    {
+        let start = Snapshot::of(&*self);
+        PlainSeat {
+            table: self,
+            worker,
+            start,
+        }
+    }
+}
+
+impl<B: Fits> Drop for PlainSeat<'_, B> {
+    fn drop(self)
+        ensures { self.exit.0.now ≡ self.entry.table.now }
+    {
+        let PlainSeat {
+            table: _,
+            worker: _,
+            start: _,
+        } = self;
+    }
+}
+
+impl<B: Fits> Station<B> for PlainSeat<'_, B> {
+    ghost Origin = { SeatOrigin B.Subject };
+
+    ghost origin = { λ s. record { name = s.table.ghost_name; start = s.start.value; worker = s.worker } };
+
+    ghost desk = { desk_of };
+
+    ghost trail = { λ s. trail_in s.worker (calls_of s.table.now.log) };
+
+    ghost notes = { λ s v. note_in s.table.now.log s.worker v };
+
+    fn worker(&self) -> u32 {
+        self.worker
+    }
+
+    fn workers(&self) -> u32 {
+        let table = &*self.table;
+        table.object.shape().workers
+    }
+
+    fn slots(&self) -> u32 {
+        let table = &*self.table;
+        table.object.shape().slots
+    }
+
+    fn enter<L: Ledger>(&mut self, s: u32, steps: &mut Steps<L>) {
+        steps.tick();
+        let worker = self.worker;
+        let table = &mut *self.table;
+        table.object.enter(worker, s);
+    }
+
+    fn look<L: Ledger>(&mut self, steps: &mut Steps<L>) -> Look {
+        steps.tick();
+        let worker = self.worker;
+        let table = &mut *self.table;
+        table.object.look(worker)
+    }
+
+    fn claim<L: Ledger>(&mut self, n: u32, steps: &mut Steps<L>) -> Claim {
+        steps.tick();
+        let worker = self.worker;
+        let table = &mut *self.table;
+        table.object.claim(worker, n)
+    }
+
+    fn shut<L: Ledger>(&mut self, _spent: Spent, steps: &mut Steps<L>) -> Shut {
+        steps.tick();
+        let worker = self.worker;
+        let table = &mut *self.table;
+        table.object.shut(worker)
+    }
+
+    fn leave<L: Ledger>(&mut self, steps: &mut Steps<L>) -> Leave {
+        steps.tick();
+        let worker = self.worker;
+        let table = &mut *self.table;
+        table.object.leave(worker)
+    }
+
+    fn mark_next<L: Ledger>(
+        &mut self,
+        coordinator: &mut Coordinator,
+        steps: &mut Steps<L>,
+    ) -> Mark {
+        steps.tick();
+        let worker = self.worker;
+        let table = &mut *self.table;
+        let mark = table.object.mark_next(worker);
+        coordinator.count(mark);
+        mark
+    }
+
+    fn sweep<L: Ledger>(&mut self, _coordinator: Coordinator, steps: &mut Steps<L>) -> Sweep {
+        steps.tick();
+        let worker = self.worker;
+        let table = &mut *self.table;
+        table.object.sweep(worker)
+    }
+
+    fn pay<L: Ledger>(&mut self, _debt: Debt, steps: &mut Steps<L>) -> Pay {
+        steps.tick();
+        let worker = self.worker;
+        let table = &mut *self.table;
+        table.object.pay(worker)
+    }
+
+    fn reserve<L: Ledger>(&mut self, s: u32, steps: &mut Steps<L>) -> Reserve {
+        steps.tick();
+        let worker = self.worker;
+        let table = &mut *self.table;
+        table.object.reserve(worker, s)
+    }
+
+    fn admit<L: Ledger>(&mut self, holder: &mut Holder, q: u32, steps: &mut Steps<L>) -> Admit {
+        steps.tick();
+        let worker = self.worker;
+        let table = &mut *self.table;
+        let admit = table.object.admit(worker, q);
+        holder.admit(q, admit);
+        admit
+    }
+
+    fn arrivals<L: Ledger>(&mut self, steps: &mut Steps<L>) -> u32 {
+        steps.tick();
+        let worker = self.worker;
+        let table = &mut *self.table;
+        table.object.arrivals(worker)
+    }
+
+    fn finished<L: Ledger>(&mut self, steps: &mut Steps<L>) -> u32 {
+        steps.tick();
+        let worker = self.worker;
+        let table = &mut *self.table;
+        table.object.finished(worker)
+    }
+
+    fn note_done<L: Ledger>(&mut self, _holder: &mut Holder, k: u32, steps: &mut Steps<L>) {
+        steps.tick();
+        let worker = self.worker;
+        let table = &mut *self.table;
+        table.object.note_done(worker, k);
+    }
+
+    fn set_total<L: Ledger>(&mut self, _holder: &mut Holder, total: u32, steps: &mut Steps<L>) {
+        steps.tick();
+        let worker = self.worker;
+        let table = &mut *self.table;
+        table.object.set_total(worker, total);
+    }
+
+    fn install<L: Ledger>(&mut self, _holder: Holder, id: u32, steps: &mut Steps<L>) -> Announcer {
+        steps.tick();
+        let worker = self.worker;
+        let table = &mut *self.table;
+        table.object.install(worker, id)
+    }
+
+    fn release<L: Ledger>(&mut self, _holder: Holder, steps: &mut Steps<L>) {
+        steps.tick();
+        let worker = self.worker;
+        let table = &mut *self.table;
+        table.object.release(worker);
+    }
+
+    fn announce<L: Ledger>(&mut self, announcer: &mut Announcer, steps: &mut Steps<L>) {
+        steps.tick();
+        let worker = self.worker;
+        let table = &mut *self.table;
+        table.object.announce(worker);
+        announcer.told += 1;
+    }
+
+    fn told_all(&mut self, _announcer: Announcer) {}
+
+    fn take_return<L: Ledger>(&mut self, part: u32, steps: &mut Steps<L>) -> u64 {
+        steps.tick();
+        let worker = self.worker;
+        let table = &mut *self.table;
+        table.object.take_return(worker, part)
+    }
+
+    fn take_change<L: Ledger>(&mut self, part: u32, steps: &mut Steps<L>) -> u64 {
+        steps.tick();
+        let worker = self.worker;
+        let table = &mut *self.table;
+        table.object.take_change(worker, part)
+    }
+
+    fn cell<L: Ledger>(
+        &mut self,
+        holder: &mut Holder,
+        worker: u32,
+        new: Option<B>,
+        steps: &mut Steps<L>,
+    ) -> Option<B>
+        requires holder { ByTrail IsHolder (desk_over self.old.start.value self.old.worker) (trail_in self.old.worker (calls_of self.old.table.now.log)) holder.old }
+        requires worker { worker < self.old.start.value.shape.workers }
+        requires fits { IfSome new (NextFits B.fits (desk_over self.old.start.value self.old.worker) (trail_in self.old.worker (calls_of self.old.table.now.log)) worker) }
+        ensures says { NoteSays (FinalisedFits B.fits (desk_over self.old.start.value self.old.worker) (trail_in self.old.worker (calls_of self.old.table.now.log)) worker) (NextFits B.fits (desk_over self.old.start.value self.old.worker) (trail_in self.old.worker (calls_of self.old.table.now.log)) worker)
+            (note_in self.old.table.now.log self.old.worker worker) result }
+        ensures note { note_in self.new.table.now.log self.new.worker worker ≡ fresh_note new }
+        ensures notes { (v : ℕ) → v ≢ worker → note_in self.new.table.now.log self.new.worker v ≡ note_in self.old.table.now.log self.old.worker v }
+        ensures same { holder.new ≡ holder.old }
+        ensures trail { trail_in self.new.worker (calls_of self.new.table.now.log) ≡ trail_in self.old.worker (calls_of self.old.table.now.log) }
+        ensures name { self.new.table.ghost_name ≡ self.old.table.ghost_name }
+        ensures start { self.new.start.value ≡ self.old.start.value }
+        ensures own { self.new.worker ≡ self.old.worker }
+        ensures ticks { steps.new ≡ steps.old + 1 }
+    {
+        steps.tick();
+        let own = self.worker;
+        let table = &mut *self.table;
+        let note = fresh_for(&new);
+        let at = cell_index(&table.object.shape(), holder.slot, worker);
+        let old = mem::replace(&mut table.cells[at], new);
+        table.object.exchanged(Exchange {
+            worker: own,
+            cell: worker,
+            note,
+        });
+        old
+    }
+
+    fn own_cell<L: Ledger>(&mut self, new: Option<B>, steps: &mut Steps<L>) -> Option<B>
+        requires place { has_cell (place_at (desk_over self.old.start.value self.old.worker) (trail_in self.old.worker (calls_of self.old.table.now.log))) ≡ true }
+        requires fits { IfSome new (OwnFits B.fits (desk_over self.old.start.value self.old.worker) (trail_in self.old.worker (calls_of self.old.table.now.log))) }
+        ensures says { NoteSays (OwnFits B.fits (desk_over self.old.start.value self.old.worker) (trail_in self.old.worker (calls_of self.old.table.now.log))) (λ _. ⊥)
+            (note_in self.old.table.now.log self.old.worker self.old.worker) result }
+        ensures note { note_in self.new.table.now.log self.new.worker self.old.worker ≡ kept_note new }
+        ensures notes { (v : ℕ) → v ≢ self.old.worker → note_in self.new.table.now.log self.new.worker v ≡ note_in self.old.table.now.log self.old.worker v }
+        ensures trail { trail_in self.new.worker (calls_of self.new.table.now.log) ≡ trail_in self.old.worker (calls_of self.old.table.now.log) }
+        ensures name { self.new.table.ghost_name ≡ self.old.table.ghost_name }
+        ensures start { self.new.start.value ≡ self.old.start.value }
+        ensures own { self.new.worker ≡ self.old.worker }
+        ensures ticks { steps.new ≡ steps.old + 1 }
+    {
+        steps.tick();
+        let worker = self.worker;
+        let table = &mut *self.table;
+        let note = kept_for(&new);
+        let slot = slot_at(&table.object.place(worker));
+        let at = cell_index(&table.object.shape(), slot, worker);
+        let old = mem::replace(&mut table.cells[at], new);
+        table.object.exchanged(Exchange {
+            worker,
+            cell: worker,
+            note,
+        });
+        old
+    }
+}

@@ -18,4 +18,5 @@ pub mod Notices
 pub mod Counts
 pub mod Seated
 pub mod Opening
+pub mod Holders
 pub mod SeatCells

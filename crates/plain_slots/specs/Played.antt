@@ -1,7 +1,15 @@
--- The subject of the tests.
-use Rattle.std.specs.Prelude.{ℕ, cond, eqb, List, [], ◌∷◌, Option, Some, None}
+-- What the tests play: the totals of task sets, and the place of a worker by its seat.
+use Rattle.std.specs.Prelude.{ℕ, cond, eqb, Option, Some}
+use Rattle.slot_history.specs.declared.place.Place.{Place}
+use Rattle.plain_slots.specs.Desks.{place_at}
+use Rattle.plain_slots.specs.Log.{calls_of}
+use Rattle.plain_slots.specs.Plain.{Plain}
+use Rattle.plain_slots.specs.Seats.{desk_over, trail_in}
 
--- the total of a task set, in a list of ids and totals
-abbrev pub total_in : List (ℕ × ℕ) → ℕ → Option ℕ
-total_in [] id = None
-total_in (s ∷ ss) id = cond (eqb s.0 id) (Some s.1) (total_in ss id)
+-- the total of a task set, whatever the number of queries
+abbrev pub total_of : ℕ → Option ℕ
+total_of id = Some (cond (eqb id 8) 5 (cond (eqb id 16) 100 0))
+
+-- where the worker is, by the table at the start of its seat and the table now
+abbrev pub seat_place : {Sub : Type 0} → Plain Sub → Plain Sub → ℕ → Place
+seat_place start now w = place_at (desk_over start w) (trail_in w (calls_of now.log))

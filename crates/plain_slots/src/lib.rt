@@ -16,6 +16,8 @@ pub mod note;
 pub mod notes;
 mod object;
 pub mod reply;
+#[cfg(test)]
+mod rows;
 pub mod seat;
 mod slot;
 pub mod station;
@@ -25,4 +27,4 @@ pub mod table;
 mod tests;
 pub mod token;
 
-pub use slot_history::{act, place, shape};
+pub use slot_history::{act, laws, place, shape};

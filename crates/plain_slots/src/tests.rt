@@ -13,29 +13,23 @@ use std::snapshot::Snapshot;
 use std::sync::ledger::{Blank, Ledger};
 use std::test::Fail;
 
-/// What the tests work on: so many queries, and the ids and totals of their task sets.
-#[derive(Drop)]
-struct Sets {
-    queries: u32,
-    totals: Vec<(u32, u32)>,
-}
-
 /// A cell's value: whose it is, and of which task set.
 #[derive(Drop)]
-struct Piece {
-    worker: u32,
-    id: u32,
+pub(crate) struct Piece {
+    pub(crate) worker: u32,
+    pub(crate) id: u32,
 }
 
 impl Fits for Piece {
     ghost use Rattle.std.specs.Prelude.{◌≡◌};
-    ghost use Rattle.plain_slots.specs.Played.{total_in};
+    ghost use Rattle.plain_slots.specs.Played.{total_of};
 
-    type Subject = Sets;
+    // how many queries there are
+    type Subject = u32;
 
-    ghost queries = { λ s. s.queries };
+    ghost queries = { λ s. s };
 
-    ghost total = { λ s. total_in s.totals.items };
+    ghost total = { λ s. total_of };
 
     ghost fits = { λ s w id ranges p. (p.worker ≡ w) × (p.id ≡ id) };
 }
@@ -58,11 +52,7 @@ fn finds_nothing<L: Ledger>(alloc: Global, blank: Blank) -> Result<(Look, Leave)
     requires some { 0 < blank.parts }
 {
     let mut steps = Steps::<L>::start(blank);
-    let sets = Sets {
-        queries: 1,
-        totals: Vec::new(alloc),
-    };
-    let mut table = PlainTable::make(alloc, 2, 3, 1, Snapshot::of(&sets))?;
+    let mut table = PlainTable::make(alloc, 2, 3, 1, Snapshot::of(&1))?;
     let mut seat = table.seat(1);
     Ok(pass_by(&mut seat, &mut steps))
 }
@@ -86,16 +76,12 @@ fn tables_have_limits(rt: HostRuntime) -> Result<(), Fail> {
         ((128, 64, 4096), None),
     ];
     for ((slots, workers, queries), refusal) in rows {
-        let sets = Sets {
-            queries,
-            totals: Vec::new(rt.alloc()),
-        };
         let table = PlainTable::<Piece>::make(
             rt.alloc(),
             slots,
             workers,
             queries,
-            Snapshot::of(&sets),
+            Snapshot::of(&queries),
         );
         assert_eq!(rt; table.err(), refusal, "at {slots}, {workers}, {queries}");
     }

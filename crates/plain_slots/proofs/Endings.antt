@@ -3,6 +3,7 @@ use Rattle.std.proofs.Common.{◌≡◌, ◌≢◌, ℕ, zero, suc, ◌+◌, ◌
 use Rattle.std.proofs.lemmas.Option.{get_or_from_slice_get}
 use Rattle.std.proofs.Math.Nat.{mul-le-mul_right, suc-mul}
 use mathlib.Core.Bool.{true≢false}
+use Rattle.std.proofs.lemmas.Bool.{and_parts, and_right}
 use Rattle.slot_history.specs.declared.shape.Shape.{Shape}
 use Rattle.slot_history.specs.declared.act.Act.{Act}
 use Rattle.slot_history.specs.declared.act.Act.TheVariants.{SweepLast, SweepOthers, PayLast, PayDone, MarkMarked, MarkMissed, Install, Release}
@@ -14,7 +15,7 @@ use Rattle.slot_history.specs.States.{TaskSet, Ending, SlotState, Empty, Reserve
 use Rattle.slot_history.specs.Steps.{slot_after, moved, opened, ended, finalised_by, next_asked}
 use Rattle.slot_history.specs.Allowed.{IsReady, debts, next_is_at}
 use Rattle.slot_history.specs.Table.{HasAsked, Meets, IsChainOf, duty_of, nth_other}
-use Rattle.slot_history.proofs.Sets.{upd-same, upd-else, count-same, none-counted, and-left, and-right, and-false_right}
+use Rattle.slot_history.proofs.Sets.{upd-same, upd-else, count-same, none-counted}
 use Rattle.slot_history.proofs.Duties.{asking-leads, leads-slot, owing-owes, owes-slot, holding-holds, holds-slot}
 use Rattle.slot_history.proofs.Others.{next-is, next-unasked, nth-other-within}
 use Rattle.plain_slots.specs.declared.object.Object.TheInside.{Inside}
@@ -102,15 +103,15 @@ pay-debt : (d : Shape) (w v : ℕ) (t : TaskSet) (e : Ending) → v ≢ w → ow
 pay-debt d w v t e ne = ap (λ b. e.marked v && not b) (upd-else e.paid w true v ne)
 
 paid-now : (d : Shape) (w : ℕ) (t : TaskSet) (e : Ending) → owes (ended d w PayDone (Shut t e)) w ≡ false
-paid-now d w t e = ap (λ b. e.marked w && not b) (upd-same e.paid w true) ∙ and-false_right (e.marked w) false refl
+paid-now d w t e = ap (λ b. e.marked w && not b) (upd-same e.paid w true) ∙ and_right (e.marked w) false refl
 
 pay-cases : (o : Inside) (ok : Kept o) (w : ℕ) (p : Place) (k id : ℕ) → Spot o w p k → p ≡ Owing k id → (t : TaskSet) (e : Ending) → (now_of o).slots k ≡ Shut t e → (c : ℕ) → c ≡ debts o.shape (ended o.shape w PayDone (Shut t e))
     → (owing : List Bool) → owing ≡ set o.owing.items (k * o.shape.workers + w) false → (b : Bool) → (is_swept (Shut t e) && eqb c 0) ≡ b → (y : Slot) → y ≡ cond b (shown (finalised_by w (Shut t e))) (shown (Shut t e)) → (r : Pay) → r ≡ pay_of w p b → (a' : Act) → a' ≡ pay_act r
     → (places : List Place) (log : List Logged) → Wrote o w a' places log → IsObject o.shape (set o.slots.items k y) owing places o.returns.items o.changes.items o.admitted o.finished log
 pay-cases o ok w p k id s at t e is c counts owing sets true last y holds r answers a' act places log wrote =
     let d = o.shape in let S = now_of o in
-    let none : debts d (ended d w PayDone (S.slots k)) ≡ 0 = ap (λ x. debts d (ended d w PayDone x)) is ∙ sym counts ∙ eqb-true c 0 (and-right (is_swept (Shut t e)) (eqb c 0) last) in
-    let swept : is_swept (S.slots k) ≡ true = ap is_swept is ∙ and-left (is_swept (Shut t e)) (eqb c 0) last in
+    let none : debts d (ended d w PayDone (S.slots k)) ≡ 0 = ap (λ x. debts d (ended d w PayDone x)) is ∙ sym counts ∙ eqb-true c 0 (and_parts (is_swept (Shut t e)) (eqb c 0) last).1 in
+    let swept : is_swept (S.slots k) ≡ true = ap is_swept is ∙ (and_parts (is_swept (Shut t e)) (eqb c 0) last).0 in
     let clear : (v : ℕ) → v < d.workers → v ≢ w → owes (slot_after d w PayLast (S.slots k)) v ≡ owes (S.slots k) v =
     λ v h ne. ap (λ x. owes (finalised_by w x) v) is ∙ sym (none-counted d.workers (owes (ended d w PayDone (S.slots k))) none v h) ∙ ap (λ x. owes (ended d w PayDone x) v) is ∙ pay-debt d w v t e ne ∙ ap (λ x. owes x v) (sym is) in
     writes o ok w s.low PayLast a' (act ∙ ap pay_act answers) (k, id, sym s.is ∙ at, swept, none) places log wrote (λ v q f. refl, λ v q f. refl, λ j. refl, λ j. refl) k (s.slot ∙ ap slot_of s.is) (set o.slots.items k y) owing (

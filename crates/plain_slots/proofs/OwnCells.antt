@@ -2,6 +2,7 @@
 use Rattle.std.proofs.Common.{◌≡◌, ◌≢◌, ℕ, ◌+◌, ◌<◌, ◌⊎◌, Bool, true, false, cond, eqb, List, ◌∷◌, Option, refl, sym, ap, subst, eq-eqb, ne_eqb}
 use mathlib.Core.Logic.{dite}
 use native.Mathlib.Decide.{ℕ_discrete}
+use Rattle.std.proofs.lemmas.Bool.{cond_both}
 use Rattle.slot_history.specs.declared.shape.Shape.{Shape}
 use Rattle.slot_history.specs.declared.act.Act.{Act}
 use Rattle.slot_history.specs.declared.act.Act.TheVariants.{Enter, LookOpen, LookInvalid, LookVacant, ClaimRange, ClaimUsed, ShutWon, ShutLost, LeaveLeft, LeaveOwe, PayLast, PayDone, MarkMarked, MarkMissed, SweepLast, SweepOthers, ReserveGot, ReserveTaken, AdmitGot, AdmitLost, Arrivals, Finished, Note as NoteDone, Total, Install, Release, Tell, TakeReturn, TakeChange}
@@ -11,7 +12,6 @@ use Rattle.slot_history.specs.States.{SlotState, ObjectState, slot_of, id_of, ha
 use Rattle.slot_history.specs.Steps.{moved, left, told_one}
 use Rattle.slot_history.specs.Allowed.{IsAllowed}
 use Rattle.slot_history.specs.Histories.{ranges_after}
-use Rattle.slot_history.proofs.Sets.{choose}
 use Rattle.plain_slots.specs.declared.note.Note.{Note}
 use Rattle.plain_slots.specs.declared.note.Note.TheVariants as note
 use Rattle.plain_slots.specs.Cells.{has_cell, loosened, noted}
@@ -36,7 +36,7 @@ left-outside (Leading t id) s = refl
 left-outside _ s = refl
 
 told-outside : (d : Shape) (t k s : ℕ) (again : Bool) → has_own_cell (told_one d (Announcing t again k)) s ≡ false
-told-outside d t k s again = choose (eqb (k + 1) d.workers) Free (Announcing t again (k + 1)) (λ q. has_own_cell q s ≡ false) (λ h. refl) (λ h. refl)
+told-outside d t k s again = cond_both (eqb (k + 1) d.workers) Free (Announcing t again (k + 1)) (λ q. has_own_cell q s ≡ false) (λ h. refl) (λ h. refl)
 
 -- its values meet `fits`; R, its ranges; the slot s, in the state X, has the holder's notes N; its cell there has x
 module _ {B : Type 0} (fits : ℕ → List (ℕ × ℕ) → B → Type 0) (d : Shape) (S : ObjectState) (w s : ℕ) (R : ℕ → List (ℕ × ℕ)) (X : SlotState) (N : ℕ → Note) (x : Option B)

@@ -5,6 +5,7 @@ use Rattle.std.proofs.lemmas.Option.{slice_get_cases, get_or_from_slice_get}
 use mathlib.Core.Bool.{true≢false}
 use mathlib.Core.Logic.{∥∥₁_map}
 use native.Mathlib.Decide.{ℕ_discrete}
+use Rattle.std.proofs.lemmas.Bool.{cond_both}
 use Rattle.slot_history.specs.declared.shape.Shape.{Shape}
 use Rattle.slot_history.specs.declared.act.Act.{Act}
 use Rattle.slot_history.specs.declared.act.Act.TheVariants.{Enter, LookOpen, LookInvalid, LookVacant, ClaimRange, ClaimUsed, ShutWon, ShutLost, LeaveLeft, LeaveOwe, PayLast, PayDone, MarkMarked, MarkMissed, SweepLast, SweepOthers, ReserveGot, ReserveTaken, AdmitGot, AdmitLost, Arrivals, Finished, Note as NoteDone, Total, Install, Release, Tell, TakeReturn, TakeChange}
@@ -16,7 +17,7 @@ use Rattle.slot_history.specs.Steps.{moved, left, asked_one, holding_after, told
 use Rattle.slot_history.specs.Allowed.{IsReady}
 use Rattle.slot_history.specs.Bounds.{IsPlaceWithin}
 use Rattle.slot_history.specs.Histories.{IsLegal, IsOfTotals, Begins, Called, entry, place_of, total_of, is_install}
-use Rattle.slot_history.proofs.Sets.{pick, choose, upd-same}
+use Rattle.slot_history.proofs.Sets.{pick, upd-same}
 use Rattle.slot_history.proofs.Own.{place-mine, place-other}
 use Rattle.slot_history.proofs.Table.{table}
 use Rattle.slot_history.proofs.Within.{within}
@@ -398,7 +399,7 @@ holding-else a (Owing t id) s k again e = e
 holding-else a (Announcing t b n) s k again e = e
 
 told-else : (d : Shape) (p : Place) (s k : ℕ) (again : Bool) → told_one d p ≡ Announcing s again k → (j : ℕ) × (p ≡ Announcing s again j)
-told-else d (Announcing t b n) s k again = choose (eqb (n + 1) d.workers) Free (Announcing t b (n + 1)) (λ q. q ≡ Announcing s again k → (j : ℕ) × (Announcing t b n ≡ Announcing s again j)) (λ h e. absurd (cc e)) (λ h e. (n, cc))
+told-else d (Announcing t b n) s k again = cond_both (eqb (n + 1) d.workers) Free (Announcing t b (n + 1)) (λ q. q ≡ Announcing s again k → (j : ℕ) × (Announcing t b n ≡ Announcing s again j)) (λ h e. absurd (cc e)) (λ h e. (n, cc))
 told-else d Free s k again = λ e. absurd (cc e)
 told-else d (Entered t) s k again = λ e. absurd (cc e)
 told-else d (Astray t) s k again = λ e. absurd (cc e)

@@ -10,15 +10,12 @@ use Rattle.slot_history.specs.States.{SlotState, Reserved, Open, Shut, Finishing
 use Rattle.slot_history.specs.Steps.{site, claimed, shut_by, ended, finalised_by, held_on, opened, slot_after}
 use Rattle.slot_history.specs.Allowed.{IsAllowed}
 use Rattle.slot_history.specs.Table.{IsTable}
+use Rattle.slot_history.proofs.Sets.{some-unwrapped}
 use Rattle.slot_history.proofs.Holdings.{holder-slot}
 use Rattle.plain_slots.specs.declared.note.Note.{Note}
 use Rattle.plain_slots.specs.Plain.{InstallsOf, HoldsTaskSet}
 use Rattle.plain_slots.proofs.CellSteps.{IsHeldBy}
 use Rattle.plain_slots.proofs.OwnCells.{NotesAllow}
-
-some-unwrapped : (o : Option ℕ) → IsSome o → o ≡ Some (unwrap_or o 0)
-some-unwrapped None some_ = absurd (true≢false (sym some_))
-some-unwrapped (Some k) some_ = refl
 
 module _ (totals : ℕ → Option ℕ) where
   set-claimed : (k : ℕ) (X : SlotState) → HoldsTaskSet totals X → HoldsTaskSet totals (claimed X k)
@@ -46,8 +43,8 @@ module _ (totals : ℕ → Option ℕ) where
   set-held a _ is = is
 
   set-opened : (w id : ℕ) (k : Held) (X : SlotState) → IsHeldBy w k X → InstallsOf totals (Install id) k.total → HoldsTaskSet totals (opened id X)
-  set-opened w id k X (inl is) total = subst (λ Y. HoldsTaskSet totals (opened id Y)) (sym is) (total.1 ∙ some-unwrapped k.total total.0)
-  set-opened w id k X (inr (jd, is)) total = subst (λ Y. HoldsTaskSet totals (opened id Y)) (sym is) (total.1 ∙ some-unwrapped k.total total.0)
+  set-opened w id k X (inl is) total = subst (λ Y. HoldsTaskSet totals (opened id Y)) (sym is) (total.1 ∙ some-unwrapped k.total 0 total.0)
+  set-opened w id k X (inr (jd, is)) total = subst (λ Y. HoldsTaskSet totals (opened id Y)) (sym is) (total.1 ∙ some-unwrapped k.total 0 total.0)
 
   pub set-after : (d : Shape) (S : ObjectState) (w : ℕ) (notes : ℕ → Note) (a : Act) → IsTable d S → w < d.workers → IsAllowed d S w a → NotesAllow totals d w (S.places w) notes a
       → HoldsTaskSet totals (S.slots (site a (S.places w))) → HoldsTaskSet totals (slot_after d w a (S.slots (site a (S.places w))))

@@ -3,6 +3,7 @@ use Rattle.std.proofs.Common.{◌≡◌, ◌≢◌, ℕ, ◌+◌, ◌<◌, ◌�
 use mathlib.Core.Logic.{dite}
 use mathlib.Core.Bool.{true≢false}
 use native.Mathlib.Decide.{ℕ_discrete}
+use Rattle.std.proofs.lemmas.Bool.{cond_both, and_from}
 use Rattle.slot_history.specs.declared.shape.Shape.{Shape}
 use Rattle.slot_history.specs.declared.act.Act.{Act}
 use Rattle.slot_history.specs.declared.act.Act.TheVariants.{Enter, LookOpen, LookInvalid, LookVacant, ClaimRange, ClaimUsed, ShutWon, ShutLost, LeaveLeft, LeaveOwe, PayLast, PayDone, MarkMarked, MarkMissed, SweepLast, SweepOthers, ReserveGot, AdmitGot, Note, Total, Install, Release, Tell, TakeReturn, TakeChange}
@@ -13,7 +14,7 @@ use Rattle.slot_history.specs.States.{NoticeRecord, ObjectState, can_leave}
 use Rattle.slot_history.specs.Steps.{moved, is_in_part, taken, told, joined_by_return, joined_by_change, next_at, next}
 use Rattle.slot_history.specs.Allowed.{IsAllowed}
 use Rattle.slot_history.specs.Notices.{IsUntold}
-use Rattle.slot_history.proofs.Sets.{choose, and-true, upd-same, upd-else, upd-cases}
+use Rattle.slot_history.proofs.Sets.{upd-same, upd-else, upd-cases}
 
 -- a worker that announces goes on with it, or makes a call that leaves its place as it is
 announcing-stays : (d : Shape) (S : ObjectState) (w : ℕ) (a : Act) (s : ℕ) (again : Bool) (k : ℕ) → IsAllowed d S w a → S.places w ≡ Announcing s again k → (a ≡ Tell) ⊎ (moved d a (S.places w) ≡ S.places w)
@@ -81,7 +82,7 @@ told-keeps again p f v s h = h
 
 -- a pending notice is left by a take, or is of its word
 taken-or-left : (part : ℕ) (pending : ℕ → Bool) (s : ℕ) → pending s ≡ true → (taken part pending s ≡ true) ⊎ (is_in_part part s ≡ true)
-taken-or-left part pending s h = choose (is_in_part part s) false (pending s) (λ b. (b ≡ true) ⊎ (is_in_part part s ≡ true)) (λ t. inr t) (λ t. inl h)
+taken-or-left part pending s h = cond_both (is_in_part part s) false (pending s) (λ b. (b ≡ true) ⊎ (is_in_part part s ≡ true)) (λ t. inr t) (λ t. inl h)
 
 -- the record is active, with the group unknown
 abbrev pub IsNew : NoticeRecord → Type 0
@@ -89,10 +90,10 @@ IsNew r = (r.active ≡ true) × (r.group ≡ None)
 
 -- what a take does to the record of a slot whose notice it takes
 joins-by-change : (part : ℕ) (pending : ℕ → Bool) (r : ℕ → NoticeRecord) (s : ℕ) → is_in_part part s ≡ true → pending s ≡ true → IsNew (joined_by_change part pending r s)
-joins-by-change part pending r s in_part h = subst IsNew (sym (ap (λ b. cond b (record { active = true; group = None }) (r s)) (and-true (is_in_part part s) (pending s) in_part h))) (refl, refl)
+joins-by-change part pending r s in_part h = subst IsNew (sym (ap (λ b. cond b (record { active = true; group = None }) (r s)) (and_from (is_in_part part s) (pending s) in_part h))) (refl, refl)
 
 joins-by-return : (part : ℕ) (pending : ℕ → Bool) (r : ℕ → NoticeRecord) (s : ℕ) → is_in_part part s ≡ true → pending s ≡ true → (joined_by_return part pending r s).active ≡ true
-joins-by-return part pending r s in_part h = ap (λ b. (cond b (record (r s) { active = true }) (r s)).active) (and-true (is_in_part part s) (pending s) in_part h)
+joins-by-return part pending r s in_part h = ap (λ b. (cond b (record (r s) { active = true }) (r s)).active) (and_from (is_in_part part s) (pending s) in_part h)
 
 -- a pending change notice stays so, or the worker takes it
 pub change-next : (d : Shape) (S : ObjectState) (w : ℕ) (a : Act) (s v : ℕ) → S.changes v s ≡ true → ((next d S w a).changes v s ≡ true) ⊎ IsNew ((next d S w a).records v s)

@@ -1,6 +1,7 @@
 -- As long as no query is admitted, the number of queries stays.
 use Rattle.std.proofs.Common.{◌≡◌, ℕ, ◌+◌, false, cond, List, [], ◌∷◌, ◌++◌, refl, sym, ◌∙◌, eq-eqb, arith}
 use mathlib.Core.Bool.{true≢false}
+use Rattle.std.proofs.lemmas.Bool.{cond_both}
 use Rattle.slot_history.specs.declared.shape.Shape.{Shape}
 use Rattle.slot_history.specs.declared.act.Act.{Act}
 use Rattle.slot_history.specs.declared.act.Act.TheVariants.{AdmitGot, AdmitLost, Arrivals}
@@ -9,7 +10,6 @@ use Rattle.slot_history.specs.Steps.{admitted_after, state_after}
 use Rattle.slot_history.specs.Allowed.{IsAllowed}
 use Rattle.slot_history.specs.Histories.{entry, is_admit, admits_of}
 use Rattle.slot_history.specs.LoneTurns.{AdmitsNone, ArrivalsStay, AdmitIsGot}
-use Rattle.slot_history.proofs.Sets.{choose}
 use Rattle.slot_history.proofs.TaskSets.{legal-early}
 
 -- but for an admission no call changes the number
@@ -21,7 +21,7 @@ admitted-stays _ n none = refl
 admitted-since : (d : Shape) (more old : List Entry) → AdmitsNone more → (state_after d (more ++ old)).admitted ≡ (state_after d old).admitted
 admitted-since d [] old none = refl
 admitted-since d (e ∷ es) old none =
-    let first : (q : ℕ) → is_admit e.act q ≡ false = λ q. choose (is_admit e.act q) 1 0 (λ k. k + admits_of q es ≡ 0 → is_admit e.act q ≡ false) (λ t z. absurd (omega arith)) (λ t z. t) (none q) in
+    let first : (q : ℕ) → is_admit e.act q ≡ false = λ q. cond_both (is_admit e.act q) 1 0 (λ k. k + admits_of q es ≡ 0 → is_admit e.act q ≡ false) (λ t z. absurd (omega arith)) (λ t z. t) (none q) in
     let rest : AdmitsNone es = λ q. let z : cond {A = ℕ} (is_admit e.act q) 1 0 + admits_of q es ≡ 0 = none q in omega arith in
     admitted-stays e.act _ first ∙ admitted-since d es old rest
 

@@ -1,7 +1,8 @@
 -- What a claim, an admission, an install and a last call make of the book of task sets.
-use Rattle.std.proofs.Common.{◌≡◌, ◌≢◌, ℕ, ◌+◌, ◌*◌, ◌/◌, ◌%◌, ◌<◌, ◌≤◌, ◌⊎◌, true, false, cond, eqb, min, List, [], ◌∷◌, Option, Some, None, refl, sym, ap, ap₂, ◌∙◌, subst, inl, inr, ⊎_elim, arith, eq-eqb, ne_eqb, ltb, ltb-true, ltb-false}
-use Rattle.std.specs.Prelude.{unwrap_or, IsSome}
+use Rattle.std.proofs.Common.{◌≡◌, ◌≢◌, ℕ, ◌+◌, ◌*◌, ◌/◌, ◌%◌, ◌<◌, ◌≤◌, ◌⊎◌, true, false, cond, eqb, min, List, [], ◌∷◌, Some, None, refl, sym, ap, ap₂, ◌∙◌, subst, ⊎_elim, arith, eq-eqb, ne_eqb}
+use Rattle.std.specs.Prelude.{unwrap_or}
 use mathlib.Core.Bool.{true≢false}
+use Rattle.std.proofs.lemmas.Bool.{cases_lt}
 use Rattle.slot_history.specs.declared.shape.Shape.{Shape}
 use Rattle.slot_history.specs.declared.shape.TheConstants.{STAGES}
 use Rattle.slot_history.specs.declared.act.Act.{Act}
@@ -14,7 +15,7 @@ use Rattle.slot_history.specs.Allowed.{IsReady}
 use Rattle.slot_history.specs.Histories.{Morsel, Tiles}
 use Rattle.slot_history.specs.Bounds.{IsFinalisation}
 use Rattle.slot_history.specs.Lives.{Life, Never, Runs, Done, done, has_task, query_in, AreLaterNever, IsRunning, IsSlotBook, IsBook}
-use Rattle.slot_history.proofs.Sets.{pick, true-or-false, upd-cases, upd-same}
+use Rattle.slot_history.proofs.Sets.{pick, upd-cases, upd-same, some-unwrapped}
 
 -- ---- a slot that knows no more than before
 
@@ -158,9 +159,6 @@ book-range m slots life claims k w n from to has at below upto some_tuples ok =
 
 -- ---- an admission
 
-low-or-high : (a b : ℕ) → (a < b) ⊎ (b ≤ a)
-low-or-high a b = ⊎_elim (λ t. inl (ltb-true a b t)) (λ f. inr (ltb-false a b f)) (true-or-false (ltb a b))
-
 book-more : (m : ℕ) (life : ℕ → Life) (claims : ℕ → List Morsel) (s : ℕ) (x : SlotState) → IsSlotBook m life claims s x → IsSlotBook (m + 1) life claims s x
 book-more m life claims s Empty k = k
 book-more m life claims s (Reserved w h) k = λ q e. let r = k q e in (let a : q < m = r.0 in omega arith, r.1)
@@ -170,7 +168,7 @@ book-more m life claims s (Finishing id w h) k = k
 
 -- a task set that was installed is of an admitted query
 pub running-low : (m : ℕ) (slots : ℕ → SlotState) (life : ℕ → Life) (claims : ℕ → List Morsel) → IsBook m slots life claims → (id : ℕ) → life id ≢ Never → id / STAGES < m
-running-low m slots life claims ok id was = ⊎_elim (λ h. h) (λ h. absurd (was (ok.late id h))) (low-or-high (id / STAGES) m)
+running-low m slots life claims ok id was = ⊎_elim (λ h. h) (λ h. absurd (was (ok.late id h))) (cases_lt (id / STAGES) m)
 
 -- the query of a slot was admitted
 query-admitted : (m : ℕ) (slots : ℕ → SlotState) (life : ℕ → Life) (claims : ℕ → List Morsel) → IsBook m slots life claims → (s : ℕ) (x : SlotState) (q : ℕ) → IsSlotBook m life claims s x → query_in x ≡ Some q → q < m
@@ -210,17 +208,13 @@ pub record IsFresh (m : ℕ) (life : ℕ → Life) (x : SlotState) (id : ℕ) : 
   pub low : id / STAGES < m
   pub idle : has_task x ≡ false
 
-some-unwrap : (o : Option ℕ) → IsSome o → o ≡ Some (unwrap_or o 0)
-some-unwrap (Some n) h = refl
-some-unwrap None h = absurd (cc)
-
 fresh-after : (q id : ℕ) → id ≡ STAGES * q → id / STAGES ≡ q
 fresh-after q id e = omega arith
 
 pub fresh-reserved : (m : ℕ) (life : ℕ → Life) (claims : ℕ → List Morsel) (k w id : ℕ) (h : Held) → IsReady h → id ≡ next_id h → h.again ≡ false → IsSlotBook m life claims k (Reserved w h) → IsFresh m life (Reserved w h) id
 fresh-reserved m life claims k w id h ready next_one first ok =
     let q : ℕ = unwrap_or h.query 0 in
-    let some_query : h.query ≡ Some q = some-unwrap h.query ready.has_query in
+    let some_query : h.query ≡ Some q = some-unwrapped h.query 0 ready.has_query in
     let is : id ≡ STAGES * q = let r : id ≡ STAGES * q + cond {A = ℕ} h.again (h.stage + 1) 0 = next_one in let z : cond {A = ℕ} h.again (h.stage + 1) 0 ≡ 0 = ap (λ b. cond b (h.stage + 1) 0) first in omega arith in
     let of : id / STAGES ≡ q = fresh-after q id is in
     let r = ok q some_query in record {

@@ -2,6 +2,7 @@
 -- the total, and a claim after the last call.
 use Rattle.std.proofs.Common.{◌≡◌, ℕ, ◌<◌, ◌≤◌, Bool, true, false, cond, eqb, ◌&&◌, min, List, [], ◌∷◌, Option, Some, refl, sym, ap, ◌∙◌, subst, inr, ⊎_elim, arith, eq-eqb, ne_eqb, eqb-true}
 use Rattle.std.specs.Prelude.{unwrap_or}
+use Rattle.std.proofs.lemmas.Bool.{cond_both, cases_Bool, and_parts}
 use Rattle.slot_history.specs.declared.shape.Shape.{Shape}
 use Rattle.slot_history.specs.declared.act.Act.{Act}
 use Rattle.slot_history.specs.declared.act.Act.TheVariants.{ClaimRange, PayLast, SweepLast}
@@ -13,7 +14,7 @@ use Rattle.slot_history.specs.Allowed.{IsAllowed}
 use Rattle.slot_history.specs.Histories.{IsLegal, Morsel, Tiles, claims_of, claims_after, ranges_of, ranges_after, ranges_by, place_of, is_install, installs_of, is_last, lasts_of, total_of, slot_with}
 use Rattle.slot_history.specs.Lives.{Life, Never, Runs, Done, done, life_of, has_task, IsSlotBook}
 use Rattle.slot_history.specs.Laws.{NoEarlyClaims, TilesCursor, TilesTotal, FinishingLast}
-use Rattle.slot_history.proofs.Sets.{choose, pick, true-or-false, and-left, and-right}
+use Rattle.slot_history.proofs.Sets.{pick}
 use Rattle.slot_history.proofs.Table.{table}
 use Rattle.slot_history.proofs.Places.{inside-cell}
 use Rattle.slot_history.proofs.Cursors.{cursors}
@@ -27,10 +28,10 @@ ranges-step : (a : Act) (w u : ℕ) (p q : Place) (id : ℕ) (rs : List (ℕ × 
 ranges-step (ClaimRange n from to) w u p q id rs ms same at = let m : Morsel = record { worker = u; from = from; to = to } in
     pick w u (cond (is_inside q id) ((from, to) ∷ rs) rs) rs (λ z. z ≡ ranges_by w (cond (is_inside p id) (m ∷ ms) ms))
     (λ e. ap (λ r. cond (is_inside r id) ((from, to) ∷ rs) rs) (at e)
-    ∙ choose (is_inside p id) (m ∷ ms) ms (λ z. cond (is_inside p id) ((from, to) ∷ rs) rs ≡ ranges_by w z)
+    ∙ cond_both (is_inside p id) (m ∷ ms) ms (λ z. cond (is_inside p id) ((from, to) ∷ rs) rs ≡ ranges_by w z)
     (λ t. ap (λ b. cond b ((from, to) ∷ rs) rs) t ∙ ap (λ z. (from, to) ∷ z) same ∙ sym (ap (λ b. cond b ((from, to) ∷ ranges_by w ms) (ranges_by w ms)) (eq-eqb w u e)))
     (λ f. ap (λ b. cond b ((from, to) ∷ rs) rs) f ∙ same))
-    (λ n'. choose (is_inside p id) (m ∷ ms) ms (λ z. rs ≡ ranges_by w z)
+    (λ n'. cond_both (is_inside p id) (m ∷ ms) ms (λ z. rs ≡ ranges_by w z)
     (λ t. same ∙ sym (ap (λ b. cond b ((from, to) ∷ ranges_by w ms) (ranges_by w ms)) (ne_eqb w u n')))
     (λ f. same))
 ranges-step _ w u p q id rs ms same at = pick w u rs rs (λ z. z ≡ ranges_by w ms) (λ e. same) (λ n. same)
@@ -78,7 +79,7 @@ inside-done d h v id n legal low over k = let r = inside-runs d h v id legal low
 
 -- nobody claims of a task set that was finalised
 done-claims : (d : Shape) (h : List Entry) (w : ℕ) (a : Act) (id n : ℕ) → IsLegal d h → w < d.workers → IsAllowed d (state_after d h) w a → life_of d id h ≡ Done n → (ms : List Morsel) → claims_after w a (place_of d h w) id ms ≡ ms
-done-claims d h w (ClaimRange k from to) id n legal low ok over ms = choose (is_inside (place_of d h w) id) (record { worker = w; from = from; to = to } ∷ ms) ms (λ z. z ≡ ms)
+done-claims d h w (ClaimRange k from to) id n legal low ok over ms = cond_both (is_inside (place_of d h w) id) (record { worker = w; from = from; to = to } ∷ ms) ms (λ z. z ≡ ms)
     (λ t. absurd (inside-done d h w id n legal low over t)) (λ f. refl)
 done-claims d h w _ id n legal low ok over ms = refl
 
@@ -94,13 +95,13 @@ tiles-done d id (e ∷ es) legal =
     let p : Place = place_of d es e.worker in let a : Act = e.act in let l : Life = life_of d id es in let ms : List Morsel = claims_after e.worker a p id (claims_of d id es) in ⊎_elim
     (λ this. subst (λ b. TiledAfter a p id l ms b (is_last a && eqb (id_at p) id)) (sym this) (λ n k. absurd (cc)))
     (λ other. subst (λ b. TiledAfter a p id l ms b (is_last a && eqb (id_at p) id)) (sym other) (⊎_elim
-    (λ last. let was : is_last a ≡ true = and-left (is_last a) (eqb (id_at p) id) last in
-    let r = last-runs d es e.worker a id legal.2 legal.0 legal.1 was (eqb-true (id_at p) id (and-right (is_last a) (eqb (id_at p) id) last)) in
-    subst (TiledAfter a p id l ms false) (sym last) (λ n k. subst (λ z. Tiles z n) (sym (last-claims e.worker a p id (claims_of d id es) was))
+    (λ last. let both = and_parts (is_last a) (eqb (id_at p) id) last in
+    let r = last-runs d es e.worker a id legal.2 legal.0 legal.1 both.0 (eqb-true (id_at p) id both.1) in
+    subst (TiledAfter a p id l ms false) (sym last) (λ n k. subst (λ z. Tiles z n) (sym (last-claims e.worker a p id (claims_of d id es) both.0))
     (spent-tiles (claims_of d id es) r.0.cursor r.0.total n r.3 (let q : Done r.0.total ≡ Done n = sym (ap done r.1) ∙ k in cc) r.2)))
     (λ none. subst (TiledAfter a p id l ms false) (sym none) (λ n k. subst (λ z. Tiles z n) (sym (done-claims d es e.worker a id n legal.2 legal.0 legal.1 k (claims_of d id es))) (tiles-done d id es legal.2 n k)))
-    (true-or-false (is_last a && eqb (id_at p) id))))
-    (true-or-false (is_install a id))
+    (cases_Bool (is_last a && eqb (id_at p) id))))
+    (cases_Bool (is_install a id))
 
 pub tiles-total : (d : Shape) (h : List Entry) → IsLegal d h → TilesTotal d h
 tiles-total d h legal = (

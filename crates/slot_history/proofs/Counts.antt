@@ -1,6 +1,7 @@
 -- Each task set is installed once, and each query admitted once. It rules out a shut that two workers win.
-use Rattle.std.proofs.Common.{◌≡◌, ℕ, ◌+◌, ◌<◌, ◌≤◌, Bool, true, false, cond, eqb, ltb, ◌&&◌, min, List, [], ◌∷◌, Option, Some, None, refl, sym, ap, ◌∙◌, subst, ⊎_elim, arith, eqb-true, ltb-true, ltb-false}
+use Rattle.std.proofs.Common.{◌≡◌, ℕ, ◌+◌, ◌<◌, ◌≤◌, Bool, true, false, cond, eqb, ◌&&◌, min, List, [], ◌∷◌, Option, Some, None, refl, sym, ap, ◌∙◌, subst, ⊎_elim, arith, eqb-true}
 use Rattle.std.specs.Prelude.{unwrap_or, IsSome}
+use Rattle.std.proofs.lemmas.Bool.{cases_Bool, cases_lt, and_parts, and_left}
 use Rattle.slot_history.specs.declared.shape.Shape.{Shape}
 use Rattle.slot_history.specs.declared.act.Act.{Act}
 use Rattle.slot_history.specs.declared.act.Act.TheVariants.{PayLast, SweepLast, AdmitGot, Install}
@@ -13,7 +14,7 @@ use Rattle.slot_history.specs.Histories.{IsLegal, Tiles, claims_of, place_of, is
 use Rattle.slot_history.specs.Table.{IsTable}
 use Rattle.slot_history.specs.Lives.{Life, Never, Runs, Done, done, life_of, has_task, IsRunning, IsSlotBook}
 use Rattle.slot_history.specs.Laws.{OnlyOnce}
-use Rattle.slot_history.proofs.Sets.{pick, true-or-false, and-left, and-right, and-false_left}
+use Rattle.slot_history.proofs.Sets.{pick, some-unwrapped}
 use Rattle.slot_history.proofs.Table.{table}
 use Rattle.slot_history.proofs.Cursors.{cursors}
 use Rattle.slot_history.proofs.Holdings.{slots-sound}
@@ -75,14 +76,10 @@ Counts Never installs lasts total slot = (installs ≡ 0) × (lasts ≡ 0) × (t
 Counts (Runs s n) installs lasts total slot = (installs ≡ 1) × (lasts ≡ 0) × (total ≡ Some n) × (slot ≡ Some s)
 Counts (Done n) installs lasts total slot = (installs ≡ 1) × (lasts ≡ 1) × (total ≡ Some n)
 
-some-unwrapped : (o : Option ℕ) → IsSome o → o ≡ Some (unwrap_or o 0)
-some-unwrapped (Some n) h = refl
-some-unwrapped None h = absurd (cc)
-
 counts-installed : (l : Life) (installs lasts s : ℕ) (total slot o : Option ℕ) → l ≡ Never → IsSome o → Counts l installs lasts total slot → Counts (Runs s (unwrap_or o 0)) (1 + installs) lasts o (Some s)
 counts-installed l installs lasts s total slot o new some_total k =
     let r : (installs ≡ 0) × (lasts ≡ 0) × (total ≡ None) × (slot ≡ None) = subst (λ z. Counts z installs lasts total slot) new k in
-    (let e : installs ≡ 0 = r.0 in omega arith, r.1, some-unwrapped o some_total, refl)
+    (let e : installs ≡ 0 = r.0 in omega arith, r.1, some-unwrapped o 0 some_total, refl)
 
 counts-last : (l : Life) (installs lasts s n : ℕ) (total slot : Option ℕ) → l ≡ Runs s n → Counts l installs lasts total slot → Counts (done l) installs (1 + lasts) total slot
 counts-last l installs lasts s n total slot runs k =
@@ -104,7 +101,7 @@ counts-next : (a : Act) (p : Place) (id : ℕ) (l : Life) (installs lasts : ℕ)
     → Counts l installs lasts total slot → CountsAfter a p id l installs lasts total slot (is_install a id) (is_last a && eqb (id_at p) id)
 counts-next a p id l installs lasts total slot new runs k = ⊎_elim
     (λ this. let r = new this in
-    let not_last : (is_last a && eqb (id_at p) id) ≡ false = and-false_left (is_last a) (eqb (id_at p) id) (install-not-last a id this) in
+    let not_last : (is_last a && eqb (id_at p) id) ≡ false = and_left (is_last a) (eqb (id_at p) id) (install-not-last a id this) in
     subst (λ b. CountsAfter a p id l installs lasts total slot b (is_last a && eqb (id_at p) id)) (sym this)
     (subst (CountsAfter a p id l installs lasts total slot true) (sym not_last)
     (subst (λ n. Counts (Runs (slot_of p) (unwrap_or (held_at p).total 0)) (1 + installs) n (held_at p).total (Some (slot_of p))) (let z : lasts ≡ 0 + lasts = omega arith in z)
@@ -115,14 +112,15 @@ counts-next a p id l installs lasts total slot new runs k = ⊎_elim
     (subst (λ n. Counts (done l) n (1 + lasts) total slot) (let z : installs ≡ 0 + installs = omega arith in z) (counts-last l installs lasts r.0 r.1 total slot r.2 k)))
     (λ none. subst (CountsAfter a p id l installs lasts total slot false) (sym none)
     (subst (λ n. Counts l n (0 + lasts) total slot) (let z : installs ≡ 0 + installs = omega arith in z) (subst (λ n. Counts l installs n total slot) (let z : lasts ≡ 0 + lasts = omega arith in z) k)))
-    (true-or-false (is_last a && eqb (id_at p) id))))
-    (true-or-false (is_install a id))
+    (cases_Bool (is_last a && eqb (id_at p) id))))
+    (cases_Bool (is_install a id))
 
 pub counts : (d : Shape) (id : ℕ) (h : List Entry) → IsLegal d h → CountsOf d id h
 counts d id [] legal = (refl, refl, refl, refl)
 counts d id (e ∷ es) legal = counts-next e.act (place_of d es e.worker) id (life_of d id es) (installs_of id es) (lasts_of d id es) (total_of d id es) (slot_with d id es)
     (λ this. install-never d es e.worker e.act id legal.2 legal.0 legal.1 this)
-    (λ last. let r = last-runs d es e.worker e.act id legal.2 legal.0 legal.1 (and-left (is_last e.act) (eqb (id_at (place_of d es e.worker)) id) last) (eqb-true (id_at (place_of d es e.worker)) id (and-right (is_last e.act) (eqb (id_at (place_of d es e.worker)) id) last)) in
+    (λ last. let both = and_parts (is_last e.act) (eqb (id_at (place_of d es e.worker)) id) last in
+    let r = last-runs d es e.worker e.act id legal.2 legal.0 legal.1 both.0 (eqb-true (id_at (place_of d es e.worker)) id both.1) in
     (slot_of (place_of d es e.worker), r.0.total, r.1))
     (counts d id es legal.2)
 
@@ -169,7 +167,7 @@ admits d q [] legal = (λ h. absurd (omega arith), λ h. refl)
 admits d q (e ∷ es) legal = admits-next d (state_after d es) e.worker e.act q (admits_of q es) legal.1 (admits d q es legal.2)
 
 admits-most : (q m n : ℕ) → Admits q m n → n ≤ 1
-admits-most q m n k = ⊎_elim (λ t. let low : q < m = ltb-true q m t in let e : n ≡ 1 = k.0 low in omega arith) (λ f. let high : m ≤ q = ltb-false q m f in let e : n ≡ 0 = k.1 high in omega arith) (true-or-false (ltb q m))
+admits-most q m n k = ⊎_elim (λ low. let e : n ≡ 1 = k.0 low in omega arith) (λ high. let e : n ≡ 0 = k.1 high in omega arith) (cases_lt q m)
 
 pub only-once : (d : Shape) (h : List Entry) → IsLegal d h → OnlyOnce d h
 only-once d h legal = (

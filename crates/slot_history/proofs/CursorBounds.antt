@@ -1,6 +1,7 @@
 -- How far cursors go past their totals.
 use Rattle.std.proofs.Common.{◌≡◌, ◌≢◌, ℕ, ◌+◌, ◌*◌, ◌<◌, ◌≤◌, Bool, true, false, not, refl, sym, ap, ◌∙◌, subst, ⊎_elim, arith, eq-eqb, eqb-true}
 use mathlib.Core.Bool.{true≢false}
+use Rattle.std.proofs.lemmas.Bool.{cases_Bool, not-true}
 use Rattle.slot_history.specs.declared.shape.Shape.{Shape}
 use Rattle.slot_history.specs.declared.shape.TheConstants.{MOST_CLAIM}
 use Rattle.slot_history.specs.declared.act.Act.{Act}
@@ -12,7 +13,7 @@ use Rattle.slot_history.specs.States.{SlotState, Empty, Reserved, Open, Shut, Fi
 use Rattle.slot_history.specs.Steps.{site, moved, left, told_one, slot_after, claimed, shut_by, ended, finalised_by, held_on, opened, next}
 use Rattle.slot_history.specs.Allowed.{IsAllowed}
 use Rattle.slot_history.specs.Bounds.{is_used_at, is_claiming_at, IsCursorBound, AreCursors}
-use Rattle.slot_history.proofs.Sets.{pick, true-or-false, upd-same, upd-cases, not-true, count-grows, count-grows_one}
+use Rattle.slot_history.proofs.Sets.{pick, upd-same, upd-cases, count-grows, count-grows_one}
 
 -- ---- how far cursors go
 
@@ -256,7 +257,7 @@ bound-next d S w a low ok fine s =
     let here : IsCursorBound d g k (slot_after d w a (S.slots k)) = ⊎_elim
     (λ this. bounds-special d S w a low fine this (ok.bound k))
     (λ other. bound-after d g k w a (S.slots k) other (same k (λ i. absurd (shut-is a other i))))
-    (true-or-false (is_claim_or_shut a)) in
+    (cases_Bool (is_claim_or_shut a)) in
     upd-cases S.slots k (slot_after d w a (S.slots k)) s (λ y. IsCursorBound d g s y)
     (λ e. subst (λ j. IsCursorBound d g j (slot_after d w a (S.slots k))) (sym e) here)
     (λ n. same s (λ i. n))

@@ -1,12 +1,13 @@
 -- Duties to a slot: which one a worker has, and what its place says of the slot.
 use Rattle.std.proofs.Common.{◌≡◌, ◌≢◌, ℕ, ◌⊎◌, true, false, cond, eqb, not, refl, sym, ap, ◌∙◌, inl, inr, eq-eqb, ne_eqb}
 use mathlib.Core.Bool.{true≢false}
+use Rattle.std.proofs.lemmas.Bool.{cond_both, and_parts}
 use Rattle.slot_history.specs.declared.shape.Shape.{Shape}
 use Rattle.slot_history.specs.declared.place.Held.{Held}
 use Rattle.slot_history.specs.declared.place.Place.TheVariants.{Leading, Asking, Owing, Holding}
 use Rattle.slot_history.specs.States.{TaskSet, Ending, SlotState, Empty, Reserved, Open, Shut, Finishing, id_of, owes}
 use Rattle.slot_history.specs.Table.{Duty, Visits, Works, Unasked, Owes, Leads, Holds, owing, duty_at_end, duty_of, HasAsked, Meets, IsChainOf}
-use Rattle.slot_history.proofs.Sets.{pick, choose, and-left}
+use Rattle.slot_history.proofs.Sets.{pick}
 
 -- ---- the duty to a slot whose task set is shut
 
@@ -18,8 +19,8 @@ pub end-cases : (id : ℕ) (e : Ending) (v : ℕ) (P : Duty → Type 0)
     → (v ≢ e.coordinator → e.asked v ≡ false → P (Unasked id))
     → P (duty_at_end id e v)
 end-cases id e v P rests leads owes clear unasked = pick v e.coordinator _ _ P
-    (λ same. choose e.swept _ _ P (rests same) (leads same))
-    (λ other. choose (e.asked v) _ _ P (λ was. choose (owing e v) _ _ P (owes other was) (clear other was)) (unasked other))
+    (λ same. cond_both e.swept _ _ P (rests same) (leads same))
+    (λ other. cond_both (e.asked v) _ _ P (λ was. cond_both (owing e v) _ _ P (owes other was) (clear other was)) (unasked other))
 
 end-coordinator : (id : ℕ) (e : Ending) (v : ℕ) → v ≡ e.coordinator → duty_at_end id e v ≡ cond e.swept Visits (Leads id e)
 end-coordinator id e v same = ap (λ b. cond b (cond e.swept Visits (Leads id e)) (cond (e.asked v) (cond (owing e v) (Owes id) Visits) (Unasked id))) (eq-eqb v e.coordinator same)
@@ -55,7 +56,7 @@ held-other h v w other = ap (λ b. cond b (Holds h) Visits) (ne_eqb v w other)
 -- a worker that owes has that duty
 pub owes-duty : (d : Shape) (x : SlotState) (v : ℕ) → IsChainOf d x → owes x v ≡ true → duty_of x v ≡ Owes (id_of x)
 owes-duty d (Shut t e) v chain h =
-    let was : e.asked v ≡ true = chain.marked v (and-left (e.marked v) (not (e.paid v)) h) in end-owes t.id e v (chain.asked v was) was h
+    let was : e.asked v ≡ true = chain.marked v (and_parts (e.marked v) (not (e.paid v)) h).0 in end-owes t.id e v (chain.asked v was) was h
 owes-duty d Empty v chain h = absurd (cc)
 owes-duty d (Reserved w k) v chain h = absurd (cc)
 owes-duty d (Open t) v chain h = absurd (cc)

@@ -1,6 +1,7 @@
 -- The sets of a shut slot lie within one another after a call.
 use Rattle.std.proofs.Common.{◌≡◌, ◌≢◌, ℕ, ◌+◌, ◌<◌, ◌⊎◌, true, false, not, refl, sym, ap, ◌∙◌, subst, ⊎_elim}
 use mathlib.Core.Bool.{true≢false}
+use Rattle.std.proofs.lemmas.Bool.{and_parts}
 use Rattle.slot_history.specs.declared.shape.Shape.{Shape}
 use Rattle.slot_history.specs.declared.act.Act.{Act}
 use Rattle.slot_history.specs.declared.act.Act.TheVariants.{ClaimRange, ClaimUsed, ShutWon, PayLast, PayDone, MarkMarked, MarkMissed, SweepLast, SweepOthers, ReserveGot, AdmitGot, Note, Total, Install, Release}
@@ -11,7 +12,7 @@ use Rattle.slot_history.specs.States.{TaskSet, Ending, SlotState, Empty, Reserve
 use Rattle.slot_history.specs.Steps.{site, slot_after, claimed, shut_by, next_asked, ending_after, ended, finalised_by, held_on, opened}
 use Rattle.slot_history.specs.Allowed.{IsAllowed, debts}
 use Rattle.slot_history.specs.Table.{Owes, owing, duty_of, Meets, IsChain, IsChainOf}
-use Rattle.slot_history.proofs.Sets.{upd-same, upd-cases, and-left, some-counted}
+use Rattle.slot_history.proofs.Sets.{upd-same, upd-cases, some-counted}
 use Rattle.slot_history.proofs.Others.{next-is, nth-other-differs, all-asked}
 use Rattle.slot_history.proofs.Duties.{asking-leads, owing-owes, leads-slot, owes-slot}
 
@@ -69,7 +70,7 @@ chain-paid d x w id chain owe left_over =
     let more : (e.swept ≡ false) ⊎ (0 < debts d (ended d w PayDone (Shut t e))) = subst (λ y. (is_swept y ≡ false) ⊎ (0 < debts d (ended d w PayDone y))) r.2 left_over in
     subst (λ y. IsChainOf d (ended d w PayDone y)) (sym r.2) (record {
       coordinator = c.coordinator;
-      paid = λ v. upd-cases e.paid w true v (λ b. b ≡ true → e.marked v ≡ true) (λ j h. ap e.marked j ∙ and-left (e.marked w) (not (e.paid w)) r.6) (λ j h. c.paid v h);
+      paid = λ v. upd-cases e.paid w true v (λ b. b ≡ true → e.marked v ≡ true) (λ j h. ap e.marked j ∙ (and_parts (e.marked w) (not (e.paid w)) r.6).0) (λ j h. c.paid v h);
       marked = c.marked;
       asked = c.asked;
       all_asked = c.all_asked;

@@ -1,6 +1,6 @@
 -- What a worker knows where nobody has an announcement left to make.
 use Rattle.std.proofs.Common.{◌≡◌, ◌≢◌, ℕ, ◌/◌, Bool, true, false, cond, List, [], ◌∷◌, refl, sym, ap, ◌∙◌, subst, inl, inr, eq-eqb, ⊎_elim}
-use Rattle.std.proofs.lemmas.Bool.{cases_lt}
+use Rattle.std.proofs.lemmas.Bool.{cases_lt, cond_both}
 use mathlib.Core.Logic.{dite}
 use mathlib.Core.Bool.{true≢false}
 use native.Mathlib.Decide.{ℕ_discrete}
@@ -18,7 +18,7 @@ use Rattle.slot_history.specs.Histories.{IsLegal}
 use Rattle.slot_history.specs.Bounds.{IsWithin}
 use Rattle.slot_history.specs.Notices.{IsUntold, MayBe}
 use Rattle.slot_history.specs.LoneTurns.{IsLone, IsKnown, LookIsKnown, QuietIsKnown, ChangesStayTaken, ReturnsStayTaken}
-use Rattle.slot_history.proofs.Sets.{choose, upd-same, upd-cases}
+use Rattle.slot_history.proofs.Sets.{upd-same, upd-cases}
 use Rattle.slot_history.proofs.Within.{within}
 use Rattle.slot_history.proofs.Notices.{open-has-id, KnowsOpen, KnowsQuery, noticed}
 use Rattle.slot_history.proofs.LoneTurns.{others-free}
@@ -72,7 +72,7 @@ quiet-is-known d h legal quiet s v low o =
 
 -- what the worker takes of a mask word is gone
 taken-clear : (part : ℕ) (pending : ℕ → Bool) (s : ℕ) → pending s ≡ false → taken part pending s ≡ false
-taken-clear part pending s h = choose (is_in_part part s) false (pending s) (λ b. b ≡ false) (λ t. refl) (λ t. h)
+taken-clear part pending s h = cond_both (is_in_part part s) false (pending s) (λ b. b ≡ false) (λ t. refl) (λ t. h)
 
 taken-gone : (pending : ℕ → Bool) (s : ℕ) → taken (s / 64) pending s ≡ false
 taken-gone pending s = ap (λ b. cond b false (pending s)) (eq-eqb (s / 64) (s / 64) refl)

@@ -1,6 +1,6 @@
 -- What a worker meets that calls alone, while all others are free.
 use Rattle.std.proofs.Common.{◌≡◌, ◌≢◌, ℕ, ◌<◌, Bool, true, false, List, [], ◌∷◌, ◌++◌, refl, sym, ap, ◌∙◌, subst, ⊎_elim}
-use Rattle.std.proofs.lemmas.Bool.{cases_lt}
+use Rattle.std.proofs.lemmas.Bool.{cases_lt, false_from_ne_true}
 use mathlib.Core.Logic.{dite}
 use mathlib.Core.Bool.{true≢false}
 use native.Mathlib.Decide.{ℕ_discrete}
@@ -37,9 +37,6 @@ lone-none : (d : Shape) (S : ObjectState) (w s v : ℕ) → IsTable d S → IsLo
 lone-none d S w s v ok lone low owe = dite (ℕ_discrete v w)
     (λ e. true≢false (sym owe ∙ ap (owes (S.slots s)) e ∙ lone.unmarked s))
     (λ n. free-none d S s v ok low (lone.others v low n) owe)
-
-not-owed : (x : SlotState) (v : ℕ) → (owes x v ≡ true → ⊥) → owes x v ≡ false
-not-owed x v none = elim (owes x v) as (λ b. owes x v ≡ b → owes x v ≡ false) [ true ↦ λ h. absurd (none h) | false ↦ λ h. h ] refl
 
 -- a place of whoever shut a slot, until it has swept
 abbrev leads : Place → Bool
@@ -174,7 +171,7 @@ lone-next d S w a alone lone =
     let y : SlotState = slot_after d w a (S.slots k) in record {
       others = λ v low n. upd-else S.places w _ v n ∙ lone.others v low n;
       unmarked = λ s. upd-cases S.slots k y s (λ x. owes x w ≡ false)
-          (λ e. not-owed y w (λ h. true≢false (sym (owes-after d w a (S.slots k) w alone h) ∙ lone.unmarked k)))
+          (λ e. false_from_ne_true (owes y w) (λ h. true≢false (sym (owes-after d w a (S.slots k) w alone h) ∙ lone.unmarked k)))
           (λ n. lone.unmarked s);
     }
 
@@ -182,7 +179,7 @@ lone-next d S w a alone lone =
 quiet-lone : (d : Shape) (S : ObjectState) (w : ℕ) → IsTable d S → w < d.workers → IsQuiet d S → IsLone d S w
 quiet-lone d S w ok low quiet = record {
   others = λ v v_low n. quiet v v_low;
-  unmarked = λ s. not-owed (S.slots s) w (free-none d S s w ok low (quiet w low));
+  unmarked = λ s. false_from_ne_true (owes (S.slots s) w) (free-none d S s w ok low (quiet w low));
 }
 
 -- ---- after legal histories

@@ -5,9 +5,9 @@ use mathlib.Core.Logic.{dite}
 use native.Mathlib.Decide.{ℕ_discrete}
 use Rattle.std.proofs.lemmas.Nat.Bits.{bit_at_cat_low, bit_at_cat_high, bit_at_lowest, same_from_bits_below}
 use Rattle.std.proofs.Math.Nat.{pow-suc}
+use Rattle.std.proofs.lemmas.Bool.{cond_both}
 use Rattle.slot_history.specs.Allowed.{IsMask}
 use Rattle.slot_history.specs.Calls.{mask_of}
-use Rattle.slot_history.proofs.Sets.{choose}
 
 mask-small : (n : ℕ) (f : ℕ → Bool) → mask_of n f < 2 ^ n
 unfolding mask_of
@@ -15,10 +15,10 @@ mask-small zero f = lit< tt
 mask-small (suc n) f =
     let p : 2 ^ suc n ≡ 2 ^ n * 2 = pow-suc 2 n in
     let r : mask_of n f < 2 ^ n = mask-small n f in
-    choose (f n) 1 0 (λ b. b * 2 ^ n + mask_of n f < 2 ^ suc n) (λ t. omega arith) (λ t. omega arith)
+    cond_both (f n) 1 0 (λ b. b * 2 ^ n + mask_of n f < 2 ^ suc n) (λ t. omega arith) (λ t. omega arith)
 
 lowest : (b : Bool) → bit_at (cond b 1 0) 0 ≡ cond b 1 0
-lowest b = bit_at_lowest (cond b 1 0) ∙ choose b 1 0 (λ k. k % 2 ≡ k) (λ t. refl) (λ t. refl)
+lowest b = bit_at_lowest (cond b 1 0) ∙ cond_both b 1 0 (λ k. k % 2 ≡ k) (λ t. refl) (λ t. refl)
 
 mask-bit : (n : ℕ) (f : ℕ → Bool) (k : ℕ) → k < n → bit_at (mask_of n f) k ≡ cond (f k) 1 0
 unfolding mask_of

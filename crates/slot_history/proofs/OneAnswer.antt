@@ -1,7 +1,8 @@
 -- An allowed call has just one answer. It rules out a shut that two workers win, and any other answer that depends on more
 -- than the state.
-use Rattle.std.proofs.Common.{◌≡◌, ℕ, ◌+◌, ◌<◌, ◌≤◌, ◌⊎◌, Bool, true, false, cond, eqb, ltb, ◌&&◌, min, refl, sym, ap, ◌∙◌, subst, inl, inr, ⊎_elim, arith, eq-eqb, ne_eqb, eqb-true, lt-ltb, le-ltb, ltb-true, ltb-false}
+use Rattle.std.proofs.Common.{◌≡◌, ℕ, ◌+◌, ◌<◌, ◌⊎◌, Bool, true, false, cond, eqb, ltb, ◌&&◌, min, refl, sym, ap, ◌∙◌, subst, inl, inr, ⊎_elim, arith, eq-eqb, ne_eqb, eqb-true, pos_of_ne-zero, lt-ltb, le-ltb, ltb-true, ltb-false}
 use mathlib.Core.Bool.{true≢false}
+use Rattle.std.proofs.lemmas.Bool.{cond_both, eqb-false, and_from, and_parts, and_left, and_right, false_from_ne_true}
 use Rattle.slot_history.specs.declared.shape.Shape.{Shape}
 use Rattle.slot_history.specs.declared.act.Act.{Act}
 use Rattle.slot_history.specs.declared.act.Act.TheVariants.{LookOpen, LookInvalid, LookVacant, ClaimRange, ClaimUsed, ShutWon, ShutLost, LeaveLeft, LeaveOwe, PayLast, PayDone, MarkMarked, MarkMissed, SweepLast, SweepOthers, ReserveGot, ReserveTaken, AdmitGot, AdmitLost, Arrivals, Finished, TakeReturn, TakeChange}
@@ -11,7 +12,7 @@ use Rattle.slot_history.specs.Steps.{ended}
 use Rattle.slot_history.specs.Allowed.{IsAllowed, debts, next_is_at}
 use Rattle.slot_history.specs.Table.{IsTable}
 use Rattle.slot_history.specs.Calls.{Call, Entering, Looking, Claiming, Shutting, Leaving, Paying, Marking, Sweeping, Reserving, Admitting, AskingArrivals, AskingFinished, Noting, Totalling, Installing, Releasing, Telling, TakingReturn, TakingChange, call_of, MayCall, looked_at, answer_at, reply_of, IsAnswered}
-use Rattle.slot_history.proofs.Sets.{choose, true-or-false, and-true, and-left, and-right, and-false_left, and-false_right}
+use Rattle.slot_history.proofs.Records.{shut-closed}
 use Rattle.slot_history.proofs.Masks.{mask-is, mask-only}
 use Rattle.slot_history.proofs.Places.{inside-slots}
 
@@ -25,19 +26,9 @@ look-answers d S w s (Open t) at is = (s, at, ap is_open is, sym (ap id_of is))
 look-answers d S w s (Shut t e) at is = (s, at, ap is_tagged is)
 look-answers d S w s (Finishing id u h) at is = (s, at, ap is_tagged is)
 
-not-zero : (n : ℕ) → eqb n 0 ≡ false → 0 < n
-not-zero n h = ⊎_elim (λ t. ltb-true 0 n t) (λ f. absurd (let z : n ≤ 0 = ltb-false 0 n f in true≢false (sym (eq-eqb n 0 (omega arith)) ∙ h))) (true-or-false (ltb 0 n))
-
 still-owed : (swept : Bool) (n : ℕ) → (swept && eqb n 0) ≡ false → (swept ≡ false) ⊎ (0 < n)
-still-owed true n h = inr (not-zero n h)
+still-owed true n h = inr (pos_of_ne-zero (eqb-false n 0 h))
 still-owed false n h = inl refl
-
-shut-not-open : (x : SlotState) → is_shut x ≡ true → is_open x ≡ false
-shut-not-open (Shut t e) h = refl
-shut-not-open Empty h = refl
-shut-not-open (Reserved w k) h = refl
-shut-not-open (Open t) h = absurd (cc)
-shut-not-open (Finishing id w k) h = refl
 
 -- `reply_of` at the slot that the worker's place names
 abbrev Replies : Shape → ObjectState → ℕ → Call → ℕ → Type 0
@@ -47,11 +38,11 @@ pub answered : (d : Shape) (S : ObjectState) → IsTable d S → (w : ℕ) (c : 
 answered d S tab w (Entering s) low ok = ok
 answered d S tab w Looking low ok = subst (Replies d S w Looking) (sym (ap slot_of ok.1)) (look-answers d S w ok.0 (S.slots ok.0) ok.1 refl)
 answered d S tab w (Claiming n) low ok = subst (Replies d S w (Claiming n)) (sym (ap slot_of ok.2))
-    (let t = task_of (S.slots ok.0) in choose (ltb t.cursor t.total) (ClaimRange n t.cursor (min t.total (t.cursor + n))) (ClaimUsed n) (IsAllowed d S w)
+    (let t = task_of (S.slots ok.0) in cond_both (ltb t.cursor t.total) (ClaimRange n t.cursor (min t.total (t.cursor + n))) (ClaimUsed n) (IsAllowed d S w)
     (λ k. (ok.0, ok.1, ok.2, ok.3, ok.4, refl, ltb-true t.cursor t.total k, refl))
     (λ k. (ok.0, ok.1, ok.2, ok.3, ok.4, ltb-false t.cursor t.total k)))
 answered d S tab w Shutting low ok = subst (Replies d S w Shutting) (sym (ap slot_of ok.2))
-    (choose (is_open (S.slots ok.0)) ShutWon ShutLost (IsAllowed d S w)
+    (cond_both (is_open (S.slots ok.0)) ShutWon ShutLost (IsAllowed d S w)
     (λ k. (ok.0, ok.1, ok.2, k))
     (λ k. (
       ok.0,
@@ -60,21 +51,21 @@ answered d S tab w Shutting low ok = subst (Replies d S w Shutting) (sym (ap slo
       ⊎_elim (λ open_. absurd (true≢false (sym open_ ∙ k))) (λ shut_. shut_)
           (inside-slots d S tab ok.0 w ok.1 low (ap (λ p. has_own_cell p ok.0) ok.2 ∙ eq-eqb ok.0 ok.0 refl) (ap (λ p. is_inside p ok.1) ok.2 ∙ eq-eqb ok.1 ok.1 refl)).0,
     )))
-answered d S tab w Leaving low ok = let x : SlotState = S.slots (slot_of (S.places w)) in choose (owes x w) (LeaveOwe (id_of x)) LeaveLeft (IsAllowed d S w) (λ k. (ok, k, refl)) (λ k. (ok, k))
+answered d S tab w Leaving low ok = let x : SlotState = S.slots (slot_of (S.places w)) in cond_both (owes x w) (LeaveOwe (id_of x)) LeaveLeft (IsAllowed d S w) (λ k. (ok, k, refl)) (λ k. (ok, k))
 answered d S tab w Paying low ok = subst (Replies d S w Paying) (sym (ap slot_of ok.2))
-    (let x : SlotState = S.slots ok.0 in choose (is_swept x && eqb (debts d (ended d w PayDone x)) 0) PayLast PayDone (IsAllowed d S w)
-    (λ k. (ok.0, ok.1, ok.2, and-left (is_swept x) (eqb (debts d (ended d w PayDone x)) 0) k, eqb-true (debts d (ended d w PayDone x)) 0 (and-right (is_swept x) (eqb (debts d (ended d w PayDone x)) 0) k)))
+    (let x : SlotState = S.slots ok.0 in cond_both (is_swept x && eqb (debts d (ended d w PayDone x)) 0) PayLast PayDone (IsAllowed d S w)
+    (λ k. let both = and_parts (is_swept x) (eqb (debts d (ended d w PayDone x)) 0) k in (ok.0, ok.1, ok.2, both.0, eqb-true (debts d (ended d w PayDone x)) 0 both.1))
     (λ k. (ok.0, ok.1, ok.2, still-owed (is_swept x) (debts d (ended d w PayDone x)) k)))
 answered d S tab w Marking low ok = subst (λ j. IsAllowed d S w (cond (next_is_at d S j (S.slots j)) MarkMarked MarkMissed)) (sym (ap slot_of ok.4))
-    (choose (next_is_at d S ok.0 (S.slots ok.0)) MarkMarked MarkMissed (IsAllowed d S w)
+    (cond_both (next_is_at d S ok.0 (S.slots ok.0)) MarkMarked MarkMissed (IsAllowed d S w)
     (λ k. (ok.0, ok.1, ok.2, ok.3, ok.4, ok.5, k)) (λ k. (ok.0, ok.1, ok.2, ok.3, ok.4, ok.5, k)))
 answered d S tab w Sweeping low ok = subst (Replies d S w Sweeping) (sym (ap slot_of ok.4))
-    (choose (eqb (debts d (S.slots ok.0)) 0) SweepLast (SweepOthers (debts d (S.slots ok.0))) (IsAllowed d S w)
+    (cond_both (eqb (debts d (S.slots ok.0)) 0) SweepLast (SweepOthers (debts d (S.slots ok.0))) (IsAllowed d S w)
     (λ k. (ok.0, ok.1, ok.2, ok.3, ok.4, ok.5, eqb-true (debts d (S.slots ok.0)) 0 k))
-    (λ k. (ok.0, ok.1, ok.2, ok.3, ok.4, ok.5, not-zero (debts d (S.slots ok.0)) k, refl)))
-answered d S tab w (Reserving s) low ok = choose (is_empty (S.slots s)) (ReserveGot s) (ReserveTaken s (slot_word (S.slots s))) (IsAllowed d S w)
+    (λ k. (ok.0, ok.1, ok.2, ok.3, ok.4, ok.5, pos_of_ne-zero (eqb-false (debts d (S.slots ok.0)) 0 k), refl)))
+answered d S tab w (Reserving s) low ok = cond_both (is_empty (S.slots s)) (ReserveGot s) (ReserveTaken s (slot_word (S.slots s))) (IsAllowed d S w)
     (λ k. (ok.0, ok.1, k)) (λ k. (ok.0, ok.1, k, refl))
-answered d S tab w (Admitting q) low ok = choose (eqb S.admitted q) (AdmitGot q) (AdmitLost q S.admitted) (IsAllowed d S w)
+answered d S tab w (Admitting q) low ok = cond_both (eqb S.admitted q) (AdmitGot q) (AdmitLost q S.admitted) (IsAllowed d S w)
     (λ k. (ok.0, ok.1, ok.2, ok.3, ok.4, eqb-true S.admitted q k)) (λ k. (ok.0, ok.1, ok.2, ok.3, ok.4, refl, λ e. true≢false (sym (eq-eqb S.admitted q e) ∙ k)))
 answered d S tab w AskingArrivals low ok = refl
 answered d S tab w AskingFinished low ok = refl
@@ -130,15 +121,15 @@ only-answer d S w (ClaimRange n from to) ok = subst (Only d S w (ClaimRange n fr
 only-answer d S w (ClaimUsed n) ok = subst (Only d S w (ClaimUsed n)) (sym (ap slot_of ok.2))
     (let t = task_of (S.slots ok.0) in no-answer (ltb t.cursor t.total) (ClaimRange n t.cursor (min t.total (t.cursor + n))) (ClaimUsed n) (le-ltb t.cursor t.total ok.5))
 only-answer d S w ShutWon ok = subst (Only d S w ShutWon) (sym (ap slot_of ok.2)) (yes-answer (is_open (S.slots ok.0)) ShutWon ShutLost ok.3)
-only-answer d S w ShutLost ok = subst (Only d S w ShutLost) (sym (ap slot_of ok.2)) (no-answer (is_open (S.slots ok.0)) ShutWon ShutLost (shut-not-open (S.slots ok.0) ok.3))
+only-answer d S w ShutLost ok = subst (Only d S w ShutLost) (sym (ap slot_of ok.2)) (no-answer (is_open (S.slots ok.0)) ShutWon ShutLost (false_from_ne_true (is_open (S.slots ok.0)) (shut-closed (S.slots ok.0) ok.3)))
 only-answer d S w LeaveLeft ok = let x : SlotState = S.slots (slot_of (S.places w)) in no-answer (owes x w) (LeaveOwe (id_of x)) LeaveLeft ok.1
 only-answer d S w (LeaveOwe id) ok = let x : SlotState = S.slots (slot_of (S.places w)) in ap LeaveOwe ok.2 ∙ yes-answer (owes x w) (LeaveOwe (id_of x)) LeaveLeft ok.1
 only-answer d S w PayLast ok = subst (Only d S w PayLast) (sym (ap slot_of ok.2))
-    (let x : SlotState = S.slots ok.0 in yes-answer (is_swept x && eqb (debts d (ended d w PayDone x)) 0) PayLast PayDone (and-true (is_swept x) (eqb (debts d (ended d w PayDone x)) 0) ok.3 (eq-eqb (debts d (ended d w PayDone x)) 0 ok.4)))
+    (let x : SlotState = S.slots ok.0 in yes-answer (is_swept x && eqb (debts d (ended d w PayDone x)) 0) PayLast PayDone (and_from (is_swept x) (eqb (debts d (ended d w PayDone x)) 0) ok.3 (eq-eqb (debts d (ended d w PayDone x)) 0 ok.4)))
 only-answer d S w PayDone ok = subst (Only d S w PayDone) (sym (ap slot_of ok.2))
     (let x : SlotState = S.slots ok.0 in no-answer (is_swept x && eqb (debts d (ended d w PayDone x)) 0) PayLast PayDone (⊎_elim
-    (λ k. and-false_left (is_swept x) (eqb (debts d (ended d w PayDone x)) 0) k)
-    (λ k. and-false_right (is_swept x) (eqb (debts d (ended d w PayDone x)) 0) (ne_eqb (debts d (ended d w PayDone x)) 0 (λ e. omega arith))) ok.3))
+    (λ k. and_left (is_swept x) (eqb (debts d (ended d w PayDone x)) 0) k)
+    (λ k. and_right (is_swept x) (eqb (debts d (ended d w PayDone x)) 0) (ne_eqb (debts d (ended d w PayDone x)) 0 (λ e. omega arith))) ok.3))
 only-answer d S w MarkMarked ok = subst (λ j. MarkMarked ≡ cond (next_is_at d S j (S.slots j)) MarkMarked MarkMissed) (sym (ap slot_of ok.4)) (yes-answer (next_is_at d S ok.0 (S.slots ok.0)) MarkMarked MarkMissed ok.6)
 only-answer d S w MarkMissed ok = subst (λ j. MarkMissed ≡ cond (next_is_at d S j (S.slots j)) MarkMarked MarkMissed) (sym (ap slot_of ok.4)) (no-answer (next_is_at d S ok.0 (S.slots ok.0)) MarkMarked MarkMissed ok.6)
 only-answer d S w SweepLast ok = subst (Only d S w SweepLast) (sym (ap slot_of ok.4))

@@ -3,6 +3,7 @@ use Rattle.std.proofs.Common.{◌≡◌, ◌≢◌, ℕ, ◌+◌, ◌<◌, Bool,
 use mathlib.Core.Logic.{dite}
 use mathlib.Core.Bool.{true≢false}
 use native.Mathlib.Decide.{ℕ_discrete}
+use Rattle.std.proofs.lemmas.Bool.{and_from, and_left, false_from_ne_true}
 use Rattle.slot_history.specs.declared.shape.Shape.{Shape}
 use Rattle.slot_history.specs.declared.act.Act.{Act}
 use Rattle.slot_history.specs.declared.act.Act.TheVariants.{Enter, LookOpen, LookInvalid, LookVacant, ClaimRange, ClaimUsed, ShutWon, ShutLost, LeaveLeft, LeaveOwe, PayLast, PayDone, MarkMarked, MarkMissed, SweepLast, SweepOthers, ReserveGot, ReserveTaken, AdmitGot, AdmitLost, Arrivals, Finished, Note, Total, Install, Release, Tell, TakeReturn, TakeChange}
@@ -14,7 +15,7 @@ use Rattle.slot_history.specs.States.{TaskSet, Ending, SlotState, Empty, Reserve
 use Rattle.slot_history.specs.Steps.{site, slot_after, held_after, shut_by, first_ending, next_asked, ending_after, ended, finalised_by, held_on, opened}
 use Rattle.slot_history.specs.Allowed.{IsAllowed, debts, next_is_at}
 use Rattle.slot_history.specs.Table.{Visits, Unasked, Owes, Holds, owing, duty_at_end, duty_of, works, lags, nth_other, HasAsked, IsLeading, Meets, IsChain, IsChainOf}
-use Rattle.slot_history.proofs.Sets.{upd-same, upd-else, and-true, and-false_left, same-tests, none-counted}
+use Rattle.slot_history.proofs.Sets.{upd-same, upd-else, none-counted}
 use Rattle.slot_history.proofs.Others.{next-is, next-unasked, all-asked}
 use Rattle.slot_history.proofs.Duties.{end-cases, end-rests, end-leads, end-owes, end-clear, end-unasked, held-other, asking-leads, owing-owes, holding-holds, leads-slot, owes-slot, holds-slot}
 use Rattle.slot_history.proofs.OwnDuty.{claims-same}
@@ -159,12 +160,12 @@ asks-marked : (d : Shape) (e : Ending) (n m w : ℕ) → IsChain d e → HasAske
 asks-marked d e n m w chain h more =
     let u : ℕ = next_asked d e in
     let out : e.asked u ≡ false = ap e.asked (next-is d e n m h chain.coordinator more) ∙ next-unasked d e n m h in
-    let unpaid : e.paid u ≡ false = same-tests (e.paid u) false (λ k. absurd (true≢false (sym (chain.marked u (chain.paid u k)) ∙ out))) (λ k. absurd (cc)) in
+    let unpaid : e.paid u ≡ false = false_from_ne_true (e.paid u) (λ k. true≢false (sym (chain.marked u (chain.paid u k)) ∙ out)) in
     subst (λ k. AsksOne e (ending_after d w MarkMarked e) k true) (next-is d e n m h chain.coordinator more) (record {
       lead = refl;
       asked_one = upd-same e.asked u true;
       asked = λ v k. upd-else e.asked u true v k;
-      owing_one = and-true (upd e.marked u true u) (not (e.paid u)) (upd-same e.marked u true) (ap not unpaid);
+      owing_one = and_from (upd e.marked u true u) (not (e.paid u)) (upd-same e.marked u true) (ap not unpaid);
       owing_else = λ v k. ap (λ b. b && not (e.paid v)) (upd-else e.marked u true v k);
     })
 
@@ -172,12 +173,12 @@ asks-missed : (d : Shape) (e : Ending) (n m w : ℕ) → IsChain d e → HasAske
 asks-missed d e n m w chain h more =
     let u : ℕ = next_asked d e in
     let out : e.asked u ≡ false = ap e.asked (next-is d e n m h chain.coordinator more) ∙ next-unasked d e n m h in
-    let unmarked : e.marked u ≡ false = same-tests (e.marked u) false (λ k. absurd (true≢false (sym (chain.marked u k) ∙ out))) (λ k. absurd (cc)) in
+    let unmarked : e.marked u ≡ false = false_from_ne_true (e.marked u) (λ k. true≢false (sym (chain.marked u k) ∙ out)) in
     subst (λ k. AsksOne e (ending_after d w MarkMissed e) k false) (next-is d e n m h chain.coordinator more) (record {
       lead = refl;
       asked_one = upd-same e.asked u true;
       asked = λ v k. upd-else e.asked u true v k;
-      owing_one = and-false_left (e.marked u) (not (e.paid u)) unmarked;
+      owing_one = and_left (e.marked u) (not (e.paid u)) unmarked;
       owing_else = λ v k. refl;
     })
 

@@ -1,15 +1,17 @@
 -- The others of a worker in ascending order, and which of them were asked.
-use Rattle.std.proofs.Common.{◌≡◌, ◌≢◌, ℕ, ◌+◌, ◌<◌, ◌≤◌, ◌⊎◌, Bool, true, false, eqb, ltb, not, ◌&&◌, refl, sym, ap, ◌∙◌, inl, inr, eq-eqb, ne_eqb, ltb-true, ltb-false, lt-ltb, ⊎_elim, arith}
+use Rattle.std.proofs.Common.{◌≡◌, ◌≢◌, ℕ, ◌+◌, ◌<◌, ◌≤◌, ◌⊎◌, Bool, true, false, eqb, ltb, not, ◌&&◌, refl, sym, ap, ◌∙◌, inl, inr, ne_eqb, ltb-true, ltb-false, lt-ltb, ⊎_elim, arith}
 use mathlib.Core.Bool.{true≢false}
+use Rattle.std.proofs.lemmas.Bool.{cond_both, and_from, and_parts, not-true, eqb-false, false_from_ne_true}
+use Rattle.std.proofs.lemmas.Bool.Decides.{same_from_decides}
 use Rattle.slot_history.specs.declared.shape.Shape.{Shape}
 use Rattle.slot_history.specs.Sets.{upd}
 use Rattle.slot_history.specs.States.{Ending}
 use Rattle.slot_history.specs.Steps.{next_asked}
 use Rattle.slot_history.specs.Table.{nth_other, HasAsked}
-use Rattle.slot_history.proofs.Sets.{choose, upd-cases, and-true, and-left, and-right, not-true, same-tests, least-is}
+use Rattle.slot_history.proofs.Sets.{upd-cases, least-is}
 
 pub nth-other-cases : (c n : ℕ) → ((n < c) × (nth_other c n ≡ n)) ⊎ ((c ≤ n) × (nth_other c n ≡ n + 1))
-nth-other-cases c n = choose (ltb n c) n (n + 1) (λ k. ((n < c) × (k ≡ n)) ⊎ ((c ≤ n) × (k ≡ n + 1))) (λ t. inl (ltb-true n c t, refl)) (λ t. inr (ltb-false n c t, refl))
+nth-other-cases c n = cond_both (ltb n c) n (n + 1) (λ k. ((n < c) × (k ≡ n)) ⊎ ((c ≤ n) × (k ≡ n + 1))) (λ t. inl (ltb-true n c t, refl)) (λ t. inr (ltb-false n c t, refl))
 
 -- it is another worker than c
 pub nth-other-differs : (c n : ℕ) → nth_other c n ≢ c
@@ -23,20 +25,18 @@ abbrev is_before : ℕ → ℕ → ℕ → Bool
 is_before c n v = not (eqb v c) && ltb v (nth_other c n)
 
 before-other : (c n v : ℕ) → is_before c n v ≡ true → v ≢ c
-before-other c n v h e = true≢false (sym (and-left (not (eqb v c)) (ltb v (nth_other c n)) h) ∙ ap not (eq-eqb v c e))
+before-other c n v h = eqb-false v c (not-true (eqb v c) (and_parts (not (eqb v c)) (ltb v (nth_other c n)) h).0)
 
 before-below : (c n v : ℕ) → is_before c n v ≡ true → v < nth_other c n
-before-below c n v h = ltb-true v (nth_other c n) (and-right (not (eqb v c)) (ltb v (nth_other c n)) h)
+before-below c n v h = ltb-true v (nth_other c n) (and_parts (not (eqb v c)) (ltb v (nth_other c n)) h).1
 
 is-before : (c n v : ℕ) → v ≢ c → v < nth_other c n → is_before c n v ≡ true
-is-before c n v other below = and-true (not (eqb v c)) (ltb v (nth_other c n)) (ap not (ne_eqb v c other)) (lt-ltb v (nth_other c n) below)
+is-before c n v other below = and_from (not (eqb v c)) (ltb v (nth_other c n)) (ap not (ne_eqb v c other)) (lt-ltb v (nth_other c n) below)
 
 before-none : (c v : ℕ) → is_before c 0 v ≡ false
-before-none c v = same-tests (is_before c 0 v) false
-    (λ h. ⊎_elim (λ r. let a : nth_other c 0 ≡ 0 = r.1 in let b : v < nth_other c 0 = before-below c 0 v h in absurd (omega arith))
-    (λ r. let a : c ≤ 0 = r.0 in let z : nth_other c 0 ≡ 0 + 1 = r.1 in let b : v < nth_other c 0 = before-below c 0 v h in let n : v ≢ c = before-other c 0 v h in absurd (omega arith))
+before-none c v = false_from_ne_true (is_before c 0 v) (λ h. ⊎_elim (λ r. let a : nth_other c 0 ≡ 0 = r.1 in let b : v < nth_other c 0 = before-below c 0 v h in omega arith)
+    (λ r. let a : c ≤ 0 = r.0 in let z : nth_other c 0 ≡ 0 + 1 = r.1 in let b : v < nth_other c 0 = before-below c 0 v h in let n : v ≢ c = before-other c 0 v h in omega arith)
     (nth-other-cases c 0))
-    (λ h. absurd (cc))
 
 -- in between stands just the worker that is number n
 before-step : (c n v : ℕ) → v < nth_other c (n + 1) → v ≢ c → v ≢ nth_other c n → v < nth_other c n
@@ -68,27 +68,28 @@ pub asked-more : (c n : ℕ) (asked : ℕ → Bool) → ((v : ℕ) → asked v �
     → (v : ℕ) → upd asked (nth_other c n) true v ≡ (not (eqb v c) && ltb v (nth_other c (n + 1)))
 asked-more c n asked first v = upd-cases asked (nth_other c n) true v (λ b. b ≡ is_before c (n + 1) v)
     (λ e. sym (is-before c (n + 1) v (λ k. nth-other-differs c n (sym e ∙ k)) (let g : nth_other c n < nth_other c (n + 1) = nth-other-grows c n in omega arith)))
-    (λ differs. first v ∙ same-tests (is_before c n v) (is_before c (n + 1) v)
-    (λ h. is-before c (n + 1) v (before-other c n v h) (let g : nth_other c n < nth_other c (n + 1) = nth-other-grows c n in let b : v < nth_other c n = before-below c n v h in omega arith))
-    (λ h. is-before c n v (before-other c (n + 1) v h) (before-step c n v (before-below c (n + 1) v h) (before-other c (n + 1) v h) differs)))
+    (λ differs. first v ∙ same_from_decides {P = is_before c (n + 1) v ≡ true} (is_before c n v) (is_before c (n + 1) v) (
+      λ h. is-before c (n + 1) v (before-other c n v h) (let g : nth_other c n < nth_other c (n + 1) = nth-other-grows c n in let b : v < nth_other c n = before-below c n v h in omega arith),
+      λ h. is-before c n v (before-other c (n + 1) v h) (before-step c n v (before-below c (n + 1) v h) (before-other c (n + 1) v h) differs),
+    ) (λ h. h, λ h. h))
+
+-- the next one was not asked before
+pub next-unasked : (d : Shape) (e : Ending) (n m : ℕ) → HasAsked d e n m → e.asked (nth_other e.coordinator n) ≡ false
+next-unasked d e n m h = let c : ℕ = e.coordinator in let u : ℕ = nth_other c n in
+    h.first u ∙ false_from_ne_true (is_before c n u) (λ k. let b : u < u = before-below c n u k in omega arith)
 
 -- who is asked next
 pub next-is : (d : Shape) (e : Ending) (n m : ℕ) → HasAsked d e n m → e.coordinator < d.workers → n + 1 < d.workers → next_asked d e ≡ nth_other e.coordinator n
 next-is d e n m h low more =
     let c : ℕ = e.coordinator in
     let u : ℕ = nth_other c n in
-    let out : e.asked u ≡ false = h.first u ∙ same-tests (is_before c n u) false (λ k. let b : u < u = before-below c n u k in absurd (omega arith)) (λ k. absurd (cc)) in
+    let out : e.asked u ≡ false = next-unasked d e n m h in
     least-is d.workers (λ v. not (e.asked v) && not (eqb v c)) u (nth-other-within c n d.workers low more)
-    (and-true (not (e.asked u)) (not (eqb u c)) (ap not out) (ap not (ne_eqb u c (nth-other-differs c n))))
-    (λ v below. same-tests (not (e.asked v) && not (eqb v c)) false
-    (λ k. let was : e.asked v ≡ false = not-true (e.asked v) (and-left (not (e.asked v)) (not (eqb v c)) k) in
-    let other : v ≢ c = λ s. true≢false (sym (and-right (not (e.asked v)) (not (eqb v c)) k) ∙ ap not (eq-eqb v c s)) in
-    absurd (true≢false (sym (is-before c n v other below) ∙ sym (h.first v) ∙ was)))
-    (λ k. absurd (cc)))
-
-pub next-unasked : (d : Shape) (e : Ending) (n m : ℕ) → HasAsked d e n m → e.asked (nth_other e.coordinator n) ≡ false
-next-unasked d e n m h = let c : ℕ = e.coordinator in let u : ℕ = nth_other c n in
-    h.first u ∙ same-tests (is_before c n u) false (λ k. let b : u < u = before-below c n u k in absurd (omega arith)) (λ k. absurd (cc))
+    (and_from (not (e.asked u)) (not (eqb u c)) (ap not out) (ap not (ne_eqb u c (nth-other-differs c n))))
+    (λ v below. false_from_ne_true (not (e.asked v) && not (eqb v c)) (λ k.
+    let both = and_parts (not (e.asked v)) (not (eqb v c)) k in
+    let other : v ≢ c = eqb-false v c (not-true (eqb v c) both.1) in
+    true≢false (sym (is-before c n v other below) ∙ sym (h.first v) ∙ not-true (e.asked v) both.0)))
 
 -- once all but the coordinator are counted, each was asked
 pub all-asked : (d : Shape) (e : Ending) (n m : ℕ) → HasAsked d e n m → e.coordinator < d.workers → n + 1 ≡ d.workers → (v : ℕ) → v < d.workers → v ≢ e.coordinator → e.asked v ≡ true

@@ -1,6 +1,7 @@
 -- The worker of a call meets its duty to the slot of the call.
 use Rattle.std.proofs.Common.{◌≡◌, ◌≢◌, ℕ, ◌+◌, ◌<◌, Bool, true, false, eqb, not, refl, sym, ap, ◌∙◌, subst, ⊎_elim, add-zero, arith}
 use mathlib.Core.Bool.{true≢false}
+use Rattle.std.proofs.lemmas.Bool.{cond_both, and_right, false_from_ne_true}
 use Rattle.slot_history.specs.declared.shape.Shape.{Shape}
 use Rattle.slot_history.specs.declared.act.Act.{Act}
 use Rattle.slot_history.specs.declared.act.Act.TheVariants.{Enter, LookOpen, LookInvalid, LookVacant, ClaimRange, ClaimUsed, ShutWon, ShutLost, LeaveLeft, LeaveOwe, PayLast, PayDone, MarkMarked, MarkMissed, SweepLast, SweepOthers, ReserveGot, ReserveTaken, AdmitGot, AdmitLost, Arrivals, Finished, Note, Total, Install, Release, Tell, TakeReturn, TakeChange}
@@ -12,7 +13,7 @@ use Rattle.slot_history.specs.States.{TaskSet, Ending, SlotState, Empty, Reserve
 use Rattle.slot_history.specs.Steps.{site, moved, left, told_one, slot_after, held_after, claimed, shut_by, first_ending, next_asked, ending_after, ended, finalised_by, held_on, opened}
 use Rattle.slot_history.specs.Allowed.{IsAllowed}
 use Rattle.slot_history.specs.Table.{Duty, Visits, Works, Unasked, Owes, Leads, Holds, duty_of, binds, nth_other, HasAsked, IsLeading, Meets, IsChain, IsChainOf}
-use Rattle.slot_history.proofs.Sets.{choose, upd-same, and-false_right, same-tests, count-none, count-more}
+use Rattle.slot_history.proofs.Sets.{upd-same, count-none, count-more}
 use Rattle.slot_history.proofs.Others.{asked-none, asked-more, next-is, next-unasked, nth-other-within}
 use Rattle.slot_history.proofs.Duties.{end-cases, end-rests, end-leads, end-clear, held-mine, owes-duty, not-owes, asking-leads, leading-leads, owing-owes, holding-holds, leads-slot, owes-slot, holds-slot}
 
@@ -127,7 +128,7 @@ mine-paid : (d : Shape) (x : SlotState) (s w id : ℕ) → duty_of x w ≡ Owes 
 mine-paid d x s w id owe = let r = owes-slot x w id owe in let t : TaskSet = r.0 in let e : Ending = r.1 in
     subst (λ y. Meets d s (duty_of (ended d w PayDone y) w) Free) (sym r.2)
     (subst (λ D. Meets d s D Free) (sym (end-clear t.id (ending_after d w PayDone e) w r.4 r.5
-    (and-false_right (e.marked w) (not (upd e.paid w true w)) (ap not (upd-same e.paid w true)))))
+    (and_right (e.marked w) (not (upd e.paid w true w)) (ap not (upd-same e.paid w true)))))
     (λ b. absurd (cc)))
 
 -- what one more asked worker makes of the sets
@@ -143,7 +144,7 @@ marked-so d e n m w chain h more =
     let c : ℕ = e.coordinator in
     let is : next_asked d e ≡ nth_other c n = next-is d e n m h chain.coordinator more in
     let out : e.asked (nth_other c n) ≡ false = next-unasked d e n m h in
-    let clear : e.marked (nth_other c n) ≡ false = same-tests (e.marked (nth_other c n)) false (λ k. absurd (true≢false (sym (chain.marked _ k) ∙ out))) (λ k. absurd (cc)) in record {
+    let clear : e.marked (nth_other c n) ≡ false = false_from_ne_true (e.marked (nth_other c n)) (λ k. true≢false (sym (chain.marked _ k) ∙ out)) in record {
       first = λ v. ap (λ u. upd e.asked u true v) is ∙ asked-more c n e.asked h.first v;
       marks = ap (λ u. count_of d.workers (upd e.marked u true)) is ∙ count-more d.workers e.marked (nth_other c n) (nth-other-within c n d.workers chain.coordinator more) clear ∙ ap (λ k. k + 1) h.marks;
       within = more;
@@ -183,7 +184,7 @@ mine-opened d x s w id k again h m = ⊎_elim
     (holds-slot x w h (holding-holds d s h (duty_of x w) m))
 
 pub told-loose : (d : Shape) (s : ℕ) (again : Bool) (k : ℕ) → binds (told_one d (Announcing s again k)) ≡ false
-told-loose d s again k = choose (eqb (k + 1) d.workers) Free (Announcing s again (k + 1)) (λ q. binds q ≡ false) (λ t. refl) (λ t. refl)
+told-loose d s again k = cond_both (eqb (k + 1) d.workers) Free (Announcing s again (k + 1)) (λ q. binds q ≡ false) (λ t. refl) (λ t. refl)
 
 pub mine : (d : Shape) (S : ObjectState) (w : ℕ) (a : Act) → w < d.workers → IsAllowed d S w a → Mine d S w a (S.places w)
 mine d S w (Enter s) low ok = subst (Mine d S w (Enter s)) (sym ok.0) (λ c m. enters d s (duty_of (S.slots s) w) m)

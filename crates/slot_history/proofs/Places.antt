@@ -2,6 +2,7 @@
 -- is published only after the look: a worker that saw a slot open would be inside when its task set is finalised.
 use Rattle.std.proofs.Common.{◌≡◌, ◌≢◌, ℕ, ◌<◌, ◌⊎◌, Bool, true, false, not, refl, sym, ap, ◌∙◌, subst, inl, inr, ⊎_elim, eq-eqb, eqb-true}
 use mathlib.Core.Bool.{true≢false}
+use Rattle.std.proofs.lemmas.Bool.{and_parts, false_from_ne_true}
 use Rattle.slot_history.specs.declared.shape.Shape.{Shape}
 use Rattle.slot_history.specs.declared.place.Held.{Held}
 use Rattle.slot_history.specs.declared.place.Place.{Place}
@@ -11,7 +12,7 @@ use Rattle.slot_history.specs.Notices.{IsQuiet}
 use Rattle.slot_history.specs.Table.{Duty, Visits, Works, Unasked, Owes, Leads, Holds, owing, duty_at_end, duty_of, binds, Meets, IsChain, IsChainOf, IsTable}
 use Rattle.slot_history.specs.Bounds.{AreDebtsWithin}
 use Rattle.slot_history.specs.Laws.{QuietSlots, InsideSlots, OneDebt, ShutInside, OneOwner}
-use Rattle.slot_history.proofs.Sets.{pick, and-left, same-tests, count-split, count-fewer}
+use Rattle.slot_history.proofs.Sets.{pick, count-split, count-fewer}
 use Rattle.slot_history.proofs.Duties.{end-cases, end-leads, end-owes, held-mine, owes-duty, owes-slot, leads-slot, holding-holds, holds-slot}
 
 own-cell-slot : (p : Place) (s : ℕ) → has_own_cell p s ≡ true → slot_of p ≡ s
@@ -101,7 +102,7 @@ one-debt d S ok s t v low a b =
 pub debts-within : (d : Shape) (S : ObjectState) → IsTable d S → AreDebtsWithin d S
 debts-within d S ok s t e is = let c : IsChain d e = subst (IsChainOf d) is (ok.chain s) in (
   count-split d.workers e.marked e.paid c.paid,
-  count-fewer d.workers e.marked e.coordinator c.coordinator (same-tests (e.marked e.coordinator) false (λ k. absurd (c.asked e.coordinator (c.marked e.coordinator k) refl)) (λ k. absurd (cc))),
+  count-fewer d.workers e.marked e.coordinator c.coordinator (false_from_ne_true (e.marked e.coordinator) (λ k. c.asked e.coordinator (c.marked e.coordinator k) refl)),
 )
 
 -- ---- quiet states
@@ -110,7 +111,7 @@ quiet-end : (d : Shape) (S : ObjectState) (s : ℕ) (t : TaskSet) (e : Ending) �
 quiet-end d S s t e quiet chain meets false open_ = (subst (λ D. Meets d s D Free) (end-leads t.id e e.coordinator refl open_) (meets e.coordinator chain.coordinator)).2
 quiet-end d S s t e quiet chain meets true swept =
     let r = chain.one_owes swept in
-    let was : e.asked r.0 ≡ true = chain.marked r.0 (and-left (e.marked r.0) (not (e.paid r.0)) r.2) in
+    let was : e.asked r.0 ≡ true = chain.marked r.0 (and_parts (e.marked r.0) (not (e.paid r.0)) r.2).0 in
     let m : Meets d s (Owes t.id) Free = subst (λ D. Meets d s D Free) (end-owes t.id e r.0 (chain.asked r.0 was) was r.2) (meets r.0 r.1) in
     true≢false (sym m.1)
 

@@ -1,5 +1,6 @@
 -- What a worker's calls do to its notice records.
 use Rattle.std.proofs.Common.{◌≡◌, ℕ, ◌/◌, Bool, true, false, eqb, ◌&&◌, None, refl, sym, ap, ◌∙◌, subst, inl, inr}
+use Rattle.std.proofs.lemmas.Bool.{cond_both}
 use Rattle.slot_history.specs.declared.shape.Shape.{Shape}
 use Rattle.slot_history.specs.declared.shape.TheConstants.{STAGES}
 use Rattle.slot_history.specs.declared.act.Act.{Act}
@@ -10,12 +11,12 @@ use Rattle.slot_history.specs.States.{SlotState, Open, NoticeRecord, ObjectState
 use Rattle.slot_history.specs.Steps.{shut_by, is_in_part, dropped, looked_group, looked, records_after, next}
 use Rattle.slot_history.specs.Allowed.{IsAllowed}
 use Rattle.slot_history.specs.Notices.{MayBe}
-use Rattle.slot_history.proofs.Sets.{pick, choose, upd-same, upd-else, upd-cases}
+use Rattle.slot_history.proofs.Sets.{pick, upd-same, upd-else, upd-cases}
 
 -- a look that finds query q leaves a record that allows q so
 looked-may-be : (q : ℕ) (r : NoticeRecord) → MayBe r q → MayBe (looked q r) q
 looked-may-be q r (inl unknown) = subst (λ g. MayBe (looked_group g q r) q) (sym unknown) (inr refl)
-looked-may-be q r (inr known) = subst (λ g. MayBe (looked_group g q r) q) (sym known) (choose (eqb q q) r (dropped r) (λ x. MayBe x q) (λ t. inr known) (λ t. inr known))
+looked-may-be q r (inr known) = subst (λ g. MayBe (looked_group g q r) q) (sym known) (cond_both (eqb q q) r (dropped r) (λ x. MayBe x q) (λ t. inr known) (λ t. inr known))
 
 -- a look keeps a record that lets the worker in
 looked-active : (q : ℕ) (r : NoticeRecord) → MayBe r q → r.active ≡ true → (looked q r).active ≡ true
@@ -35,8 +36,8 @@ group-after LookInvalid p changes returns r s q answers may = drop-may-be r (slo
 group-after LookVacant p changes returns r s q answers may = drop-may-be r (slot_of p) s q may
 group-after ShutWon p changes returns r s q answers may = drop-may-be r (slot_of p) s q may
 group-after ShutLost p changes returns r s q answers may = drop-may-be r (slot_of p) s q may
-group-after (TakeReturn part bits) p changes returns r s q answers may = choose (is_in_part part s && returns s) (record (r s) { active = true }) (r s) (λ x. MayBe x q) (λ t. may) (λ t. may)
-group-after (TakeChange part bits) p changes returns r s q answers may = choose (is_in_part part s && changes s) (record { active = true; group = None }) (r s) (λ x. MayBe x q) (λ t. inl refl) (λ t. may)
+group-after (TakeReturn part bits) p changes returns r s q answers may = cond_both (is_in_part part s && returns s) (record (r s) { active = true }) (r s) (λ x. MayBe x q) (λ t. may) (λ t. may)
+group-after (TakeChange part bits) p changes returns r s q answers may = cond_both (is_in_part part s && changes s) (record { active = true; group = None }) (r s) (λ x. MayBe x q) (λ t. inl refl) (λ t. may)
 group-after _ p changes returns r s q answers may = may
 
 -- slots that are not open, by what a look or a shut finds there
@@ -48,7 +49,7 @@ vacant-closed : (x : SlotState) → is_vacant x ≡ true → is_open x ≡ true 
 vacant-closed (Open t) h o = absurd (cc)
 vacant-closed x h o = absurd (cc)
 
-shut-closed : (x : SlotState) → is_shut x ≡ true → is_open x ≡ true → ⊥
+pub shut-closed : (x : SlotState) → is_shut x ≡ true → is_open x ≡ true → ⊥
 shut-closed (Open t) h o = absurd (cc)
 shut-closed x h o = absurd (cc)
 
@@ -86,6 +87,6 @@ active-after LookInvalid p changes returns r s q answers off may h = drop-elsewh
 active-after LookVacant p changes returns r s q answers off may h = drop-elsewhere r (slot_of p) s (off refl) h
 active-after ShutWon p changes returns r s q answers off may h = drop-elsewhere r (slot_of p) s (off refl) h
 active-after ShutLost p changes returns r s q answers off may h = drop-elsewhere r (slot_of p) s (off refl) h
-active-after (TakeReturn part bits) p changes returns r s q answers off may h = choose (is_in_part part s && returns s) (record (r s) { active = true }) (r s) (λ x. x.active ≡ true) (λ t. refl) (λ t. h)
-active-after (TakeChange part bits) p changes returns r s q answers off may h = choose (is_in_part part s && changes s) (record { active = true; group = None }) (r s) (λ x. x.active ≡ true) (λ t. refl) (λ t. h)
+active-after (TakeReturn part bits) p changes returns r s q answers off may h = cond_both (is_in_part part s && returns s) (record (r s) { active = true }) (r s) (λ x. x.active ≡ true) (λ t. refl) (λ t. h)
+active-after (TakeChange part bits) p changes returns r s q answers off may h = cond_both (is_in_part part s && changes s) (record { active = true; group = None }) (r s) (λ x. x.active ≡ true) (λ t. refl) (λ t. h)
 active-after _ p changes returns r s q answers off may h = h

@@ -1,19 +1,16 @@
--- Functions with one value changed, tests, and sets of workers.
-use Rattle.std.proofs.Common.{◌≡◌, ◌≢◌, ◌⊎◌, inl, inr, ℕ, zero, suc, ◌+◌, ◌<◌, ◌≤◌, Bool, true, false, cond, eqb, not, ◌&&◌, refl, sym, ap, ◌∙◌, subst, eq-eqb, ne_eqb, arith}
+-- Functions with one value changed, a value that is there, and sets of workers.
+use Rattle.std.proofs.Common.{◌≡◌, ◌≢◌, ℕ, zero, suc, ◌+◌, ◌<◌, ◌≤◌, Bool, true, false, cond, eqb, not, ◌&&◌, Option, Some, None, refl, sym, ap, ◌∙◌, subst, eq-eqb, ne_eqb, arith}
+use Rattle.std.specs.Prelude.{unwrap_or, IsSome}
 use mathlib.Core.Logic.{dite}
 use mathlib.Core.Bool.{true≢false}
 use native.Mathlib.Decide.{ℕ_discrete}
+use Rattle.std.proofs.lemmas.Bool.{cond_both, eqb-true, eqb-false}
 use Rattle.slot_history.specs.Sets.{upd, least, count_of, sum_below}
 
 module _ {A : Type 0} where
   -- a choice by whether two numbers are equal
   pub pick : (j k : ℕ) (x y : A) (P : A → Type 0) → (j ≡ k → P x) → (j ≢ k → P y) → P (cond (eqb j k) x y)
-  pick j k x y P same other = dite (ℕ_discrete j k) (λ e. subst (λ b. P (cond b x y)) (sym (eq-eqb j k e)) (same e)) (λ n. subst (λ b. P (cond b x y)) (sym (ne_eqb j k n)) (other n))
-
-  -- a choice by a test
-  pub choose : (b : Bool) (x y : A) (P : A → Type 0) → (b ≡ true → P x) → (b ≡ false → P y) → P (cond b x y)
-  choose true x y P then_ else_ = then_ refl
-  choose false x y P then_ else_ = else_ refl
+  pick j k x y P same other = cond_both (eqb j k) x y P (λ e. same (eqb-true j k e)) (λ e. other (eqb-false j k e))
 
   pub upd-same : (f : ℕ → A) (k : ℕ) (x : A) → upd f k x k ≡ x
   upd-same f k x = ap (λ b. cond b x (f k)) (eq-eqb k k refl)
@@ -24,40 +21,10 @@ module _ {A : Type 0} where
   pub upd-cases : (f : ℕ → A) (k : ℕ) (x : A) (j : ℕ) (P : A → Type 0) → (j ≡ k → P x) → (j ≢ k → P (f j)) → P (upd f k x j)
   upd-cases f k x j P same other = pick j k x (f j) P same other
 
-pub true-or-false : (b : Bool) → (b ≡ true) ⊎ (b ≡ false)
-true-or-false true = inl refl
-true-or-false false = inr refl
-
-pub and-true : (a b : Bool) → a ≡ true → b ≡ true → (a && b) ≡ true
-and-true true true h k = refl
-and-true true false h k = k
-and-true false b h k = h
-
-pub and-left : (a b : Bool) → (a && b) ≡ true → a ≡ true
-and-left true b h = refl
-and-left false b h = h
-
-pub and-right : (a b : Bool) → (a && b) ≡ true → b ≡ true
-and-right true b h = h
-and-right false b h = absurd (cc)
-
-pub not-true : (b : Bool) → not b ≡ true → b ≡ false
-not-true true h = sym h
-not-true false h = refl
-
-pub and-false_left : (a b : Bool) → a ≡ false → (a && b) ≡ false
-and-false_left true b h = absurd (cc)
-and-false_left false b h = refl
-
-pub and-false_right : (a b : Bool) → b ≡ false → (a && b) ≡ false
-and-false_right true b h = h
-and-false_right false b h = refl
-
--- two tests with the same outcome
-pub same-tests : (a b : Bool) → (a ≡ true → b ≡ true) → (b ≡ true → a ≡ true) → a ≡ b
-same-tests true b forth back = sym (forth refl)
-same-tests false true forth back = back refl
-same-tests false false forth back = refl
+-- an optional value that is there
+pub some-unwrapped : {A : Type 0} (o : Option A) (d : A) → IsSome o → o ≡ Some (unwrap_or o d)
+some-unwrapped (Some x) d h = refl
+some-unwrapped None d h = absurd (cc)
 
 -- the least number of a set, where one in it is known to be so
 pub least-is : (n : ℕ) (f : ℕ → Bool) (k : ℕ) → k < n → f k ≡ true → ((v : ℕ) → v < k → f v ≡ false) → least n f ≡ k
@@ -77,12 +44,12 @@ count-none (suc n) f none =
 pub none-counted : (n : ℕ) (f : ℕ → Bool) → count_of n f ≡ 0 → (v : ℕ) → v < n → f v ≡ false
 none-counted zero f zero_members v h = absurd (omega arith)
 none-counted (suc n) f zero_members v h = dite (ℕ_discrete v n)
-    (λ e. subst (λ u. f u ≡ false) (sym e) (choose (f n) 1 0 (λ k. k + count_of n f ≡ 0 → f n ≡ false) (λ t z. absurd (omega arith)) (λ t z. t) zero_members))
+    (λ e. subst (λ u. f u ≡ false) (sym e) (cond_both (f n) 1 0 (λ k. k + count_of n f ≡ 0 → f n ≡ false) (λ t z. absurd (omega arith)) (λ t z. t) zero_members))
     (λ ne. none-counted n f (let z : cond {A = ℕ} (f n) 1 0 + count_of n f ≡ 0 = zero_members in omega arith) v (omega arith))
 
 pub some-counted : (n : ℕ) (f : ℕ → Bool) → 0 < count_of n f → (v : ℕ) × (v < n) × (f v ≡ true)
 some-counted zero f some_member = absurd (omega arith)
-some-counted (suc n) f some_member = choose (f n) 1 0 (λ k. 0 < k + count_of n f → (v : ℕ) × (v < suc n) × (f v ≡ true))
+some-counted (suc n) f some_member = cond_both (f n) 1 0 (λ k. 0 < k + count_of n f → (v : ℕ) × (v < suc n) × (f v ≡ true))
     (λ t z. (n, omega arith, t))
     (λ t z. let r = some-counted n f (omega arith) in (r.0, let h : r.0 < n = r.1 in omega arith, r.2)) some_member
 
@@ -107,7 +74,7 @@ pub count-grows : (n : ℕ) (f g : ℕ → Bool) → ((v : ℕ) → v < n → f 
 count-grows zero f g more = omega arith
 count-grows (suc n) f g more =
     let r : count_of n f ≤ count_of n g = count-grows n f g (λ v h. more v (omega arith)) in
-    choose (f n) 1 0 (λ k. k + count_of n f ≤ cond {A = ℕ} (g n) 1 0 + count_of n g)
+    cond_both (f n) 1 0 (λ k. k + count_of n f ≤ cond {A = ℕ} (g n) 1 0 + count_of n g)
     (λ t. let e : cond {A = ℕ} (g n) 1 0 ≡ 1 = ap (λ b. cond b 1 0) (more n (omega arith) t) in omega arith)
     (λ t. omega arith)
 
@@ -138,7 +105,7 @@ sum-zero (suc n) = let r : sum_below n (λ s. 0) ≡ 0 = sum-zero n in omega ari
 
 pub count-most : (n : ℕ) (f : ℕ → Bool) → count_of n f ≤ n
 count-most zero f = omega arith
-count-most (suc n) f = let r : count_of n f ≤ n = count-most n f in choose (f n) 1 0 (λ k. k + count_of n f ≤ suc n) (λ t. omega arith) (λ t. omega arith)
+count-most (suc n) f = let r : count_of n f ≤ n = count-most n f in cond_both (f n) 1 0 (λ k. k + count_of n f ≤ suc n) (λ t. omega arith) (λ t. omega arith)
 
 -- a set that leaves out k has fewer members than there are numbers
 pub count-fewer : (n : ℕ) (f : ℕ → Bool) (k : ℕ) → k < n → f k ≡ false → count_of n f < n

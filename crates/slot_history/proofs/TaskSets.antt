@@ -1,7 +1,8 @@
 -- A task set is finalised once, and in place. It rules out a shut that two workers win, a state word that is published after
 -- the look, and a sweep before the last worker was asked, by which a worker would be inside a task set that is finalised.
-use Rattle.std.proofs.Common.{◌≡◌, ℕ, ◌<◌, ◌≤◌, ◌⊎◌, true, false, eqb, ltb, List, [], ◌∷◌, ◌++◌, Some, refl, sym, ap, ◌∙◌, subst, inl, inr, ⊎_elim, arith, eqb-true, ltb-true, ltb-false}
+use Rattle.std.proofs.Common.{◌≡◌, ℕ, ◌<◌, ◌≤◌, ◌⊎◌, true, false, eqb, List, [], ◌∷◌, ◌++◌, Some, refl, sym, ap, ◌∙◌, subst, inl, inr, ⊎_elim, arith, eqb-true}
 use mathlib.Core.Bool.{true≢false}
+use Rattle.std.proofs.lemmas.Bool.{cases_lt, false_from_ne_true}
 use Rattle.slot_history.specs.declared.shape.Shape.{Shape}
 use Rattle.slot_history.specs.declared.act.Act.{Act}
 use Rattle.slot_history.specs.declared.act.Act.TheVariants.{LookOpen, ClaimRange, ClaimUsed, ShutWon, ShutLost, MarkMarked, MarkMissed, ReserveGot, Install, Release}
@@ -14,7 +15,6 @@ use Rattle.slot_history.specs.Allowed.{IsAllowed}
 use Rattle.slot_history.specs.Histories.{IsLegal, Begins, place_of, installs_of, lasts_of, total_of, slot_with, touches, renews}
 use Rattle.slot_history.specs.Lives.{Runs, Done, life_of, has_task}
 use Rattle.slot_history.specs.Laws.{OnceInPlace}
-use Rattle.slot_history.proofs.Sets.{true-or-false, same-tests}
 use Rattle.slot_history.proofs.Table.{table}
 use Rattle.slot_history.proofs.Within.{within}
 use Rattle.slot_history.proofs.Growth.{open-or-shut}
@@ -37,12 +37,10 @@ finalised-done : (d : Shape) (id : ℕ) (h : List Entry) → IsLegal d h → 0 <
 finalised-done d id h legal some_last = let k = counts-done (life_of d id h) (installs_of id h) (lasts_of d id h) (total_of d id h) (slot_with d id h) (counts d id h legal) some_last in (k.0, k.1)
 
 none-inside : (d : Shape) (id : ℕ) (h : List Entry) → IsLegal d h → 0 < lasts_of d id h → (v : ℕ) → is_inside (place_of d h v) id ≡ false
-none-inside d id h legal some_last v = same-tests (is_inside (place_of d h v) id) false
-    (λ k. absurd (⊎_elim
-    (λ t. let r = finalised-done d id h legal some_last in inside-done d h v id r.0 legal (ltb-true v d.workers t) r.1 k)
-    (λ f. true≢false (sym k ∙ ap (λ p. is_inside p id) ((within d h legal).others v (ltb-false v d.workers f))))
-    (true-or-false (ltb v d.workers))))
-    (λ k. absurd (cc))
+none-inside d id h legal some_last v = false_from_ne_true (is_inside (place_of d h v) id) (λ k. ⊎_elim
+    (λ low. let r = finalised-done d id h legal some_last in inside-done d h v id r.0 legal low r.1 k)
+    (λ high. true≢false (sym k ∙ ap (λ p. is_inside p id) ((within d h legal).others v high)))
+    (cases_lt v d.workers))
 
 open-id : (x : SlotState) → is_open x ≡ true → (task_of x).id ≡ id_of x
 open-id (Open t) h = refl
@@ -88,9 +86,8 @@ touches-runs d h w MarkMissed id legal low ok this = marks-run d h w ok.0 ok.1 o
 touches-runs d h w _ id legal low ok this = absurd (cc)
 
 untouched : (d : Shape) (h : List Entry) (w : ℕ) (a : Act) (id : ℕ) → IsLegal d h → w < d.workers → IsAllowed d (state_after d h) w a → 0 < lasts_of d id h → touches a (place_of d h w) id ≡ false
-untouched d h w a id legal low ok some_last = same-tests (touches a (place_of d h w) id) false
-    (λ this. absurd (let r = finalised-done d id h legal some_last in let q = touches-runs d h w a id legal low ok this in let e : Done r.0 ≡ Runs q.0 q.1 = sym r.1 ∙ q.2 in cc))
-    (λ k. absurd (cc))
+untouched d h w a id legal low ok some_last = false_from_ne_true (touches a (place_of d h w) id)
+    (λ this. let r = finalised-done d id h legal some_last in let q = touches-runs d h w a id legal low ok this in let e : Done r.0 ≡ Runs q.0 q.1 = sym r.1 ∙ q.2 in cc)
 
 -- a call that gives a slot to another task set finds none there
 renews-idle : (d : Shape) (h : List Entry) (w : ℕ) (a : Act) → IsLegal d h → w < d.workers → IsAllowed d (state_after d h) w a → renews a ≡ true → has_task ((state_after d h).slots (site a (place_of d h w))) ≡ false
@@ -101,12 +98,12 @@ renews-idle d h w _ legal low ok this = absurd (cc)
 
 in-place : (d : Shape) (h : List Entry) (w : ℕ) (a : Act) (id : ℕ) → IsLegal d h → w < d.workers → IsAllowed d (state_after d h) w a → slot_with d id h ≡ Some (site a (place_of d h w)) → renews a ≡ true → 0 < lasts_of d id h
 in-place d h w a id legal low ok at this = ⊎_elim
-    (λ t. ltb-true 0 (lasts_of d id h) t)
-    (λ f. let none : lasts_of d id h ≡ 0 = (let z : lasts_of d id h ≤ 0 = ltb-false 0 (lasts_of d id h) f in omega arith) in
+    (λ some_last. some_last)
+    (λ few. let none : lasts_of d id h ≡ 0 = omega arith in
     let s : ℕ = site a (place_of d h w) in
     let k = counts-runs (life_of d id h) (installs_of id h) (lasts_of d id h) s (total_of d id h) (slot_with d id h) (counts d id h legal) none at in
     let r = (book d h legal).runs id s k.0 k.1 in absurd (true≢false (sym r.0 ∙ renews-idle d h w a legal low ok this)))
-    (true-or-false (ltb 0 (lasts_of d id h)))
+    (cases_lt 0 (lasts_of d id h))
 
 pub once-in-place : (d : Shape) (h : List Entry) → IsLegal d h → OnceInPlace d h
 once-in-place d h legal id some_last = record {

@@ -31,7 +31,7 @@ abbrev Books : Shape → ObjectState → ℕ → Act → (ℕ → Life) → (ℕ
 Books d S w a life claims p = IsBook (admitted_after a S.admitted) (upd S.slots (site a p) (slot_after d w a (S.slots (site a p))))
     (λ id. life_after a p id (life id)) (λ id. claims_after w a p id (claims id))
 
-task-id : (x : SlotState) → has_task x ≡ true → (task_of x).id ≡ id_of x
+pub task-id : (x : SlotState) → has_task x ≡ true → (task_of x).id ≡ id_of x
 task-id (Open t) h = refl
 task-id (Shut t e) h = refl
 task-id Empty h = absurd (cc)

@@ -1,5 +1,5 @@
 -- What a claim, an admission, an install and a last call make of the book of task sets.
-use Rattle.std.proofs.Common.{◌≡◌, ◌≢◌, ℕ, ◌+◌, ◌*◌, ◌/◌, ◌%◌, ◌<◌, ◌≤◌, ◌⊎◌, true, false, cond, eqb, min, List, [], ◌∷◌, Some, None, refl, sym, ap, ap₂, ◌∙◌, subst, ⊎_elim, arith, eq-eqb, ne_eqb}
+use Rattle.std.proofs.Common.{◌≡◌, ◌≢◌, ℕ, ◌+◌, ◌*◌, ◌/◌, ◌%◌, ◌<◌, ◌≤◌, true, false, cond, eqb, min, List, [], ◌∷◌, Some, None, refl, sym, ap, ap₂, ◌∙◌, subst, ⊎_elim, arith, eq-eqb, ne_eqb}
 use Rattle.std.specs.Prelude.{unwrap_or}
 use mathlib.Core.Bool.{true≢false}
 use Rattle.std.proofs.lemmas.Bool.{cases_lt}
@@ -15,6 +15,7 @@ use Rattle.slot_history.specs.Allowed.{IsReady}
 use Rattle.slot_history.specs.Histories.{Morsel, Tiles}
 use Rattle.slot_history.specs.Bounds.{IsFinalisation}
 use Rattle.slot_history.specs.Lives.{Life, Never, Runs, Done, done, has_task, query_in, AreLaterNever, IsRunning, IsSlotBook, IsBook}
+use Rattle.slot_history.proofs.Duties.{IsHeldBy}
 use Rattle.slot_history.proofs.Sets.{pick, upd-cases, upd-same, some-unwrapped}
 
 -- ---- a slot that knows no more than before
@@ -66,7 +67,7 @@ alike-reserved (Open t) w h = absurd (cc)
 alike-reserved (Shut t e) w h = absurd (cc)
 alike-reserved (Finishing id u k) w h = absurd (cc)
 
-pub alike-released : (x : SlotState) (w : ℕ) (h : Held) → (x ≡ Reserved w h) ⊎ ((id : ℕ) × (x ≡ Finishing id w h)) → Alike x Empty
+pub alike-released : (x : SlotState) (w : ℕ) (h : Held) → IsHeldBy w h x → Alike x Empty
 alike-released x w h how = ⊎_elim
     (λ e. record { book = λ m life claims s k. tt; query = λ q k. absurd (cc); task = λ k. absurd (true≢false (sym k ∙ ap has_task e)) })
     (λ r. record { book = λ m life claims s k. tt; query = λ q k. absurd (cc); task = λ k. absurd (true≢false (sym k ∙ ap has_task r.1)) }) how

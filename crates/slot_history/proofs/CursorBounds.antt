@@ -14,15 +14,9 @@ use Rattle.slot_history.specs.Steps.{site, moved, left, told_one, slot_after, cl
 use Rattle.slot_history.specs.Allowed.{IsAllowed}
 use Rattle.slot_history.specs.Bounds.{is_used_at, is_claiming_at, IsCursorBound, AreCursors}
 use Rattle.slot_history.proofs.Sets.{pick, upd-same, upd-cases, count-grows, count-grows_one}
+use Rattle.slot_history.proofs.Records.{shut-closed}
 
 -- ---- how far cursors go
-
-pub open-not-shut : (x : SlotState) → is_open x ≡ true → is_shut x ≡ true → ⊥
-open-not-shut (Open t) a b = true≢false (sym b)
-open-not-shut (Shut t e) a b = true≢false (sym a)
-open-not-shut Empty a b = true≢false (sym a)
-open-not-shut (Reserved w h) a b = true≢false (sym a)
-open-not-shut (Finishing id w h) a b = true≢false (sym a)
 
 used-cannot-leave : (p : Place) (s : ℕ) → is_used_at s p ≡ true → can_leave p ≡ true → ⊥
 used-cannot-leave (Used t id) s h can = true≢false (sym can)
@@ -45,7 +39,7 @@ used-stays d S w LookVacant s ok far open_ h = absurd (true≢false (sym h ∙ a
 used-stays d S w (ClaimUsed n) s ok far open_ h = absurd (true≢false (sym h ∙ ap (is_used_at s) ok.2))
 used-stays d S w ShutWon s ok far open_ h = absurd (let e : ok.0 ≡ s = eqb-true ok.0 s (sym (ap (is_used_at s) ok.2) ∙ h) in far refl (sym e ∙ sym (ap slot_of ok.2)))
 used-stays d S w ShutLost s ok far open_ h = absurd (let e : ok.0 ≡ s = eqb-true ok.0 s (sym (ap (is_used_at s) ok.2) ∙ h) in
-    open-not-shut (S.slots s) open_ (ap (λ j. is_shut (S.slots j)) (sym e) ∙ ok.3))
+    shut-closed (S.slots s) (ap (λ j. is_shut (S.slots j)) (sym e) ∙ ok.3) open_)
 used-stays d S w LeaveLeft s ok far open_ h = absurd (used-cannot-leave (S.places w) s h ok.0)
 used-stays d S w (LeaveOwe id) s ok far open_ h = absurd (used-cannot-leave (S.places w) s h ok.0)
 used-stays d S w PayLast s ok far open_ h = absurd (true≢false (sym h ∙ ap (is_used_at s) ok.2))
@@ -67,7 +61,7 @@ used-stays d S w _ s ok far open_ h = h
 claiming-was : (d : Shape) (S : ObjectState) (w : ℕ) (a : Act) (s : ℕ) → IsAllowed d S w a → is_shut (S.slots s) ≡ true → is_claiming_at s (moved d a (S.places w)) ≡ true → is_claiming_at s (S.places w) ≡ true
 claiming-was d S w (Enter t) s ok shut_ h = absurd (cc)
 claiming-was d S w (LookOpen id) s ok shut_ h = absurd (let e : ok.0 ≡ s = sym (ap slot_of ok.1) ∙ eqb-true (slot_of (S.places w)) s h in
-    open-not-shut (S.slots s) (ap (λ j. is_open (S.slots j)) (sym e) ∙ ok.2) shut_)
+    shut-closed (S.slots s) shut_ (ap (λ j. is_open (S.slots j)) (sym e) ∙ ok.2))
 claiming-was d S w LookInvalid s ok shut_ h = absurd (cc)
 claiming-was d S w LookVacant s ok shut_ h = absurd (cc)
 claiming-was d S w (ClaimUsed n) s ok shut_ h = absurd (cc)

@@ -1,13 +1,17 @@
 -- Duties to a slot: which one a worker has, and what its place says of the slot.
-use Rattle.std.proofs.Common.{◌≡◌, ◌≢◌, ℕ, ◌⊎◌, true, false, cond, eqb, not, refl, sym, ap, ◌∙◌, inl, inr, eq-eqb, ne_eqb}
+use Rattle.std.proofs.Common.{◌≡◌, ◌≢◌, ℕ, ◌⊎◌, true, false, cond, eqb, not, ◌&&◌, refl, sym, ap, ◌∙◌, inl, inr, eq-eqb, ne_eqb}
 use mathlib.Core.Bool.{true≢false}
-use Rattle.std.proofs.lemmas.Bool.{cond_both, and_parts}
+use Rattle.std.proofs.lemmas.Bool.{cond_both, and_parts, and_right}
 use Rattle.slot_history.specs.declared.shape.Shape.{Shape}
+use Rattle.slot_history.specs.declared.act.Act.{Act}
+use Rattle.slot_history.specs.declared.act.Act.TheVariants.{PayDone}
 use Rattle.slot_history.specs.declared.place.Held.{Held}
 use Rattle.slot_history.specs.declared.place.Place.TheVariants.{Leading, Asking, Owing, Holding}
+use Rattle.slot_history.specs.Sets.{upd}
 use Rattle.slot_history.specs.States.{TaskSet, Ending, SlotState, Empty, Reserved, Open, Shut, Finishing, id_of, owes}
+use Rattle.slot_history.specs.Steps.{claimed, shut_by, held_on, ending_after}
 use Rattle.slot_history.specs.Table.{Duty, Visits, Works, Unasked, Owes, Leads, Holds, owing, duty_at_end, duty_of, HasAsked, Meets, IsChainOf}
-use Rattle.slot_history.proofs.Sets.{pick}
+use Rattle.slot_history.proofs.Sets.{pick, upd-same, upd-else}
 
 -- ---- the duty to a slot whose task set is shut
 
@@ -124,10 +128,44 @@ owes-slot (Reserved w h) v id = λ k. absurd (pick v w (Holds h) Visits (λ D. D
 owes-slot (Open t) v id = λ k. absurd (cc)
 owes-slot (Finishing jd w h) v id = λ k. absurd (pick v w (Holds h) Visits (λ D. D ≢ Owes id) (λ a c. absurd (cc)) (λ a c. absurd (cc)) k)
 
-pub holds-slot : (x : SlotState) (v : ℕ) (h : Held) → duty_of x v ≡ Holds h → (x ≡ Reserved v h) ⊎ ((id : ℕ) × (x ≡ Finishing id v h))
-holds-slot (Reserved w k) v h = pick v w (Holds k) Visits (λ D. D ≡ Holds h → (Reserved w k ≡ Reserved v h) ⊎ ((id : ℕ) × (Reserved w k ≡ Finishing id v h))) (λ a c. inl (cc)) (λ a c. absurd (cc))
-holds-slot (Finishing jd w k) v h = pick v w (Holds k) Visits (λ D. D ≡ Holds h → (Finishing jd w k ≡ Reserved v h) ⊎ ((id : ℕ) × (Finishing jd w k ≡ Finishing id v h))) (λ a c. inr (jd, cc)) (λ a c. absurd (cc))
-holds-slot (Shut t e) v h = end-cases t.id e v (λ D. D ≡ Holds h → (Shut t e ≡ Reserved v h) ⊎ ((id : ℕ) × (Shut t e ≡ Finishing id v h)))
+-- a worker holds a slot that it reserved or finalises
+abbrev pub IsHeldBy : ℕ → Held → SlotState → Type 0
+IsHeldBy w h x = (x ≡ Reserved w h) ⊎ ((id : ℕ) × (x ≡ Finishing id w h))
+
+pub holds-slot : (x : SlotState) (v : ℕ) (h : Held) → duty_of x v ≡ Holds h → IsHeldBy v h x
+holds-slot (Reserved w k) v h = pick v w (Holds k) Visits (λ D. D ≡ Holds h → IsHeldBy v h (Reserved w k)) (λ a c. inl (cc)) (λ a c. absurd (cc))
+holds-slot (Finishing jd w k) v h = pick v w (Holds k) Visits (λ D. D ≡ Holds h → IsHeldBy v h (Finishing jd w k)) (λ a c. inr (jd, cc)) (λ a c. absurd (cc))
+holds-slot (Shut t e) v h = end-cases t.id e v (λ D. D ≡ Holds h → IsHeldBy v h (Shut t e))
     (λ a b c. absurd (cc)) (λ a b c. absurd (cc)) (λ a b c k. absurd (cc)) (λ a b c k. absurd (cc)) (λ a b k. absurd (cc))
 holds-slot Empty v h = λ k. absurd (cc)
 holds-slot (Open t) v h = λ k. absurd (cc)
+
+-- ---- debts that a call leaves as they are
+
+pub owes-claimed : (x : SlotState) (n v : ℕ) → owes (claimed x n) v ≡ owes x v
+owes-claimed Empty n v = refl
+owes-claimed (Reserved w h) n v = refl
+owes-claimed (Open t) n v = refl
+owes-claimed (Shut t e) n v = refl
+owes-claimed (Finishing id w h) n v = refl
+
+pub owes-shut : (w : ℕ) (x : SlotState) (v : ℕ) → owes (shut_by w x) v ≡ owes x v
+owes-shut w Empty v = refl
+owes-shut w (Reserved u h) v = refl
+owes-shut w (Open t) v = refl
+owes-shut w (Shut t e) v = refl
+owes-shut w (Finishing id u h) v = refl
+
+pub owes-held : (a : Act) (x : SlotState) (v : ℕ) → owes (held_on a x) v ≡ owes x v
+owes-held a Empty v = refl
+owes-held a (Reserved w h) v = refl
+owes-held a (Open t) v = refl
+owes-held a (Shut t e) v = refl
+owes-held a (Finishing id w h) v = refl
+
+-- who pays owes nothing afterwards, and all others what they owed
+pub paid-clear : (d : Shape) (e : Ending) (w : ℕ) → owing (ending_after d w PayDone e) w ≡ false
+paid-clear d e w = and_right (e.marked w) (not (upd e.paid w true w)) (ap not (upd-same e.paid w true))
+
+pub owing-else : (d : Shape) (e : Ending) (v w : ℕ) → v ≢ w → owing (ending_after d w PayDone e) v ≡ owing e v
+owing-else d e v w other = ap (λ b. e.marked v && not b) (upd-else e.paid w true v other)

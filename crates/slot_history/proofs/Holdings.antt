@@ -1,5 +1,5 @@
 -- What a slot notes of its holder.
-use Rattle.std.proofs.Common.{◌≡◌, ℕ, ◌+◌, ◌/◌, ◌<◌, ◌≤◌, ◌⊎◌, List, [], ◌∷◌, Some, None, refl, sym, ap, ◌∙◌, subst, ⊎_elim, arith}
+use Rattle.std.proofs.Common.{◌≡◌, ℕ, ◌+◌, ◌/◌, ◌<◌, ◌≤◌, List, [], ◌∷◌, Some, None, refl, sym, ap, ◌∙◌, subst, inl, inr, ⊎_elim, arith}
 use Rattle.slot_history.specs.declared.shape.Shape.{Shape}
 use Rattle.slot_history.specs.declared.shape.TheConstants.{STAGES, MOST_TOTAL}
 use Rattle.slot_history.specs.declared.act.Act.{Act}
@@ -11,15 +11,24 @@ use Rattle.slot_history.specs.States.{SlotState, Empty, Reserved, Open, Shut, Fi
 use Rattle.slot_history.specs.Steps.{site, slot_after, claimed, shut_by, ended, finalised_by, held_on, opened, next, state_after}
 use Rattle.slot_history.specs.Allowed.{IsAllowed}
 use Rattle.slot_history.specs.Histories.{IsLegal}
-use Rattle.slot_history.specs.Table.{duty_of, Meets, IsTable}
+use Rattle.slot_history.specs.Table.{duty_of, Meets, IsChainOf, IsTable}
 use Rattle.slot_history.specs.Bounds.{IsReservation, IsFinalisation, IsSlotSound, AreSlotsSound}
 use Rattle.slot_history.proofs.Sets.{upd-cases}
-use Rattle.slot_history.proofs.Duties.{holding-holds, holds-slot}
+use Rattle.slot_history.proofs.Duties.{IsHeldBy, held-mine, holding-holds, holds-slot}
 use Rattle.slot_history.proofs.Table.{table}
 
 -- the slot of a holder has what its place has
-pub holder-slot : (d : Shape) (S : ObjectState) → IsTable d S → (w s : ℕ) (h : Held) → w < d.workers → S.places w ≡ Holding s h → (S.slots s ≡ Reserved w h) ⊎ ((id : ℕ) × (S.slots s ≡ Finishing id w h))
+pub holder-slot : (d : Shape) (S : ObjectState) → IsTable d S → (w s : ℕ) (h : Held) → w < d.workers → S.places w ≡ Holding s h → IsHeldBy w h (S.slots s)
 holder-slot d S tab w s h low at = holds-slot (S.slots s) w h (holding-holds d s h (duty_of (S.slots s) w) (subst (Meets d s (duty_of (S.slots s) w)) at (tab.duty s w low)))
+
+-- and whoever holds a slot, by its state, is a worker that is there
+pub holder-place : (d : Shape) (S : ObjectState) → IsTable d S → (s u : ℕ) (h : Held) → IsHeldBy u h (S.slots s) → S.places u ≡ Holding s h
+holder-place d S tab s u h (inl is) =
+    let low : u < d.workers = subst (IsChainOf d) is (tab.chain s) in
+    subst (λ D. Meets d s D (S.places u)) (ap (λ x. duty_of x u) is ∙ held-mine h u) (tab.duty s u low)
+holder-place d S tab s u h (inr (id, is)) =
+    let low : u < d.workers = subst (IsChainOf d) is (tab.chain s) in
+    subst (λ D. Meets d s D (S.places u)) (ap (λ x. duty_of x u) is ∙ held-mine h u) (tab.duty s u low)
 
 -- ---- soundness of a slot
 
@@ -52,7 +61,7 @@ sound-last (Shut t e) w h = record { query = refl; stage = refl; again = refl; n
 sound-last (Finishing id u k) w h = h
 
 -- a holder that admits, notes or sets a total
-sound-admitted : (x : SlotState) (w q : ℕ) (h : Held) → h.query ≡ None → (x ≡ Reserved w h) ⊎ ((id : ℕ) × (x ≡ Finishing id w h)) → IsSlotSound x → IsSlotSound (held_on (AdmitGot q) x)
+sound-admitted : (x : SlotState) (w q : ℕ) (h : Held) → h.query ≡ None → IsHeldBy w h x → IsSlotSound x → IsSlotSound (held_on (AdmitGot q) x)
 sound-admitted x w q h none how ok = ⊎_elim
     (λ e. let k : IsReservation h = subst IsSlotSound e ok in subst (λ y. IsSlotSound (held_on (AdmitGot q) y)) (sym e) (record { again = k.again; stage = k.stage; noted = k.noted; total = k.total }))
     (λ r. let k : IsFinalisation r.0 h = subst IsSlotSound r.1 ok in absurd (let f : None ≡ Some (r.0 / STAGES) = sym none ∙ k.query in cc)) how

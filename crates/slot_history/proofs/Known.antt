@@ -20,7 +20,8 @@ use Rattle.slot_history.specs.Notices.{IsUntold, MayBe}
 use Rattle.slot_history.specs.LoneTurns.{IsLone, IsKnown, LookIsKnown, QuietIsKnown, ChangesStayTaken, ReturnsStayTaken}
 use Rattle.slot_history.proofs.Sets.{upd-same, upd-cases}
 use Rattle.slot_history.proofs.Within.{within}
-use Rattle.slot_history.proofs.Notices.{open-has-id, KnowsOpen, KnowsQuery, noticed}
+use Rattle.slot_history.proofs.Growth.{open-has}
+use Rattle.slot_history.proofs.Notices.{KnowsOpen, KnowsQuery, noticed}
 use Rattle.slot_history.proofs.LoneTurns.{others-free}
 
 -- nobody has an announcement left to make
@@ -60,7 +61,7 @@ look-is-known d w id h legal lone clear =
     let o : is_open (S.slots k) ≡ true = ap (λ j. is_open (S.slots j)) here ∙ fine.2 in
     let none : NoneAnnounces S = none-announces d S w (within d h legal.2) lone (λ s j again at. absurd (cc)) in
     subst (λ j. MayBe (S.records w k) (j / STAGES)) (ap (λ j. id_of (S.slots j)) here ∙ sym fine.3)
-    (known-query S k w _ none clear ((noticed d h legal.2 k w legal.0).group (open-has-id (S.slots k) o)))
+    (known-query S k w _ none clear ((noticed d h legal.2 k w legal.0).group (open-has (S.slots k) (inl o))))
 
 pub quiet-is-known : (d : Shape) (h : List Entry) → IsLegal d h → QuietIsKnown d (state_after d h)
 quiet-is-known d h legal quiet s v low o =

@@ -1,5 +1,5 @@
 -- What a worker meets that calls alone, while all others are free.
-use Rattle.std.proofs.Common.{◌≡◌, ◌≢◌, ℕ, ◌<◌, Bool, true, false, List, [], ◌∷◌, ◌++◌, refl, sym, ap, ◌∙◌, subst, ⊎_elim}
+use Rattle.std.proofs.Common.{◌≡◌, ◌≢◌, ℕ, ◌<◌, Bool, true, false, List, [], ◌∷◌, ◌++◌, refl, sym, ap, ◌∙◌, subst, inr, ⊎_elim}
 use Rattle.std.proofs.lemmas.Bool.{cases_lt, false_from_ne_true}
 use mathlib.Core.Logic.{dite}
 use mathlib.Core.Bool.{true≢false}
@@ -11,8 +11,8 @@ use Rattle.slot_history.specs.declared.act.Entry.{Entry}
 use Rattle.slot_history.specs.declared.place.Held.{Held}
 use Rattle.slot_history.specs.declared.place.Place.{Place}
 use Rattle.slot_history.specs.declared.place.Place.TheVariants.{Free, Entered, Used, Leading, Asking, Owing, Holding}
-use Rattle.slot_history.specs.States.{TaskSet, Ending, SlotState, Reserved, Open, Shut, Finishing, ObjectState, slot_of, id_of, is_shut, is_tagged, is_at, owes}
-use Rattle.slot_history.specs.Steps.{site, next_asked, slot_after, claimed, shut_by, ended, finalised_by, held_on, opened, next, state_after}
+use Rattle.slot_history.specs.States.{TaskSet, Ending, SlotState, Reserved, Shut, Finishing, ObjectState, slot_of, id_of, is_shut, is_tagged, is_at, owes}
+use Rattle.slot_history.specs.Steps.{site, next_asked, slot_after, ended, finalised_by, opened, next, state_after}
 use Rattle.slot_history.specs.Allowed.{IsAllowed, debts, next_is_at}
 use Rattle.slot_history.specs.Histories.{IsLegal, entry}
 use Rattle.slot_history.specs.Bounds.{IsWithin}
@@ -20,9 +20,10 @@ use Rattle.slot_history.specs.Notices.{IsQuiet}
 use Rattle.slot_history.specs.Table.{Leads, Owes, duty_of, Meets, IsLeading, IsChain, IsChainOf, IsTable}
 use Rattle.slot_history.specs.LoneTurns.{IsLone, needs_another, StaysLone, EndsQuiet, MeetsNobody, RunMeetsNobody}
 use Rattle.slot_history.proofs.Sets.{upd-else, upd-cases, some-counted}
-use Rattle.slot_history.proofs.Duties.{end-leads, held-mine, owes-duty, owing-owes, owes-slot}
+use Rattle.slot_history.proofs.Duties.{end-leads, owes-duty, owing-owes, owes-slot, owes-claimed, owes-shut, owes-held}
 use Rattle.slot_history.proofs.Table.{table}
 use Rattle.slot_history.proofs.Within.{within}
+use Rattle.slot_history.proofs.Holdings.{holder-place}
 
 -- ---- a lone worker
 
@@ -69,7 +70,7 @@ lone-ending d S w s t e ok lone is =
 lone-finishing : (d : Shape) (S : ObjectState) (w s id u : ℕ) (h : Held) → IsTable d S → IsLone d S w → S.slots s ≡ Finishing id u h → S.places w ≡ Holding s h
 lone-finishing d S w s id u h ok lone is =
     let low : u < d.workers = subst (IsChainOf d) is (ok.chain s) in
-    let at : S.places u ≡ Holding s h = subst (λ D. Meets d s D (S.places u)) (ap (λ x. duty_of x u) is ∙ held-mine h u) (ok.duty s u low) in
+    let at : S.places u ≡ Holding s h = holder-place d S ok s u h (inr (id, is)) in
     dite (ℕ_discrete u w) (λ e. ap S.places (sym e) ∙ at) (λ n. let free : S.places u ≡ Free = lone.others u low n in absurd (cc))
 
 -- so a lone worker that has entered sees no task set that is shut or finalised
@@ -118,15 +119,6 @@ lone-answer d S w _ ok within low lone fine = refl
 
 -- ---- runs of one worker
 
-owes-claimed : (x : SlotState) (n v : ℕ) → owes (claimed x n) v ≡ true → owes x v ≡ true
-owes-claimed (Open t) n v h = h
-owes-claimed (Shut t e) n v h = h
-owes-claimed x n v h = h
-
-owes-shut : (w : ℕ) (x : SlotState) (v : ℕ) → owes (shut_by w x) v ≡ true → owes x v ≡ true
-owes-shut w (Open t) v h = h
-owes-shut w x v h = h
-
 owes-finalised : (w : ℕ) (x : SlotState) (v : ℕ) → owes (finalised_by w x) v ≡ true → owes x v ≡ true
 owes-finalised w (Shut t e) v h = absurd (true≢false (sym h))
 owes-finalised w x v h = h
@@ -135,11 +127,6 @@ owes-missed : (d : Shape) (w : ℕ) (x : SlotState) (v : ℕ) → owes (ended d 
 owes-missed d w (Shut t e) v h = h
 owes-missed d w x v h = h
 
-owes-held : (a : Act) (x : SlotState) (v : ℕ) → owes (held_on a x) v ≡ true → owes x v ≡ true
-owes-held a (Reserved u g) v h = h
-owes-held a (Finishing id u g) v h = h
-owes-held a x v h = h
-
 owes-opened : (id : ℕ) (x : SlotState) (v : ℕ) → owes (opened id x) v ≡ true → owes x v ≡ true
 owes-opened id (Reserved u g) v h = h
 owes-opened id (Finishing jd u g) v h = h
@@ -147,9 +134,9 @@ owes-opened id x v h = h
 
 -- without meeting another, no call marks anybody
 owes-after : (d : Shape) (w : ℕ) (a : Act) (x : SlotState) (v : ℕ) → needs_another a ≡ false → owes (slot_after d w a x) v ≡ true → owes x v ≡ true
-owes-after d w (ClaimRange n from to) x v alone h = owes-claimed x n v h
-owes-after d w (ClaimUsed n) x v alone h = owes-claimed x n v h
-owes-after d w ShutWon x v alone h = owes-shut w x v h
+owes-after d w (ClaimRange n from to) x v alone h = sym (owes-claimed x n v) ∙ h
+owes-after d w (ClaimUsed n) x v alone h = sym (owes-claimed x n v) ∙ h
+owes-after d w ShutWon x v alone h = sym (owes-shut w x v) ∙ h
 owes-after d w PayLast x v alone h = absurd (true≢false alone)
 owes-after d w PayDone x v alone h = absurd (true≢false alone)
 owes-after d w MarkMarked x v alone h = absurd (true≢false alone)
@@ -157,9 +144,9 @@ owes-after d w MarkMissed x v alone h = owes-missed d w x v h
 owes-after d w SweepLast x v alone h = owes-finalised w x v h
 owes-after d w (SweepOthers n) x v alone h = absurd (true≢false alone)
 owes-after d w (ReserveGot s) x v alone h = absurd (true≢false (sym h))
-owes-after d w (AdmitGot q) x v alone h = owes-held (AdmitGot q) x v h
-owes-after d w (Note k) x v alone h = owes-held (Note k) x v h
-owes-after d w (Total t) x v alone h = owes-held (Total t) x v h
+owes-after d w (AdmitGot q) x v alone h = sym (owes-held (AdmitGot q) x v) ∙ h
+owes-after d w (Note k) x v alone h = sym (owes-held (Note k) x v) ∙ h
+owes-after d w (Total t) x v alone h = sym (owes-held (Total t) x v) ∙ h
 owes-after d w (Install id) x v alone h = owes-opened id x v h
 owes-after d w Release x v alone h = absurd (true≢false (sym h))
 owes-after d w _ x v alone h = h

@@ -1,5 +1,5 @@
 -- How many task sets can be noted as done. It rules out a holder that notes a stage twice.
-use Rattle.std.proofs.Common.{◌≡◌, ℕ, ◌+◌, ◌-◌, ◌*◌, ◌/◌, ◌%◌, ◌<◌, ◌≤◌, ◌⊎◌, true, cond, List, [], ◌∷◌, refl, sym, ap, ap₂, ◌∙◌, subst, ⊎_elim, arith}
+use Rattle.std.proofs.Common.{◌≡◌, ℕ, ◌+◌, ◌-◌, ◌*◌, ◌/◌, ◌%◌, ◌<◌, ◌≤◌, true, cond, List, [], ◌∷◌, refl, sym, ap, ap₂, ◌∙◌, subst, ⊎_elim, arith}
 use Rattle.std.specs.Prelude.{is_some, unwrap_or, IsSome}
 use Rattle.slot_history.specs.declared.shape.Shape.{Shape}
 use Rattle.slot_history.specs.declared.shape.TheConstants.{STAGES}
@@ -14,6 +14,7 @@ use Rattle.slot_history.specs.Allowed.{IsAllowed, IsReady}
 use Rattle.slot_history.specs.Histories.{IsLegal}
 use Rattle.slot_history.specs.Table.{IsTable}
 use Rattle.slot_history.specs.Bounds.{IsReservation, IsFinalisation, IsSlotSound, AreSlotsSound, note_room, IsFinishedBound, IsWithin}
+use Rattle.slot_history.proofs.Duties.{IsHeldBy}
 use Rattle.slot_history.proofs.Sets.{upd-same, upd-else, sum-change, sum-zero}
 use Rattle.slot_history.proofs.Table.{table}
 use Rattle.slot_history.proofs.Within.{within}
@@ -63,7 +64,7 @@ room-admitted (Open t) q = let r : note_room (Open t) ≤ note_room (Open t) + S
 room-admitted (Shut t e) q = let r : note_room (Shut t e) ≤ note_room (Shut t e) + STAGES * (STAGES + 1) = omega arith in r
 room-admitted (Finishing id u h) q = let r : note_room (Finishing id u h) ≤ note_room (Finishing id u h) + STAGES * (STAGES + 1) = omega arith in r
 
-room-noted : (x : SlotState) (w n : ℕ) (h : Held) → IsSome h.query → h.noted ≡ 0 → h.stage + n ≤ STAGES → (x ≡ Reserved w h) ⊎ ((id : ℕ) × (x ≡ Finishing id w h)) → IsSlotSound x
+room-noted : (x : SlotState) (w n : ℕ) (h : Held) → IsSome h.query → h.noted ≡ 0 → h.stage + n ≤ STAGES → IsHeldBy w h x → IsSlotSound x
     → n + note_room (held_on (Note n) x) ≤ note_room x
 room-noted x w n h some_query fresh most how ok = ⊎_elim
     (λ e. subst (λ y. n + note_room (held_on (Note n) y) ≤ note_room y) (sym e)
@@ -78,7 +79,7 @@ room-noted x w n h some_query fresh most how ok = ⊎_elim
     let z : h.noted ≡ 0 = fresh in
     let i : n + (STAGES * (STAGES - id % STAGES) - n) ≤ STAGES * (STAGES - id % STAGES) - h.noted = omega arith in i)) how
 
-room-opened : (x : SlotState) (w id : ℕ) (h : Held) → IsReady h → id ≡ next_id h → (x ≡ Reserved w h) ⊎ ((jd : ℕ) × (x ≡ Finishing jd w h)) → IsSlotSound x → note_room (opened id x) ≤ note_room x
+room-opened : (x : SlotState) (w id : ℕ) (h : Held) → IsReady h → id ≡ next_id h → IsHeldBy w h x → IsSlotSound x → note_room (opened id x) ≤ note_room x
 room-opened x w id h ready next_one how ok = ⊎_elim
     (λ e. subst (λ y. note_room (opened id y) ≤ note_room y) (sym e)
     (let k : IsReservation h = subst IsSlotSound e ok in

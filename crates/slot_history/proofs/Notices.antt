@@ -9,16 +9,18 @@ use Rattle.slot_history.specs.declared.place.Held.{Held}
 use Rattle.slot_history.specs.declared.place.Place.{Place}
 use Rattle.slot_history.specs.declared.place.Place.TheVariants.{Holding, Announcing}
 use Rattle.slot_history.specs.Sets.{upd}
-use Rattle.slot_history.specs.States.{SlotState, Reserved, Open, Finishing, NoticeRecord, ObjectState, slot_of, held_at, next_id, id_of, has_id, is_open}
+use Rattle.slot_history.specs.States.{Finishing, NoticeRecord, ObjectState, slot_of, held_at, next_id, id_of, has_id, is_open}
 use Rattle.slot_history.specs.Steps.{site, opened, records_after, next, state_after}
 use Rattle.slot_history.specs.Allowed.{IsReady, IsAllowed}
 use Rattle.slot_history.specs.Histories.{IsLegal}
 use Rattle.slot_history.specs.Notices.{IsUntold, ChangeComes, ReturnComes, MayBe, IsNoticedAt}
 use Rattle.slot_history.specs.Table.{IsTable}
 use Rattle.slot_history.specs.Bounds.{IsReservation, IsFinalisation, IsSlotSound, AreSlotsSound}
+use Rattle.slot_history.proofs.Duties.{IsHeldBy}
 use Rattle.slot_history.proofs.Table.{table}
 use Rattle.slot_history.proofs.Holdings.{holder-slot, slots-sound}
 use Rattle.slot_history.proofs.Sets.{upd-same, upd-cases}
+use Rattle.slot_history.proofs.Growth.{open-has}
 use Rattle.slot_history.proofs.Announcements.{untold-next, IsNew, change-next, return-next}
 use Rattle.slot_history.proofs.SameTask.{IsSameTask, task-next}
 use Rattle.slot_history.proofs.Records.{group-after, drops-closed, active-after}
@@ -34,10 +36,6 @@ record IsNotLess (S T : ObjectState) (s v : ℕ) : Type 0 where
   return_ : ReturnComes S s v → ReturnComes T s v ⊎ ((T.records v s).active ≡ true)
 
 -- an open slot has a task set
-pub open-has-id : (x : SlotState) → is_open x ≡ true → has_id x ≡ true
-open-has-id (Open t) o = refl
-open-has-id x o = absurd (cc)
-
 -- what the worker knows or will be told of an open slot with query q, and of the query of a slot
 abbrev pub KnowsOpen : ObjectState → ℕ → ℕ → ℕ → Type 0
 KnowsOpen S s v q = (((S.records v s).active ≡ true) × MayBe (S.records v s) q) ⊎ (ChangeComes S s v ⊎ (ReturnComes S s v × MayBe (S.records v s) q))
@@ -46,10 +44,10 @@ abbrev pub KnowsQuery : ObjectState → ℕ → ℕ → ℕ → Type 0
 KnowsQuery S s v q = MayBe (S.records v s) q ⊎ ChangeComes S s v
 
 open-stays : (S T : ObjectState) (s v : ℕ) → IsNotLess S T s v → is_open (T.slots s) ≡ true → KnowsOpen S s v (id_of (S.slots s) / STAGES) → KnowsOpen T s v (id_of (S.slots s) / STAGES)
-open-stays S T s v kept o (inl k) = inl (kept.active o k.1 k.0, kept.group (open-has-id (T.slots s) o) k.1)
+open-stays S T s v kept o (inl k) = inl (kept.active o k.1 k.0, kept.group (open-has (T.slots s) (inl o)) k.1)
 open-stays S T s v kept o (inr (inl c)) = ⊎_elim (λ comes. inr (inl comes)) (λ new. inl (new.0, inl new.1)) (kept.change c)
 open-stays S T s v kept o (inr (inr k)) =
-    let may : MayBe (T.records v s) (id_of (S.slots s) / STAGES) = kept.group (open-has-id (T.slots s) o) k.1 in
+    let may : MayBe (T.records v s) (id_of (S.slots s) / STAGES) = kept.group (open-has (T.slots s) (inl o)) k.1 in
     ⊎_elim (λ comes. inr (inr (comes, may))) (λ active. inl (active, may)) (kept.return_ k.0)
 
 query-stays : (S T : ObjectState) (s v : ℕ) → IsNotLess S T s v → has_id (T.slots s) ≡ true → KnowsQuery S s v (id_of (S.slots s) / STAGES) → KnowsQuery T s v (id_of (S.slots s) / STAGES)
@@ -60,7 +58,7 @@ query-stays S T s v kept id (inr c) = ⊎_elim (λ comes. inr comes) (λ new. in
 not-less : (S T : ObjectState) (s v : ℕ) → IsNotLess S T s v → IsNoticedAt S s v → IsNoticedAt T s v
 not-less S T s v kept known = record {
   open_slot = λ o.
-      let t : (has_id (S.slots s) ≡ true) × (id_of (T.slots s) ≡ id_of (S.slots s)) = kept.task.0 (open-has-id (T.slots s) o) in
+      let t : (has_id (S.slots s) ≡ true) × (id_of (T.slots s) ≡ id_of (S.slots s)) = kept.task.0 (open-has (T.slots s) (inl o)) in
       subst (λ j. KnowsOpen T s v (j / STAGES)) (sym t.1) (open-stays S T s v kept o (known.open_slot (kept.task.1 o)));
   group = λ id.
       let t : (has_id (S.slots s) ≡ true) × (id_of (T.slots s) ≡ id_of (S.slots s)) = kept.task.0 id in
@@ -132,7 +130,7 @@ after-finalisation d S w id jd s v h at ready next_ is has low known =
     let r : ReturnComes T s v = inr (subst (λ b. IsUntold T b s v) has.again (will-tell d S w id s v h at)) in
     record { open_slot = λ o. ⊎_elim (λ may. inr (inr (r, may))) (λ c. inr (inl c)) k; group = λ i. k }
 
-installed : (d : Shape) (S : ObjectState) (w id s v : ℕ) (h : Held) → S.places w ≡ Holding s h → IsReady h → id ≡ next_id h → (S.slots s ≡ Reserved w h) ⊎ ((jd : ℕ) × (S.slots s ≡ Finishing jd w h))
+installed : (d : Shape) (S : ObjectState) (w id s v : ℕ) (h : Held) → S.places w ≡ Holding s h → IsReady h → id ≡ next_id h → IsHeldBy w h (S.slots s)
     → IsSlotSound (S.slots s) → v < d.workers → IsNoticedAt S s v → IsNoticedAt (next d S w (Install id)) s v
 installed d S w id s v h at ready next_ (inl is) ok low known = let has : IsReservation h = subst IsSlotSound is ok in after-reservation d S w id s v h at has.again
 installed d S w id s v h at ready next_ (inr (jd, is)) ok low known = after-finalisation d S w id jd s v h at ready next_ is (subst IsSlotSound is ok) low known

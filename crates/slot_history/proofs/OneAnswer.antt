@@ -2,12 +2,12 @@
 -- than the state.
 use Rattle.std.proofs.Common.{◌≡◌, ℕ, ◌+◌, ◌<◌, ◌⊎◌, Bool, true, false, cond, eqb, ltb, ◌&&◌, min, refl, sym, ap, ◌∙◌, subst, inl, inr, ⊎_elim, arith, eq-eqb, ne_eqb, eqb-true, pos_of_ne-zero, lt-ltb, le-ltb, ltb-true, ltb-false}
 use mathlib.Core.Bool.{true≢false}
-use Rattle.std.proofs.lemmas.Bool.{cond_both, eqb-false, and_from, and_parts, and_left, and_right, false_from_ne_true}
+use Rattle.std.proofs.lemmas.Bool.{cond_both, cond-true, cond-false, eqb-false, and_from, and_parts, and_left, and_right, false_from_ne_true}
 use Rattle.slot_history.specs.declared.shape.Shape.{Shape}
 use Rattle.slot_history.specs.declared.act.Act.{Act}
 use Rattle.slot_history.specs.declared.act.Act.TheVariants.{LookOpen, LookInvalid, LookVacant, ClaimRange, ClaimUsed, ShutWon, ShutLost, LeaveLeft, LeaveOwe, PayLast, PayDone, MarkMarked, MarkMissed, SweepLast, SweepOthers, ReserveGot, ReserveTaken, AdmitGot, AdmitLost, Arrivals, Finished, TakeReturn, TakeChange}
 use Rattle.slot_history.specs.declared.place.Place.TheVariants.{Entered}
-use Rattle.slot_history.specs.States.{SlotState, Empty, Reserved, Open, Shut, Finishing, ObjectState, slot_of, task_of, id_of, is_empty, is_open, is_shut, is_swept, is_tagged, is_vacant, owes, slot_word, has_own_cell, is_inside}
+use Rattle.slot_history.specs.States.{SlotState, Empty, Reserved, Open, Shut, Finishing, ObjectState, slot_of, task_of, id_of, is_empty, is_open, is_swept, is_tagged, is_vacant, owes, slot_word, has_own_cell, is_inside}
 use Rattle.slot_history.specs.Steps.{ended}
 use Rattle.slot_history.specs.Allowed.{IsAllowed, debts, next_is_at}
 use Rattle.slot_history.specs.Table.{IsTable}
@@ -26,7 +26,7 @@ look-answers d S w s (Open t) at is = (s, at, ap is_open is, sym (ap id_of is))
 look-answers d S w s (Shut t e) at is = (s, at, ap is_tagged is)
 look-answers d S w s (Finishing id u h) at is = (s, at, ap is_tagged is)
 
-still-owed : (swept : Bool) (n : ℕ) → (swept && eqb n 0) ≡ false → (swept ≡ false) ⊎ (0 < n)
+pub still-owed : (swept : Bool) (n : ℕ) → (swept && eqb n 0) ≡ false → (swept ≡ false) ⊎ (0 < n)
 still-owed true n h = inr (pos_of_ne-zero (eqb-false n 0 h))
 still-owed false n h = inl refl
 
@@ -101,10 +101,10 @@ look-vacant (Finishing id w k) h = absurd (cc)
 look-vacant (Open t) h = absurd (cc)
 
 yes-answer : (b : Bool) (x y : Act) → b ≡ true → x ≡ cond b x y
-yes-answer b x y h = sym (ap (λ k. cond k x y) h)
+yes-answer b x y h = sym (cond-true b x y h)
 
 no-answer : (b : Bool) (x y : Act) → b ≡ false → y ≡ cond b x y
-no-answer b x y h = sym (ap (λ k. cond k x y) h)
+no-answer b x y h = sym (cond-false b x y h)
 
 -- what the act says of the slot s is what `reply_of` says there
 abbrev Only : Shape → ObjectState → ℕ → Act → ℕ → Type 0

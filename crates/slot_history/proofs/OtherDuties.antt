@@ -17,7 +17,7 @@ use Rattle.slot_history.specs.Allowed.{IsAllowed, debts, next_is_at}
 use Rattle.slot_history.specs.Table.{Visits, Unasked, Owes, Holds, owing, duty_at_end, duty_of, works, lags, nth_other, HasAsked, IsLeading, Meets, IsChain, IsChainOf}
 use Rattle.slot_history.proofs.Sets.{upd-same, upd-else, none-counted}
 use Rattle.slot_history.proofs.Others.{next-is, next-unasked, all-asked}
-use Rattle.slot_history.proofs.Duties.{end-cases, end-rests, end-leads, end-owes, end-clear, end-unasked, held-other, asking-leads, owing-owes, holding-holds, leads-slot, owes-slot, holds-slot}
+use Rattle.slot_history.proofs.Duties.{owing-else, end-cases, end-rests, end-leads, end-owes, end-clear, end-unasked, held-other, asking-leads, owing-owes, holding-holds, leads-slot, owes-slot, holds-slot}
 use Rattle.slot_history.proofs.OwnDuty.{claims-same}
 
 -- ---- the other workers at the slot of the call
@@ -54,9 +54,6 @@ theirs-last : (d : Shape) (x : SlotState) (t : TaskSet) (e : Ending) (s v w : �
     → Meets d s (duty_of x v) q → Meets d s (duty_of (finalised_by w x) v) q
 theirs-last d x t e s v w q other is rests was clear m = subst (λ y. Meets d s (duty_of (finalised_by w y) v) q) (sym is)
     (subst (λ D. Meets d s D q) (sym (held-other (finalisation t.id) v w other)) (visits-at-end d t e s v q rests was clear (subst (λ y. Meets d s (duty_of y v) q) is m)))
-
-owing-else : (d : Shape) (e : Ending) (v w : ℕ) → v ≢ w → owing (ending_after d w PayDone e) v ≡ owing e v
-owing-else d e v w other = ap (λ b. e.marked v && not b) (upd-else e.paid w true v other)
 
 theirs-paid-last : (d : Shape) (x : SlotState) (s v w id : ℕ) (q : Place) → v < d.workers → v ≢ w → IsChainOf d x → is_swept x ≡ true → debts d (ended d w PayDone x) ≡ 0
     → duty_of x w ≡ Owes id → Meets d s (duty_of x v) q → Meets d s (duty_of (finalised_by w x) v) q

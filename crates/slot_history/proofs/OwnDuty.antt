@@ -1,7 +1,7 @@
 -- The worker of a call meets its duty to the slot of the call.
-use Rattle.std.proofs.Common.{◌≡◌, ◌≢◌, ℕ, ◌+◌, ◌<◌, Bool, true, false, eqb, not, refl, sym, ap, ◌∙◌, subst, ⊎_elim, add-zero, arith}
+use Rattle.std.proofs.Common.{◌≡◌, ◌≢◌, ℕ, ◌+◌, ◌<◌, Bool, true, false, eqb, refl, sym, ap, ◌∙◌, subst, ⊎_elim, add-zero, arith}
 use mathlib.Core.Bool.{true≢false}
-use Rattle.std.proofs.lemmas.Bool.{cond_both, and_right, false_from_ne_true}
+use Rattle.std.proofs.lemmas.Bool.{cond_both, false_from_ne_true}
 use Rattle.slot_history.specs.declared.shape.Shape.{Shape}
 use Rattle.slot_history.specs.declared.act.Act.{Act}
 use Rattle.slot_history.specs.declared.act.Act.TheVariants.{Enter, LookOpen, LookInvalid, LookVacant, ClaimRange, ClaimUsed, ShutWon, ShutLost, LeaveLeft, LeaveOwe, PayLast, PayDone, MarkMarked, MarkMissed, SweepLast, SweepOthers, ReserveGot, ReserveTaken, AdmitGot, AdmitLost, Arrivals, Finished, Note, Total, Install, Release, Tell, TakeReturn, TakeChange}
@@ -13,9 +13,9 @@ use Rattle.slot_history.specs.States.{TaskSet, Ending, SlotState, Empty, Reserve
 use Rattle.slot_history.specs.Steps.{site, moved, left, told_one, slot_after, held_after, claimed, shut_by, first_ending, next_asked, ending_after, ended, finalised_by, held_on, opened}
 use Rattle.slot_history.specs.Allowed.{IsAllowed}
 use Rattle.slot_history.specs.Table.{Duty, Visits, Works, Unasked, Owes, Leads, Holds, duty_of, binds, nth_other, HasAsked, IsLeading, Meets, IsChain, IsChainOf}
-use Rattle.slot_history.proofs.Sets.{upd-same, count-none, count-more}
+use Rattle.slot_history.proofs.Sets.{count-none, count-more}
 use Rattle.slot_history.proofs.Others.{asked-none, asked-more, next-is, next-unasked, nth-other-within}
-use Rattle.slot_history.proofs.Duties.{end-cases, end-rests, end-leads, end-clear, held-mine, owes-duty, not-owes, asking-leads, leading-leads, owing-owes, holding-holds, leads-slot, owes-slot, holds-slot}
+use Rattle.slot_history.proofs.Duties.{paid-clear, end-cases, end-rests, end-leads, end-clear, held-mine, owes-duty, not-owes, asking-leads, leading-leads, owing-owes, holding-holds, leads-slot, owes-slot, holds-slot}
 
 -- ---- moves that keep any duty to the slot
 
@@ -127,8 +127,7 @@ mine-last d x t e s w id is same = subst (λ y. Meets d s (duty_of (finalised_by
 mine-paid : (d : Shape) (x : SlotState) (s w id : ℕ) → duty_of x w ≡ Owes id → Meets d s (duty_of (ended d w PayDone x) w) Free
 mine-paid d x s w id owe = let r = owes-slot x w id owe in let t : TaskSet = r.0 in let e : Ending = r.1 in
     subst (λ y. Meets d s (duty_of (ended d w PayDone y) w) Free) (sym r.2)
-    (subst (λ D. Meets d s D Free) (sym (end-clear t.id (ending_after d w PayDone e) w r.4 r.5
-    (and_right (e.marked w) (not (upd e.paid w true w)) (ap not (upd-same e.paid w true)))))
+    (subst (λ D. Meets d s D Free) (sym (end-clear t.id (ending_after d w PayDone e) w r.4 r.5 (paid-clear d e w)))
     (λ b. absurd (cc)))
 
 -- what one more asked worker makes of the sets

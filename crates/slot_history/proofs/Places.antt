@@ -13,7 +13,7 @@ use Rattle.slot_history.specs.Table.{Duty, Visits, Works, Unasked, Owes, Leads, 
 use Rattle.slot_history.specs.Bounds.{AreDebtsWithin}
 use Rattle.slot_history.specs.Laws.{QuietSlots, InsideSlots, OneDebt, ShutInside, OneOwner}
 use Rattle.slot_history.proofs.Sets.{pick, count-split, count-fewer}
-use Rattle.slot_history.proofs.Duties.{end-cases, end-leads, end-owes, held-mine, owes-duty, owes-slot, leads-slot, holding-holds, holds-slot}
+use Rattle.slot_history.proofs.Duties.{IsHeldBy, end-cases, end-leads, end-owes, held-mine, owes-duty, owes-slot, leads-slot, holding-holds, holds-slot}
 
 own-cell-slot : (p : Place) (s : ℕ) → has_own_cell p s ≡ true → slot_of p ≡ s
 own-cell-slot (Inside t id) s h = eqb-true t s h
@@ -132,7 +132,7 @@ holds-is (Holding t h) s k = (h, ap (λ j. Holding j h) (eqb-true t s k))
 holds-is _ s k = absurd (cc)
 
 -- the holder of a slot, as the slot names it
-holder-of : (d : Shape) (S : ObjectState) → IsTable d S → (s u : ℕ) → u < d.workers → holds (S.places u) s ≡ true → (h : Held) × ((S.slots s ≡ Reserved u h) ⊎ ((id : ℕ) × (S.slots s ≡ Finishing id u h)))
+holder-of : (d : Shape) (S : ObjectState) → IsTable d S → (s u : ℕ) → u < d.workers → holds (S.places u) s ≡ true → (h : Held) × IsHeldBy u h (S.slots s)
 holder-of d S ok s u low k = let r = holds-is (S.places u) s k in
     (r.0, holds-slot (S.slots s) u r.0 (holding-holds d s r.0 (duty_of (S.slots s) u) (subst (Meets d s (duty_of (S.slots s) u)) r.1 (ok.duty s u low))))
 
@@ -142,11 +142,11 @@ held_by (Reserved w h) = w
 held_by (Finishing id w h) = w
 held_by _ = 0
 
-holder-is : (x : SlotState) (u : ℕ) (h : Held) → (x ≡ Reserved u h) ⊎ ((id : ℕ) × (x ≡ Finishing id u h)) → held_by x ≡ u
+holder-is : (x : SlotState) (u : ℕ) (h : Held) → IsHeldBy u h x → held_by x ≡ u
 holder-is x u h how = ⊎_elim (λ e. ap held_by e) (λ r. ap held_by r.1) how
 
 -- a held slot is neither open nor shut
-held-not : (x : SlotState) (u : ℕ) (h : Held) → (x ≡ Reserved u h) ⊎ ((id : ℕ) × (x ≡ Finishing id u h)) → (is_open x ≡ true) ⊎ (is_shut x ≡ true) → ⊥
+pub held-not : (x : SlotState) (u : ℕ) (h : Held) → IsHeldBy u h x → (is_open x ≡ true) ⊎ (is_shut x ≡ true) → ⊥
 held-not x u h how open_ = ⊎_elim
     (λ e. ⊎_elim (λ k. true≢false (sym k ∙ ap is_open e)) (λ k. true≢false (sym k ∙ ap is_shut e)) open_)
     (λ r. ⊎_elim (λ k. true≢false (sym k ∙ ap is_open r.1)) (λ k. true≢false (sym k ∙ ap is_shut r.1)) open_) how

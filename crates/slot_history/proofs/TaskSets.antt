@@ -9,17 +9,18 @@ use Rattle.slot_history.specs.declared.act.Act.TheVariants.{LookOpen, ClaimRange
 use Rattle.slot_history.specs.declared.act.Entry.{Entry}
 use Rattle.slot_history.specs.declared.place.Held.{Held}
 use Rattle.slot_history.specs.declared.place.Place.TheVariants.{Inside, Used, Asking}
-use Rattle.slot_history.specs.States.{SlotState, Empty, Reserved, Open, Shut, Finishing, ObjectState, slot_of, id_at, task_of, id_of, is_empty, is_open, is_inside}
+use Rattle.slot_history.specs.States.{SlotState, Empty, Reserved, Open, Shut, Finishing, ObjectState, slot_of, id_at, task_of, is_empty, is_inside}
 use Rattle.slot_history.specs.Steps.{site, state_after}
 use Rattle.slot_history.specs.Allowed.{IsAllowed}
 use Rattle.slot_history.specs.Histories.{IsLegal, Begins, place_of, installs_of, lasts_of, total_of, slot_with, touches, renews}
 use Rattle.slot_history.specs.Lives.{Runs, Done, life_of, has_task}
 use Rattle.slot_history.specs.Laws.{OnceInPlace}
+use Rattle.slot_history.proofs.Duties.{IsHeldBy}
 use Rattle.slot_history.proofs.Table.{table}
 use Rattle.slot_history.proofs.Within.{within}
 use Rattle.slot_history.proofs.Growth.{open-or-shut}
 use Rattle.slot_history.proofs.Holdings.{holder-slot}
-use Rattle.slot_history.proofs.Book.{book, asking-slot}
+use Rattle.slot_history.proofs.Book.{book, task-id, asking-slot}
 use Rattle.slot_history.proofs.Counts.{slot-runs, counts, counts-most, counts-done, counts-runs}
 use Rattle.slot_history.proofs.Claims.{inside-runs, inside-done}
 
@@ -42,13 +43,6 @@ none-inside d id h legal some_last v = false_from_ne_true (is_inside (place_of d
     (λ high. true≢false (sym k ∙ ap (λ p. is_inside p id) ((within d h legal).others v high)))
     (cases_lt v d.workers))
 
-open-id : (x : SlotState) → is_open x ≡ true → (task_of x).id ≡ id_of x
-open-id (Open t) h = refl
-open-id (Shut t e) h = absurd (cc)
-open-id Empty h = absurd (cc)
-open-id (Reserved w k) h = absurd (cc)
-open-id (Finishing id w k) h = absurd (cc)
-
 empty-idle : (x : SlotState) → is_empty x ≡ true → has_task x ≡ false
 empty-idle Empty h = refl
 empty-idle (Open t) h = absurd (cc)
@@ -56,7 +50,7 @@ empty-idle (Shut t e) h = absurd (cc)
 empty-idle (Reserved w k) h = absurd (cc)
 empty-idle (Finishing id w k) h = absurd (cc)
 
-held-idle : (x : SlotState) (w : ℕ) (h : Held) → (x ≡ Reserved w h) ⊎ ((id : ℕ) × (x ≡ Finishing id w h)) → has_task x ≡ false
+held-idle : (x : SlotState) (w : ℕ) (h : Held) → IsHeldBy w h x → has_task x ≡ false
 held-idle x w h how = ⊎_elim (λ e. ap has_task e) (λ r. ap has_task r.1) how
 
 -- a worker that works on an id, and a coordinator of an id
@@ -76,7 +70,7 @@ marks-run d h w s jd n m id legal low at this = let S : ObjectState = state_afte
 touches-runs : (d : Shape) (h : List Entry) (w : ℕ) (a : Act) (id : ℕ) → IsLegal d h → w < d.workers → IsAllowed d (state_after d h) w a → touches a (place_of d h w) id ≡ true → (s : ℕ) × (n : ℕ) × (life_of d id h ≡ Runs s n)
 touches-runs d h w (LookOpen jd) id legal low ok this = let S : ObjectState = state_after d h in
     let has : has_task (S.slots ok.0) ≡ true = open-or-shut (S.slots ok.0) (inl ok.2) in
-    (ok.0, (task_of (S.slots ok.0)).total, ap (λ j. life_of d j h) (sym (open-id (S.slots ok.0) ok.2 ∙ sym ok.3 ∙ eqb-true jd id this)) ∙ slot-runs d h legal ok.0 has)
+    (ok.0, (task_of (S.slots ok.0)).total, ap (λ j. life_of d j h) (sym (task-id (S.slots ok.0) has ∙ sym ok.3 ∙ eqb-true jd id this)) ∙ slot-runs d h legal ok.0 has)
 touches-runs d h w (ClaimRange n from to) id legal low ok this = inside-runs d h w id legal low (named-inside d h w ok.0 ok.1 id (inl ok.2) this)
 touches-runs d h w (ClaimUsed n) id legal low ok this = inside-runs d h w id legal low (named-inside d h w ok.0 ok.1 id (inl ok.2) this)
 touches-runs d h w ShutWon id legal low ok this = inside-runs d h w id legal low (named-inside d h w ok.0 ok.1 id (inr ok.2) this)

@@ -1,11 +1,12 @@
 -- Only the slots, workers and queries of the shape take part.
-use Rattle.std.proofs.Common.{◌≡◌, ◌≢◌, ℕ, ◌+◌, ◌<◌, ◌≤◌, ◌⊎◌, Bool, true, List, [], ◌∷◌, refl, sym, subst, inl, inr, ⊎_elim, arith}
+use Rattle.std.proofs.Common.{◌≡◌, ◌≢◌, ℕ, ◌+◌, ◌<◌, ◌≤◌, ◌⊎◌, Bool, true, List, [], ◌∷◌, refl, sym, ap, ◌∙◌, subst, inl, inr, ⊎_elim, arith}
+use mathlib.Core.Bool.{true≢false}
 use Rattle.slot_history.specs.declared.shape.Shape.{Shape}
 use Rattle.slot_history.specs.declared.act.Act.{Act}
 use Rattle.slot_history.specs.declared.act.Act.TheVariants.{Enter, LookOpen, LookInvalid, LookVacant, ClaimRange, ClaimUsed, ShutWon, ShutLost, LeaveLeft, LeaveOwe, PayLast, PayDone, MarkMarked, MarkMissed, SweepLast, SweepOthers, ReserveGot, AdmitGot, Note, Total, Install, Release, Tell}
 use Rattle.slot_history.specs.declared.act.Entry.{Entry}
 use Rattle.slot_history.specs.declared.place.Place.{Place}
-use Rattle.slot_history.specs.declared.place.Place.TheVariants.{Free, Astray, Inside, Behind, Leading, Announcing}
+use Rattle.slot_history.specs.declared.place.Place.TheVariants.{Free, Entered, Astray, Inside, Used, Behind, Leading, Asking, Owing, Holding, Announcing}
 use Rattle.slot_history.specs.States.{SlotState, Empty, Reserved, Open, Shut, Finishing, ObjectState, slot_of, is_empty, can_leave}
 use Rattle.slot_history.specs.Steps.{site, moved, left, told_one, slot_after, admitted_after, next, state_after}
 use Rattle.slot_history.specs.Allowed.{IsAllowed}
@@ -20,12 +21,19 @@ left-within : (d : Shape) (p : Place) → IsPlaceWithin d p → IsPlaceWithin d 
 left-within d (Leading s id) k = k
 left-within d _ k = tt
 
-owe-within : (d : Shape) (p : Place) (id : ℕ) → can_leave p ≡ true → IsPlaceWithin d p → slot_of p < d.slots
-owe-within d (Astray s) id can k = k
-owe-within d (Inside s jd) id can k = k
-owe-within d (Behind s jd) id can k = k
-owe-within d (Leading s jd) id can k = k
-owe-within d _ id can k = absurd (cc)
+-- whoever is at a slot is at one of the shape's
+pub within-slots : (d : Shape) (p : Place) → IsPlaceWithin d p → p ≢ Free → slot_of p < d.slots
+within-slots d Free k busy = absurd (busy refl)
+within-slots d (Announcing s again told) k busy = k.0
+within-slots d (Entered s) k busy = k
+within-slots d (Astray s) k busy = k
+within-slots d (Inside s id) k busy = k
+within-slots d (Used s id) k busy = k
+within-slots d (Behind s id) k busy = k
+within-slots d (Leading s id) k busy = k
+within-slots d (Asking s id asked marked) k busy = k
+within-slots d (Owing s id) k busy = k
+within-slots d (Holding s h) k busy = k
 
 told-within : (d : Shape) (s : ℕ) (again : Bool) (k : ℕ) → IsPlaceWithin d (Announcing s again k) → IsPlaceWithin d (told_one d (Announcing s again k))
 told-within d s again k h = pick (k + 1) d.workers Free (Announcing s again (k + 1)) (IsPlaceWithin d) (λ e. tt) (λ n. (h.0, let b : k < d.workers = h.1 in omega arith))
@@ -39,7 +47,7 @@ moves d S w (ClaimUsed n) low ok = subst (Moves d (ClaimUsed n)) (sym ok.2) (λ 
 moves d S w ShutWon low ok = subst (Moves d ShutWon) (sym ok.2) (λ k. k)
 moves d S w ShutLost low ok = subst (Moves d ShutLost) (sym ok.2) (λ k. k)
 moves d S w LeaveLeft low ok = left-within d (S.places w)
-moves d S w (LeaveOwe id) low ok = owe-within d (S.places w) id ok.0
+moves d S w (LeaveOwe id) low ok = λ k. within-slots d (S.places w) k (λ e. true≢false (sym ok.0 ∙ ap can_leave e))
 moves d S w PayLast low ok = subst (Moves d PayLast) (sym ok.2) (λ k. k)
 moves d S w PayDone low ok = λ k. tt
 moves d S w MarkMarked low ok = subst (Moves d MarkMarked) (sym ok.4) (λ k. k)

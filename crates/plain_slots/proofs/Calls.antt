@@ -13,6 +13,7 @@ use Rattle.slot_history.specs.States.{SlotState, Empty, Reserved, Open, Shut, Fi
 use Rattle.slot_history.specs.Steps.{site, slot_after, moved, claimed, shut_by, held_on}
 use Rattle.slot_history.specs.Allowed.{IsAllowed}
 use Rattle.slot_history.proofs.Places.{inside-slots}
+use Rattle.slot_history.proofs.Duties.{owes-claimed, owes-shut, owes-held}
 use Rattle.plain_slots.specs.declared.object.Object.TheInside.{Inside}
 use Rattle.plain_slots.specs.declared.reply.Look.{Look}
 use Rattle.plain_slots.specs.declared.reply.Look.TheVariants as look
@@ -163,13 +164,6 @@ claim-slot : (d : Shape) (w n : ℕ) (c : Claim) (x : SlotState) → slot_after 
 claim-slot d w n (claim.Range from to) x = refl
 claim-slot d w n (claim.Exhausted y) x = refl
 
-claim-debts : (x : SlotState) (n v : ℕ) → owes (claimed x n) v ≡ owes x v
-claim-debts Empty n v = refl
-claim-debts (Reserved u h) n v = refl
-claim-debts (Open t) n v = refl
-claim-debts (Shut t e) n v = refl
-claim-debts (Finishing id u h) n v = refl
-
 claim-fine : (d : Shape) (S : ObjectState) (w n s id : ℕ) (p : Place) (r : Option (ℕ × ℕ)) → S.places w ≡ At s id → 0 < n → n ≤ MOST_CLAIM → ClaimFrom (S.slots s) n r → IsAllowed d S w (claim_act n (claim_of w p r))
 claim-fine d S w n s id p None at some most f = (s, id, at, some, most, f)
 claim-fine d S w n s id p (Some r) at some most f = (s, id, at, some, most, f.0, f.1, f.2)
@@ -197,7 +191,7 @@ claim-after o ok w p k n id s at some most r y got c answers a' is places log wr
     writes o ok w s.low a a' is (subst (λ m. IsAllowed d S w (claim_act n m)) (sym answers) (claim-fine d S w n k id p r (sym s.is ∙ at) some most got.0)) places log wrote (claim-calm n c) k
     (s.slot ∙ ap slot_of s.is ∙ claim-site n c (S.places w)) (set o.slots.items k y) o.owing.items (
       subst (λ z. HasSlots d (set o.slots.items k z) (upd S.slots k (slot_after d w a x))) (ap shown after ∙ got.1) (slots-set d o.slots.items S.slots k (slot_after d w a x) ok.slots_are s.in_slots),
-      debts-kept d o.owing.items S.slots k (slot_after d w a x) ok.debts_are (λ v h. ap (λ z. owes z v) after ∙ claim-debts x n v),
+      debts-kept d o.owing.items S.slots k (slot_after d w a x) ok.debts_are (λ v h. ap (λ z. owes z v) after ∙ owes-claimed x n v),
     )
 
 claim-holds : (d : Shape) (w n : ℕ) (p q : Place) (r : Option (ℕ × ℕ)) → q ≡ moved d (claim_act n (claim_of w p r)) p → ClaimGives d w q (claim_of w p r)
@@ -231,13 +225,6 @@ shut-slot d w p (Open t) = refl
 shut-slot d w p (Shut t e) = refl
 shut-slot d w p (Finishing jd u h) = refl
 
-shut-debts : (w : ℕ) (x : SlotState) (v : ℕ) → owes (shut_by w x) v ≡ owes x v
-shut-debts w Empty v = refl
-shut-debts w (Reserved u h) v = refl
-shut-debts w (Open t) v = refl
-shut-debts w (Shut t e) v = refl
-shut-debts w (Finishing jd u h) v = refl
-
 pub shut-after : (o : Inside) (ok : Kept o) (w : ℕ) (p : Place) (k id : ℕ) → Spot o w p k → p ≡ Used k id → (b : Bool) (y : Slot) → (b ≡ is_open ((now_of o).slots k)) × (shown (shut_by w ((now_of o).slots k)) ≡ y)
     → (r : Shutting) → r ≡ shut_of w p o.shape b → (a' : Act) → a' ≡ shut_act r → (places : List Place) (log : List Logged) → Wrote o w a' places log
     → IsObject o.shape (set o.slots.items k y) o.owing.items places o.returns.items o.changes.items o.admitted o.finished log
@@ -249,7 +236,7 @@ shut-after o ok w p k id s at b y got r answers a' is places log wrote =
     writes o ok w s.low a a' (is ∙ ap shut_act (answers ∙ ap (shut_of w p d) got.0)) (shut-fine d S w k id p x (sym s.is ∙ at) refl was.0) places log wrote (shut-calm (shut_of w p d (is_open x))) k
     (s.slot ∙ ap slot_of s.is ∙ shut-site (shut_of w p d (is_open x)) (S.places w)) (set o.slots.items k y) o.owing.items (
       subst (λ z. HasSlots d (set o.slots.items k z) (upd S.slots k (slot_after d w a x))) (ap shown after ∙ got.1) (slots-set d o.slots.items S.slots k (slot_after d w a x) ok.slots_are s.in_slots),
-      debts-kept d o.owing.items S.slots k (slot_after d w a x) ok.debts_are (λ v h. ap (λ z. owes z v) after ∙ shut-debts w x v),
+      debts-kept d o.owing.items S.slots k (slot_after d w a x) ok.debts_are (λ v h. ap (λ z. owes z v) after ∙ owes-shut w x v),
     )
 
 shut-holds : (d : Shape) (w : ℕ) (p q : Place) (b : Bool) → q ≡ moved d (shut_act (shut_of w p d b)) p → ShutGives d w q (shut_of w p d b)
@@ -274,20 +261,13 @@ held-shown a (Open t) = refl
 held-shown a (Shut t e) = refl
 held-shown a (Finishing id u h) = refl
 
-held-debts : (a : Act) (x : SlotState) (v : ℕ) → owes (held_on a x) v ≡ owes x v
-held-debts a Empty v = refl
-held-debts a (Reserved u h) v = refl
-held-debts a (Open t) v = refl
-held-debts a (Shut t e) v = refl
-held-debts a (Finishing id u h) v = refl
-
 pub total-after : (o : Inside) (ok : Kept o) (w : ℕ) → w < o.shape.workers → (t : ℕ) → ((s : ℕ) × (h : Held) × ((now_of o).places w ≡ Holding s h) × IsSome h.query) → t ≤ MOST_TOTAL → (places : List Place) (log : List Logged) → Wrote o w (Total t) places log
     → IsObject o.shape o.slots.items o.owing.items places o.returns.items o.changes.items o.admitted o.finished log
 total-after o ok w low t at most places log wrote =
     let S = now_of o in let k = slot_of (S.places w) in
     writes o ok w low (Total t) (Total t) refl (at.0, at.1, at.2, at.3, most) places log wrote (λ v p f. refl, λ v p f. refl, λ n. refl, λ n. refl) k refl o.slots.items o.owing.items (
       slots-kept o.shape o.slots.items S.slots k (held_on (Total t) (S.slots k)) ok.slots_are (held-shown (Total t) (S.slots k)),
-      debts-kept o.shape o.owing.items S.slots k (held_on (Total t) (S.slots k)) ok.debts_are (λ v h. held-debts (Total t) (S.slots k) v),
+      debts-kept o.shape o.owing.items S.slots k (held_on (Total t) (S.slots k)) ok.debts_are (λ v h. owes-held (Total t) (S.slots k) v),
     )
 
 pub note-after : (o : Inside) (ok : Kept o) (w : ℕ) → w < o.shape.workers → (n : ℕ) → ((s : ℕ) × (h : Held) × ((now_of o).places w ≡ Holding s h) × IsSome h.query × (h.noted ≡ 0) × (h.stage + n ≤ STAGES)) → 0 < n → (places : List Place) (log : List Logged) → Wrote o w (NoteDone n) places log
@@ -296,7 +276,7 @@ note-after o ok w low n at some places log wrote =
     let S = now_of o in let k = slot_of (S.places w) in
     follow o ok w low (NoteDone n) (NoteDone n) refl (at.0, at.1, at.2, at.3, at.4, some, at.5) places log wrote o.slots.items o.owing.items o.returns.items o.changes.items o.admitted (o.finished + n) (
       slots-kept o.shape o.slots.items S.slots k (held_on (NoteDone n) (S.slots k)) ok.slots_are (held-shown (NoteDone n) (S.slots k)),
-      debts-kept o.shape o.owing.items S.slots k (held_on (NoteDone n) (S.slots k)) ok.debts_are (λ v h. held-debts (NoteDone n) (S.slots k) v),
+      debts-kept o.shape o.owing.items S.slots k (held_on (NoteDone n) (S.slots k)) ok.debts_are (λ v h. owes-held (NoteDone n) (S.slots k) v),
       ok.returns_are,
       ok.changes_are,
       ok.admitted_is,
@@ -311,7 +291,7 @@ admit-cases o ok w low q at few true same r answers n counts a' is places log wr
     let e : S.admitted ≡ q = sym ok.admitted_is ∙ eqb-true o.admitted q same in
     follow o ok w low (AdmitGot q) a' (is ∙ ap (admit_act q) answers) (at.0, at.1, at.2, at.3, few, e) places log wrote o.slots.items o.owing.items o.returns.items o.changes.items n o.finished (
       slots-kept o.shape o.slots.items S.slots k (held_on (AdmitGot q) (S.slots k)) ok.slots_are (held-shown (AdmitGot q) (S.slots k)),
-      debts-kept o.shape o.owing.items S.slots k (held_on (AdmitGot q) (S.slots k)) ok.debts_are (λ v h. held-debts (AdmitGot q) (S.slots k) v),
+      debts-kept o.shape o.owing.items S.slots k (held_on (AdmitGot q) (S.slots k)) ok.debts_are (λ v h. owes-held (AdmitGot q) (S.slots k) v),
       ok.returns_are,
       ok.changes_are,
       counts ∙ ap (λ j. j + 1) ok.admitted_is,

@@ -1,7 +1,7 @@
 -- What places and notes say of the cells of a slot, before and after a call.
-use Rattle.std.proofs.Common.{◌≡◌, ◌≢◌, ℕ, ◌<◌, ◌⊎◌, Bool, true, false, cond, eqb, List, Option, refl, sym, ap, ◌∙◌, subst, inl, inr, ⊎_elim, eq-eqb, ne_eqb}
+use Rattle.std.proofs.Common.{◌≡◌, ◌≢◌, ℕ, ◌<◌, true, false, cond, eqb, List, Option, refl, sym, ap, ◌∙◌, subst, eq-eqb, ne_eqb}
+use Rattle.std.proofs.lemmas.Bool.{false_from_ne_true}
 use mathlib.Core.Logic.{dite}
-use mathlib.Core.Bool.{true≢false}
 use native.Mathlib.Decide.{ℕ_discrete}
 use Rattle.slot_history.specs.declared.shape.Shape.{Shape}
 use Rattle.slot_history.specs.declared.act.Act.{Act}
@@ -10,23 +10,19 @@ use Rattle.slot_history.specs.declared.act.Entry.{Entry}
 use Rattle.slot_history.specs.declared.place.Held.{Held}
 use Rattle.slot_history.specs.declared.place.Place.{Place}
 use Rattle.slot_history.specs.declared.place.Place.TheVariants.{Free, Entered, Inside, Used, Behind, Leading, Asking, Owing, Holding}
-use Rattle.slot_history.specs.States.{SlotState, ObjectState, is_open, is_shut, id_at, is_inside, has_own_cell}
+use Rattle.slot_history.specs.States.{ObjectState, id_at, is_inside, has_own_cell}
 use Rattle.slot_history.specs.Steps.{state_after}
 use Rattle.slot_history.specs.Allowed.{IsAllowed}
 use Rattle.slot_history.specs.Histories.{place_of, ranges_of}
-use Rattle.slot_history.specs.Table.{duty_of, Meets, IsChainOf, IsTable}
-use Rattle.slot_history.proofs.Duties.{held-mine}
-use Rattle.slot_history.proofs.Places.{inside-slots}
+use Rattle.slot_history.specs.Table.{IsTable}
+use Rattle.slot_history.proofs.Duties.{IsHeldBy}
+use Rattle.slot_history.proofs.Places.{inside-slots, held-not}
+use Rattle.slot_history.proofs.Holdings.{holder-place}
 use Rattle.plain_slots.specs.declared.note.Note.{Note}
 use Rattle.plain_slots.specs.Cells.{has_cell, noted}
 use Rattle.plain_slots.specs.Plain.{CellAt}
-use Rattle.plain_slots.proofs.CellSteps.{IsHeldBy}
 
 -- ---- places
-
-pub false-of : (b : Bool) → (b ≡ true → ⊥) → b ≡ false
-false-of true never = absurd (never refl)
-false-of false never = refl
 
 -- whoever has its own cell of a slot is inside with the id that its place names
 pub own-inside : (p : Place) (s : ℕ) → has_own_cell p s ≡ true → is_inside p (id_at p) ≡ true
@@ -44,24 +40,10 @@ own-has (Behind t id) s h = refl
 own-has (Leading t id) s h = refl
 own-has _ s h = absurd (cc)
 
--- a slot that is held is neither open nor shut
-held-closed : (w : ℕ) (k : Held) (X : SlotState) → IsHeldBy w k X → (is_open X ≡ true) ⊎ (is_shut X ≡ true) → ⊥
-held-closed w k X (inl is) open_ = ⊎_elim (λ e. true≢false (sym e ∙ ap is_open is)) (λ e. true≢false (sym e ∙ ap is_shut is)) open_
-held-closed w k X (inr (id, is)) open_ = ⊎_elim (λ e. true≢false (sym e ∙ ap is_open is)) (λ e. true≢false (sym e ∙ ap is_shut is)) open_
-
--- so nobody is inside there
+-- nobody is inside a slot that is held
 pub held-outside : (d : Shape) (S : ObjectState) → IsTable d S → (s v w : ℕ) (k : Held) → v < d.workers → IsHeldBy w k (S.slots s) → has_own_cell (S.places v) s ≡ false
-held-outside d S ok s v w k low held = false-of (has_own_cell (S.places v) s)
-    (λ h. held-closed w k (S.slots s) held (inside-slots d S ok s v (id_at (S.places v)) low h (own-inside (S.places v) s h)).0)
-
--- whoever holds a slot, by its state, is a worker that is there
-pub holder-place : (d : Shape) (S : ObjectState) → IsTable d S → (s u : ℕ) (k : Held) → IsHeldBy u k (S.slots s) → S.places u ≡ Holding s k
-holder-place d S ok s u k (inl is) =
-    let low : u < d.workers = subst (IsChainOf d) is (ok.chain s) in
-    subst (λ D. Meets d s D (S.places u)) (ap (λ X. duty_of X u) is ∙ held-mine k u) (ok.duty s u low)
-holder-place d S ok s u k (inr (id, is)) =
-    let low : u < d.workers = subst (IsChainOf d) is (ok.chain s) in
-    subst (λ D. Meets d s D (S.places u)) (ap (λ X. duty_of X u) is ∙ held-mine k u) (ok.duty s u low)
+held-outside d S ok s v w k low held = false_from_ne_true (has_own_cell (S.places v) s)
+    (λ h. held-not (S.slots s) w k held (inside-slots d S ok s v (id_at (S.places v)) low h (own-inside (S.places v) s h)).0)
 
 -- ---- notes
 

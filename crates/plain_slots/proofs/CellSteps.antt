@@ -8,14 +8,11 @@ use Rattle.slot_history.specs.declared.act.Act.TheVariants.{AdmitGot, Note as No
 use Rattle.slot_history.specs.declared.place.Held.{Held}
 use Rattle.slot_history.specs.States.{SlotState, Empty, Reserved, Open, Shut, Finishing, is_empty, is_open, is_shut, id_of, has_id, reservation, finalisation, next_id}
 use Rattle.slot_history.specs.Steps.{claimed, shut_by, ended, finalised_by, held_on, opened}
+use Rattle.slot_history.proofs.Duties.{IsHeldBy}
 use Rattle.plain_slots.specs.declared.note.Note.{Note}
 use Rattle.plain_slots.specs.declared.note.Note.TheVariants as note
 use Rattle.plain_slots.specs.Cells.{loosened, NoteSays, FitsNext}
 use Rattle.plain_slots.specs.Plain.{FitsClaims, CellAt}
-
--- a worker holds a slot that it reserved or finalises
-abbrev pub IsHeldBy : ℕ → Held → SlotState → Type 0
-IsHeldBy w h x = (x ≡ Reserved w h) ⊎ ((id : ℕ) × (x ≡ Finishing id w h))
 
 -- ---- what a note says
 

@@ -1,8 +1,10 @@
 -- What a worker finds in a cell that it has, and that an exchange breaks nothing that is known of cells.
-use Rattle.std.proofs.Common.{◌≡◌, ◌≢◌, ℕ, ◌+◌, ◌*◌, ◌<◌, Bool, true, false, cond, eqb, ◌&&◌, List, ◌∷◌, length, set, Option, Some, IfSome, refl, sym, ap, ap₂, ◌∙◌, subst, eq-eqb, ne_eqb}
+use Rattle.std.proofs.Common.{◌≡◌, ◌≢◌, ℕ, ◌+◌, ◌*◌, ◌<◌, true, false, cond, eqb, ◌&&◌, List, ◌∷◌, length, set, Option, Some, IfSome, refl, sym, ap, ap₂, ◌∙◌, subst, eq-eqb, ne_eqb}
 use Rattle.std.specs.List.{slice_get}
 use Rattle.std.proofs.lemmas.List.{length-set}
 use Rattle.std.proofs.Math.Path.{transport}
+use Rattle.std.proofs.lemmas.Nat.{same_from_place}
+use Rattle.std.proofs.Math.Bool.{and-false}
 use mathlib.Core.Logic.{dite}
 use native.Mathlib.Decide.{ℕ_discrete}
 use Rattle.slot_history.specs.declared.shape.Shape.{Shape}
@@ -16,7 +18,8 @@ use Rattle.slot_history.specs.Histories.{IsLegal, place_of, ranges_of}
 use Rattle.slot_history.specs.Bounds.{IsPlaceWithin, IsFinalisation, IsSlotSound}
 use Rattle.slot_history.proofs.Table.{table}
 use Rattle.slot_history.proofs.Within.{within}
-use Rattle.slot_history.proofs.Holdings.{holder-slot, slots-sound}
+use Rattle.slot_history.proofs.Holdings.{holder-slot, slots-sound, holder-place}
+use Rattle.slot_history.proofs.Duties.{IsHeldBy}
 use Rattle.plain_slots.specs.declared.note.Note.{Note}
 use Rattle.plain_slots.specs.declared.log.Logged.{Logged}
 use Rattle.plain_slots.specs.declared.log.Logged.TheVariants.{Exchanged}
@@ -25,11 +28,10 @@ use Rattle.plain_slots.specs.Log.{calls_of, note_in}
 use Rattle.plain_slots.specs.Desks.{Desk, place_at, OwnFits, NextFits, FinalisedFits}
 use Rattle.plain_slots.specs.Plain.{FitsClaims, IsPlain}
 use Rattle.plain_slots.specs.Seats.{trail_in}
-use Rattle.plain_slots.proofs.Lists.{get-set_same, get-set_other, same-pair, pair-within}
+use Rattle.plain_slots.proofs.Lists.{get-set_same, get-set_other, pair-within}
 use Rattle.plain_slots.proofs.Trails.{place-trail, ranges-trail, ranges-finalised, finalises}
-use Rattle.plain_slots.proofs.CellSteps.{IsHeldBy}
 use Rattle.plain_slots.proofs.ExchangedCells.{has-within, says-kept, says-fresh, says-held, held-says, own-cell-is, inside-only, inside-holds, cell-else}
-use Rattle.plain_slots.proofs.CellPlaces.{CellOf, holder-place}
+use Rattle.plain_slots.proofs.CellPlaces.{CellOf}
 
 -- ---- the notes after an exchange
 
@@ -42,10 +44,6 @@ module _ (w c : ℕ) (n : Note) (l : List Logged) where
 
   note-of_other : (u v : ℕ) → u ≢ w → note_in longer u v ≡ note_in l u v
   note-of_other u v other = ap (λ a. cond (a && eqb v c) n (note_in l u v)) (ne_eqb u w other)
-
-  and-false : (a : Bool) → (a && false) ≡ false
-  and-false true = refl
-  and-false false = refl
 
   note-of_else : (u v : ℕ) → v ≢ c → note_in longer u v ≡ note_in l u v
   note-of_else u v other = ap (λ b. cond (eqb u w && b) n (note_in l u v)) (ne_eqb v c other) ∙ ap (λ a. cond a n (note_in l u v)) (and-false (eqb u w))
@@ -78,7 +76,7 @@ module _ {B Sub : Type 0} (total : Sub → ℕ → Option ℕ) (fits : Sub → �
         task_sets = ok.task_sets;
         count = length-set cells (s * d.workers + c) new ∙ ok.count;
         cells_are = λ t v x in_t in_v at. dite (ℕ_discrete (t * d.workers + v) (s * d.workers + c))
-            (λ e. let q = same-pair d.workers t s v c in_v in_c e in
+            (λ e. let q = same_from_place t v s c d.workers in_v in_c e in
             let in_list : s * d.workers + c < length cells = subst (λ m. s * d.workers + c < m) (sym ok.count) (pair-within d.slots d.workers s c (subst (λ a. a < d.slots) q.0 in_t) in_c) in
             let is : Some new ≡ Some x = sym (get-set_same cells (s * d.workers + c) new in_list) ∙ ap (slice_get (set cells (s * d.workers + c) new)) (sym e) ∙ at in
             subst (λ y. Cell after t v y) (let r : new ≡ x = cc in r) (subst (λ a. Cell after a v new) (sym q.0) (subst (λ a. Cell after s a new) (sym q.1) mine)))

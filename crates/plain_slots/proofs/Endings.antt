@@ -1,9 +1,10 @@
 -- The calls that end and renew a task set keep what is kept of the object.
-use Rattle.std.proofs.Common.{◌≡◌, ◌≢◌, ℕ, zero, suc, ◌+◌, ◌*◌, ◌<◌, ◌≤◌, ◌⊎◌, Bool, true, false, cond, eqb, not, ◌&&◌, ◌||◌, List, length, length-set, set, slice_index_or, None, min, unwrap_or, refl, sym, ap, ap₂, ◌∙◌, subst, inl, inr, ⊎_elim, eqb-true, arith}
+use Rattle.std.proofs.Common.{◌≡◌, ◌≢◌, ℕ, ◌+◌, ◌*◌, ◌<◌, ◌≤◌, ◌⊎◌, Bool, true, false, cond, eqb, not, ◌&&◌, ◌||◌, List, length, length-set, set, slice_index_or, None, unwrap_or, refl, sym, ap, ap₂, ◌∙◌, subst, inl, inr, ⊎_elim, eqb-true, arith, pos_of_ne-zero}
 use Rattle.std.proofs.lemmas.Option.{get_or_from_slice_get}
-use Rattle.std.proofs.Math.Nat.{mul-le-mul_right, suc-mul}
+use Rattle.std.proofs.Math.Nat.{min-zero}
 use mathlib.Core.Bool.{true≢false}
-use Rattle.std.proofs.lemmas.Bool.{and_parts, and_right}
+use Rattle.std.proofs.lemmas.Bool.{and_parts, eqb-false, false_from_ne_true}
+use Rattle.std.proofs.lemmas.Nat.{row_fits}
 use Rattle.slot_history.specs.declared.shape.Shape.{Shape}
 use Rattle.slot_history.specs.declared.act.Act.{Act}
 use Rattle.slot_history.specs.declared.act.Act.TheVariants.{SweepLast, SweepOthers, PayLast, PayDone, MarkMarked, MarkMissed, Install, Release}
@@ -16,8 +17,11 @@ use Rattle.slot_history.specs.Steps.{slot_after, moved, opened, ended, finalised
 use Rattle.slot_history.specs.Allowed.{IsReady, debts, next_is_at}
 use Rattle.slot_history.specs.Table.{HasAsked, Meets, IsChainOf, duty_of, nth_other}
 use Rattle.slot_history.proofs.Sets.{upd-same, upd-else, count-same, none-counted}
-use Rattle.slot_history.proofs.Duties.{asking-leads, leads-slot, owing-owes, owes-slot, holding-holds, holds-slot}
+use Rattle.slot_history.proofs.Duties.{asking-leads, leads-slot, owing-else, paid-clear}
 use Rattle.slot_history.proofs.Others.{next-is, next-unasked, nth-other-within}
+use Rattle.slot_history.proofs.OneAnswer.{still-owed}
+use Rattle.slot_history.proofs.Book.{paying-slot}
+use Rattle.slot_history.proofs.Holdings.{holder-slot}
 use Rattle.plain_slots.specs.declared.object.Object.TheInside.{Inside}
 use Rattle.plain_slots.specs.declared.reply.Mark.{Mark}
 use Rattle.plain_slots.specs.declared.reply.Sweep.{Sweep}
@@ -33,18 +37,6 @@ use Rattle.plain_slots.specs.Replies.{sweep_act, pay_act, mark_act}
 use Rattle.plain_slots.specs.Tokens.{IsHolder, SweepGives, PayGives}
 use Rattle.plain_slots.proofs.Objects.{slots-set, slots-kept, debts-kept, debts-set}
 use Rattle.plain_slots.proofs.Following.{Kept, Wrote, Spot, now_of, tabled, writes}
-
-positive : (n : ℕ) → eqb n 0 ≡ false → 0 < n
-positive zero h = absurd (true≢false h)
-positive (suc n) h = omega arith
-
-and-cases : (a b : Bool) → (a && b) ≡ false → (a ≡ false) ⊎ (b ≡ false)
-and-cases true b h = inr h
-and-cases false b h = inl refl
-
-untrue : (b : Bool) → (b ≡ true → ⊥) → b ≡ false
-untrue true h = absurd (h refl)
-untrue false h = refl
 
 -- the debts that are counted in a row are those of the slot
 pub row-count : (d : Shape) (owing : List Bool) (f : ℕ → SlotState) (k : ℕ) → HasDebts d owing f → k < d.slots → count_of d.workers (λ v. slice_index_or owing (k * d.workers + v) false) ≡ debts d (f k)
@@ -73,7 +65,7 @@ sweep-cases o ok w p k id n m s at all t e is c counts true zero_ y holds r answ
     )
 sweep-cases o ok w p k id n m s at all t e is c counts false some_ y holds r answers a' act places log wrote =
     let d = o.shape in let S = now_of o in
-    let some : 0 < c = positive c some_ in
+    let some : 0 < c = pos_of_ne-zero (eqb-false c 0 some_) in
     writes o ok w s.low (SweepOthers c) a' (act ∙ ap sweep_act answers) (k, id, n, m, sym s.is ∙ at, all, some, counts) places log wrote (λ v q f. refl, λ v q f. refl, λ j. refl, λ j. refl) k (s.slot ∙ ap slot_of s.is) (set o.slots.items k y) o.owing.items (
       subst (λ z. HasSlots d (set o.slots.items k z) (upd S.slots k (slot_after d w (SweepOthers c) (S.slots k)))) (ap (λ x. shown (ended d w (SweepOthers c) x)) is ∙ sym holds) (slots-set d o.slots.items S.slots k (slot_after d w (SweepOthers c) (S.slots k)) ok.slots_are s.in_slots),
       debts-kept d o.owing.items S.slots k (slot_after d w (SweepOthers c) (S.slots k)) ok.debts_are (λ v h. ap (λ x. owes (ended d w (SweepOthers c) x) v) is ∙ ap (λ x. owes x v) (sym is)),
@@ -99,12 +91,6 @@ sweep-gives d w p q c r is goes = subst (λ m. q ≡ moved d (sweep_act m) p →
 
 -- ---- pay
 
-pay-debt : (d : Shape) (w v : ℕ) (t : TaskSet) (e : Ending) → v ≢ w → owes (ended d w PayDone (Shut t e)) v ≡ owes (Shut t e) v
-pay-debt d w v t e ne = ap (λ b. e.marked v && not b) (upd-else e.paid w true v ne)
-
-paid-now : (d : Shape) (w : ℕ) (t : TaskSet) (e : Ending) → owes (ended d w PayDone (Shut t e)) w ≡ false
-paid-now d w t e = ap (λ b. e.marked w && not b) (upd-same e.paid w true) ∙ and_right (e.marked w) false refl
-
 pay-cases : (o : Inside) (ok : Kept o) (w : ℕ) (p : Place) (k id : ℕ) → Spot o w p k → p ≡ Owing k id → (t : TaskSet) (e : Ending) → (now_of o).slots k ≡ Shut t e → (c : ℕ) → c ≡ debts o.shape (ended o.shape w PayDone (Shut t e))
     → (owing : List Bool) → owing ≡ set o.owing.items (k * o.shape.workers + w) false → (b : Bool) → (is_swept (Shut t e) && eqb c 0) ≡ b → (y : Slot) → y ≡ cond b (shown (finalised_by w (Shut t e))) (shown (Shut t e)) → (r : Pay) → r ≡ pay_of w p b → (a' : Act) → a' ≡ pay_act r
     → (places : List Place) (log : List Logged) → Wrote o w a' places log → IsObject o.shape (set o.slots.items k y) owing places o.returns.items o.changes.items o.admitted o.finished log
@@ -113,7 +99,7 @@ pay-cases o ok w p k id s at t e is c counts owing sets true last y holds r answ
     let none : debts d (ended d w PayDone (S.slots k)) ≡ 0 = ap (λ x. debts d (ended d w PayDone x)) is ∙ sym counts ∙ eqb-true c 0 (and_parts (is_swept (Shut t e)) (eqb c 0) last).1 in
     let swept : is_swept (S.slots k) ≡ true = ap is_swept is ∙ (and_parts (is_swept (Shut t e)) (eqb c 0) last).0 in
     let clear : (v : ℕ) → v < d.workers → v ≢ w → owes (slot_after d w PayLast (S.slots k)) v ≡ owes (S.slots k) v =
-    λ v h ne. ap (λ x. owes (finalised_by w x) v) is ∙ sym (none-counted d.workers (owes (ended d w PayDone (S.slots k))) none v h) ∙ ap (λ x. owes (ended d w PayDone x) v) is ∙ pay-debt d w v t e ne ∙ ap (λ x. owes x v) (sym is) in
+    λ v h ne. ap (λ x. owes (finalised_by w x) v) is ∙ sym (none-counted d.workers (owes (ended d w PayDone (S.slots k))) none v h) ∙ ap (λ x. owes (ended d w PayDone x) v) is ∙ owing-else d e v w ne ∙ ap (λ x. owes x v) (sym is) in
     writes o ok w s.low PayLast a' (act ∙ ap pay_act answers) (k, id, sym s.is ∙ at, swept, none) places log wrote (λ v q f. refl, λ v q f. refl, λ j. refl, λ j. refl) k (s.slot ∙ ap slot_of s.is) (set o.slots.items k y) owing (
       subst (λ z. HasSlots d (set o.slots.items k z) (upd S.slots k (slot_after d w PayLast (S.slots k)))) (ap (λ x. shown (finalised_by w x)) is ∙ sym holds) (slots-set d o.slots.items S.slots k (slot_after d w PayLast (S.slots k)) ok.slots_are s.in_slots),
       subst (λ l. HasDebts d l (upd S.slots k (slot_after d w PayLast (S.slots k)))) (sym sets) (debts-set d o.owing.items S.slots k w (slot_after d w PayLast (S.slots k)) false ok.debts_are s.in_slots s.low (ap (λ x. owes (finalised_by w x) w) is) clear),
@@ -121,27 +107,21 @@ pay-cases o ok w p k id s at t e is c counts owing sets true last y holds r answ
 pay-cases o ok w p k id s at t e is c counts owing sets false more y holds r answers a' act places log wrote =
     let d = o.shape in let S = now_of o in
     let why : (is_swept (S.slots k) ≡ false) ⊎ (0 < debts d (ended d w PayDone (S.slots k))) =
-    ⊎_elim (λ u. inl (ap is_swept is ∙ u)) (λ u. inr (subst (λ j. 0 < j) (counts ∙ ap (λ x. debts d (ended d w PayDone x)) (sym is)) (positive c u))) (and-cases (is_swept (Shut t e)) (eqb c 0) more) in
+    ⊎_elim (λ u. inl (ap is_swept is ∙ u)) (λ u. inr (subst (λ j. 0 < j) (counts ∙ ap (λ x. debts d (ended d w PayDone x)) (sym is)) u)) (still-owed (is_swept (Shut t e)) c more) in
     writes o ok w s.low PayDone a' (act ∙ ap pay_act answers) (k, id, sym s.is ∙ at, why) places log wrote (λ v q f. refl, λ v q f. refl, λ j. refl, λ j. refl) k (s.slot ∙ ap slot_of s.is) (set o.slots.items k y) owing (
       subst (λ z. HasSlots d (set o.slots.items k z) (upd S.slots k (slot_after d w PayDone (S.slots k)))) (ap (λ x. shown (ended d w PayDone x)) is ∙ sym holds) (slots-set d o.slots.items S.slots k (slot_after d w PayDone (S.slots k)) ok.slots_are s.in_slots),
       subst (λ l. HasDebts d l (upd S.slots k (slot_after d w PayDone (S.slots k)))) (sym sets) (debts-set d o.owing.items S.slots k w (slot_after d w PayDone (S.slots k)) false ok.debts_are s.in_slots s.low
-          (ap (λ x. owes (ended d w PayDone x) w) is ∙ paid-now d w t e) (λ v h ne. ap (λ x. owes (ended d w PayDone x) v) is ∙ pay-debt d w v t e ne ∙ ap (λ x. owes x v) (sym is))),
+          (ap (λ x. owes (ended d w PayDone x) w) is ∙ paid-clear d e w) (λ v h ne. ap (λ x. owes (ended d w PayDone x) v) is ∙ owing-else d e v w ne ∙ ap (λ x. owes x v) (sym is))),
     )
-
-debtor : (o : Inside) (ok : Kept o) (w : ℕ) (p : Place) (k id : ℕ) → Spot o w p k → p ≡ Owing k id → (t : TaskSet) × (e : Ending) × ((now_of o).slots k ≡ Shut t e)
-debtor o ok w p k id s at =
-    let there : (now_of o).places w ≡ Owing k id = sym s.is ∙ at in
-    let meets = subst (λ q. Meets o.shape k (duty_of ((now_of o).slots k) w) q) there ((tabled o ok).duty k w s.low) in
-    let (t, e, is, named, other, asked, owed) = owes-slot ((now_of o).slots k) w id (owing-owes o.shape k id (duty_of ((now_of o).slots k) w) meets) in (t, e, is)
 
 pub pay-after : (o : Inside) (ok : Kept o) (w : ℕ) (p : Place) (k id : ℕ) → Spot o w p k → p ≡ Owing k id → (owing : List Bool) → owing ≡ set o.owing.items (k * o.shape.workers + w) false → (c : ℕ) → c ≡ count_of o.shape.workers (λ v. slice_index_or owing (k * o.shape.workers + v) false)
     → (y : Slot) → ((x : SlotState) → shown x ≡ shown ((now_of o).slots k) → is_shut x ≡ true → y ≡ cond (is_swept x && eqb c 0) (shown (finalised_by w x)) (shown x)) → (r : Pay) → ((x : SlotState) → shown x ≡ shown ((now_of o).slots k) → r ≡ pay_of w p (is_swept x && eqb c 0)) → (a' : Act) → a' ≡ pay_act r
     → (places : List Place) (log : List Logged) → Wrote o w a' places log → IsObject o.shape (set o.slots.items k y) owing places o.returns.items o.changes.items o.admitted o.finished log
 pay-after o ok w p k id s at owing sets c counted y holds r answers a' act places log wrote =
     let d = o.shape in let S = now_of o in
-    let (t, e, is) = debtor o ok w p k id s at in
+    let (t, e, is, named) = paying-slot d S (tabled o ok) w k id s.low (sym s.is ∙ at) in
     let x' : SlotState = ended d w PayDone (Shut t e) in
-    let row : HasDebts d owing (upd S.slots k x') = subst (λ l. HasDebts d l (upd S.slots k x')) (sym sets) (debts-set d o.owing.items S.slots k w x' false ok.debts_are s.in_slots s.low (paid-now d w t e) (λ v h ne. pay-debt d w v t e ne ∙ ap (λ x. owes x v) (sym is))) in
+    let row : HasDebts d owing (upd S.slots k x') = subst (λ l. HasDebts d l (upd S.slots k x')) (sym sets) (debts-set d o.owing.items S.slots k w x' false ok.debts_are s.in_slots s.low (paid-clear d e w) (λ v h ne. owing-else d e v w ne ∙ ap (λ x. owes x v) (sym is))) in
     pay-cases o ok w p k id s at t e is c (counted ∙ row-count d owing (upd S.slots k x') k row s.in_slots ∙ ap (debts d) (upd-same S.slots k x')) owing sets (is_swept (Shut t e) && eqb c 0) refl y
     (holds (Shut t e) (ap shown (sym is)) refl) r (answers (Shut t e) (ap shown (sym is))) a' act places log wrote
 
@@ -191,21 +171,11 @@ mark-after o ok w p k id n m s at more b there i index was owed r answers a' act
     let v = nth_other w n in
     let nxt : v ≡ next_asked o.shape e = ap (λ u. nth_other u n) mine ∙ sym (next-is o.shape e n m asked chain.coordinator more) in
     let unasked : e.asked v ≡ false = ap (λ u. e.asked (nth_other u n)) mine ∙ next-unasked o.shape e n m asked in
-    let unpaid : e.paid v ≡ false = untrue (e.paid v) (λ h. true≢false (sym (chain.marked v (chain.paid v h)) ∙ unasked)) in
+    let unpaid : e.paid v ≡ false = false_from_ne_true (e.paid v) (λ h. true≢false (sym (chain.marked v (chain.paid v h)) ∙ unasked)) in
     mark-cases o ok w p k id n m v s at more t e is (nth-other-within w n o.shape.workers s.low more) nxt unpaid b there _
     (ap (λ j. set o.owing.items j (b || was)) index ∙ ap (λ a. set o.owing.items (k * o.shape.workers + v) (b || a)) (owed ∙ ap (λ x. owes x v) is)) r answers a' act places log wrote
 
 -- ---- install and release
-
--- the slot that a worker holds
-holder : (o : Inside) (ok : Kept o) (w : ℕ) (p : Place) (k : ℕ) (h : Held) → Spot o w p k → p ≡ Holding k h → ((now_of o).slots k ≡ Reserved w h) ⊎ ((id : ℕ) × ((now_of o).slots k ≡ Finishing id w h))
-holder o ok w p k h s at =
-    let there : (now_of o).places w ≡ Holding k h = sym s.is ∙ at in
-    let meets = subst (λ q. Meets o.shape k (duty_of ((now_of o).slots k) w) q) there ((tabled o ok).duty k w s.low) in
-    holds-slot ((now_of o).slots k) w h (holding-holds o.shape k h (duty_of ((now_of o).slots k) w) meets)
-
-min-zero : (n : ℕ) → min n 0 ≡ 0
-min-zero n = omega arith
 
 open-shown : (id total : ℕ) → Slots.Open (record { id = id; total = total; next = 0 }) ≡ shown (Open (record { id = id; total = total; cursor = 0 }))
 open-shown id total = ap (λ n. Slots.Open (record { id = id; total = total; next = n })) (sym (min-zero total))
@@ -224,7 +194,7 @@ pub install-after : (o : Inside) (ok : Kept o) (w : ℕ) (p : Place) (k id : ℕ
     → IsObject o.shape (set o.slots.items k (Slots.Open (record { id = id; total = unwrap_or h.total 0; next = 0 }))) o.owing.items places o.returns.items o.changes.items o.admitted o.finished log
 install-after o ok w p k id h s at ready named places log wrote =
     ⊎_elim (λ is. install-with o ok w p k id h s at ready named (Reserved w h) is (λ v. refl) refl places log wrote)
-    (λ (jd, is). install-with o ok w p k id h s at ready named (Finishing jd w h) is (λ v. refl) refl places log wrote) (holder o ok w p k h s at)
+    (λ (jd, is). install-with o ok w p k id h s at ready named (Finishing jd w h) is (λ v. refl) refl places log wrote) (holder-slot o.shape (now_of o) (tabled o ok) w k h s.low (sym s.is ∙ at))
 
 release-with : (o : Inside) (ok : Kept o) (w : ℕ) (p : Place) (k : ℕ) (h : Held) → Spot o w p k → p ≡ Holding k h → ((h.query ≡ None) ⊎ (0 < h.noted)) → (x : SlotState) → (now_of o).slots k ≡ x → ((v : ℕ) → owes x v ≡ false)
     → (places : List Place) (log : List Logged) → Wrote o w Release places log → IsObject o.shape (set o.slots.items k Slots.Empty) o.owing.items places o.returns.items o.changes.items o.admitted o.finished log
@@ -239,11 +209,11 @@ pub release-after : (o : Inside) (ok : Kept o) (w : ℕ) (p : Place) (k : ℕ) (
     → IsObject o.shape (set o.slots.items k Slots.Empty) o.owing.items places o.returns.items o.changes.items o.admitted o.finished log
 release-after o ok w p k h s at may places log wrote =
     ⊎_elim (λ is. release-with o ok w p k h s at may (Reserved w h) is (λ v. refl) places log wrote)
-    (λ (jd, is). release-with o ok w p k h s at may (Finishing jd w h) is (λ v. refl) places log wrote) (holder o ok w p k h s at)
+    (λ (jd, is). release-with o ok w p k h s at may (Finishing jd w h) is (λ v. refl) places log wrote) (holder-slot o.shape (now_of o) (tabled o ok) w k h s.low (sym s.is ∙ at))
 
 -- a row of debts is within all of them
 pub row-within : (o : Inside) (ok : Kept o) (k : ℕ) → k < o.shape.slots → k * o.shape.workers + o.shape.workers ≤ length o.owing.items
-row-within o ok k in_k = let c = ok.debts_are.count in let h : suc k * o.shape.workers ≤ o.shape.slots * o.shape.workers = mul-le-mul_right o.shape.workers in_k in let m = suc-mul k o.shape.workers in omega arith
+row-within o ok k in_k = let c = ok.debts_are.count in let r = row_fits k o.shape.workers o.shape.slots o.shape.workers in_k (omega arith) in omega arith
 
 pub row-within_set : (o : Inside) (ok : Kept o) (k i : ℕ) (b : Bool) → k < o.shape.slots → k * o.shape.workers + o.shape.workers ≤ length (set o.owing.items i b)
 row-within_set o ok k i b in_k = rw (length-set o.owing.items i b) (row-within o ok k in_k)

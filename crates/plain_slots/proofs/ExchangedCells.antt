@@ -1,5 +1,6 @@
 -- What a worker that has a cell knows of it, and that an exchange by it changes nothing that is known of the other cells.
 use Rattle.std.proofs.Common.{◌≡◌, ◌≢◌, ℕ, ◌<◌, ◌⊎◌, Bool, true, false, List, Option, Some, None, IfSome, inl, inr, ⊎_elim, refl, sym, ap, ◌∙◌, subst, eq-eqb}
+use Rattle.std.proofs.lemmas.Bool.{false_from_ne_true}
 use mathlib.Core.Logic.{dite}
 use mathlib.Core.Bool.{true≢false}
 use native.Mathlib.Decide.{ℕ_discrete}
@@ -14,12 +15,16 @@ use Rattle.slot_history.specs.Histories.{IsLegal, place_of, ranges_of}
 use Rattle.slot_history.specs.Bounds.{IsPlaceWithin}
 use Rattle.slot_history.proofs.Table.{table}
 use Rattle.slot_history.proofs.Places.{inside-slots}
+use Rattle.slot_history.proofs.Duties.{IsHeldBy}
+use Rattle.slot_history.proofs.Holdings.{holder-place}
+use Rattle.slot_history.proofs.Growth.{open-has}
+use Rattle.slot_history.proofs.Within.{within-slots}
 use Rattle.plain_slots.specs.declared.note.Note.{Note}
 use Rattle.plain_slots.specs.Cells.{has_cell, kept_note, fresh_note, NoteSays, FitsNext}
 use Rattle.plain_slots.specs.Plain.{FitsClaims, CellAt}
-use Rattle.plain_slots.proofs.Ids.{open-has, inside-one}
-use Rattle.plain_slots.proofs.CellSteps.{IsHeldBy, says-maps, cell-outside, cell-notes}
-use Rattle.plain_slots.proofs.CellPlaces.{false-of, own-inside, holder-place, CellOf}
+use Rattle.plain_slots.proofs.Ids.{inside-one}
+use Rattle.plain_slots.proofs.CellSteps.{says-maps, cell-outside, cell-notes}
+use Rattle.plain_slots.proofs.CellPlaces.{own-inside, CellOf}
 
 -- ---- what is said of a cell by its slot
 
@@ -60,11 +65,7 @@ has-own (Leading t id) h = eq-eqb t t refl
 has-own _ h = absurd (cc)
 
 pub has-within : (d : Shape) (p : Place) → has_cell p ≡ true → IsPlaceWithin d p → slot_of p < d.slots
-has-within d (Inside t id) h k = k
-has-within d (Used t id) h k = k
-has-within d (Behind t id) h k = k
-has-within d (Leading t id) h k = k
-has-within d _ h k = absurd (cc)
+has-within d p h k = within-slots d p k (λ e. true≢false (sym h ∙ ap has_cell e))
 
 -- ---- the own cell, of the slot that the worker is inside
 
@@ -90,7 +91,7 @@ module _ (d : Shape) (h : List Entry) (w : ℕ) (low : w < d.workers) (legal : I
 
   -- the worker has a cell of no other slot
   pub inside-only : (t : ℕ) → t ≢ slot_of p → has_own_cell p t ≡ false
-  inside-only t other = false-of (has_own_cell p t)
+  inside-only t other = false_from_ne_true (has_own_cell p t)
       (λ inside. other (inside-one d h legal w t (id_at p) low inside (own-inside p t inside) (slot_of p) (open-has X inside-at.0) inside-at.1))
 
   pub inside-holds : (t : ℕ) (k : Held) → IsHeldBy w k ((state_after d h).slots t) → t ≡ slot_of p

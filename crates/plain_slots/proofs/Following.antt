@@ -1,12 +1,12 @@
 -- What an object keeps follows its calls.
-use Rattle.std.proofs.Common.{◌≡◌, ◌≢◌, ℕ, zero, suc, ◌+◌, ◌<◌, ◌≤◌, Bool, true, false, cond, List, ◌∷◌, set, get_or, slice_get, slice_set, Some, refl, sym, ap, ◌∙◌, subst, arith}
+use Rattle.std.proofs.Common.{◌≡◌, ◌≢◌, ℕ, ◌<◌, ◌≤◌, Bool, List, ◌∷◌, set, get_or, slice_get, slice_set, Some, sym, ap, ◌∙◌, subst, arith}
 use Rattle.std.proofs.lemmas.Option.{get_or_from_slice_get}
 use Rattle.slot_history.specs.declared.shape.Shape.{Shape}
 use Rattle.slot_history.specs.declared.shape.TheConstants.{MOST_WORKERS}
 use Rattle.slot_history.specs.declared.act.Act.{Act}
 use Rattle.slot_history.specs.declared.place.Place.{Place}
-use Rattle.slot_history.specs.declared.place.Place.TheVariants.{Free, Entered, Astray, Inside as At, Used, Behind, Leading, Asking, Owing, Holding, Announcing}
-use Rattle.slot_history.specs.Sets.{upd, count_of}
+use Rattle.slot_history.specs.declared.place.Place.TheVariants.{Free, Asking, Announcing}
+use Rattle.slot_history.specs.Sets.{upd}
 use Rattle.slot_history.specs.States.{SlotState, ObjectState, slot_of, owes}
 use Rattle.slot_history.specs.Steps.{site, moved, slot_after, changes_after, returns_after, admitted_after, finished_after, next}
 use Rattle.slot_history.specs.Allowed.{IsAllowed}
@@ -14,9 +14,9 @@ use Rattle.slot_history.specs.Histories.{IsLegal}
 use Rattle.slot_history.specs.Table.{Duty, Meets, IsTable}
 use Rattle.slot_history.specs.Bounds.{IsPlaceWithin, IsWithin}
 use Rattle.slot_history.proofs.Table.{table}
-use Rattle.slot_history.proofs.Within.{within}
+use Rattle.slot_history.proofs.Within.{within, within-slots}
 use Rattle.slot_history.proofs.Duties.{asking-leads}
-use Rattle.slot_history.proofs.Sets.{upd-same}
+use Rattle.slot_history.proofs.Sets.{upd-same, count-most}
 use Rattle.plain_slots.specs.declared.object.Object.TheInside.{Inside}
 use Rattle.plain_slots.specs.declared.log.Logged.{Logged}
 use Rattle.plain_slots.specs.declared.slot.Slot.{Slot}
@@ -29,14 +29,6 @@ use Rattle.plain_slots.proofs.Objects.{after-call, slots-kept, debts-kept}
 -- an element that is known is the one that is read
 pub read : {A : Type 0} (l : List A) (i : ℕ) (x r : A) → slice_get l i ≡ Some x → r ≡ get_or l i r → r ≡ x
 read l i x r is e = e ∙ get_or_from_slice_get l i x r is
-
-count-step : (b : Bool) (k n : ℕ) → k ≤ n → cond b 1 0 + k ≤ suc n
-count-step true k n h = omega arith
-count-step false k n h = omega arith
-
-count-most : (n : ℕ) (f : ℕ → Bool) → count_of n f ≤ n
-count-most zero f = omega arith
-count-most (suc n) f = count-step (f n) (count_of n f) n (count-most n f)
 
 counted : (d : Shape) (p : Place) (D : Duty) → d.workers ≤ MOST_WORKERS → Meets d (slot_of p) D p → IsPlaceWithin d p → IsCounted p
 counted d (Asking s id n m) D most meets low =
@@ -146,19 +138,6 @@ makes d log new old w a a' view is wrote legal = record {
 }
 
 -- ---- where a call works
-
-pub within-slots : (d : Shape) (p : Place) → IsPlaceWithin d p → p ≢ Free → slot_of p < d.slots
-within-slots d Free low ne = absurd (ne refl)
-within-slots d (Announcing s again told) low ne = low.0
-within-slots d (Entered s) low ne = low
-within-slots d (Astray s) low ne = low
-within-slots d (At s id) low ne = low
-within-slots d (Used s id) low ne = low
-within-slots d (Behind s id) low ne = low
-within-slots d (Leading s id) low ne = low
-within-slots d (Asking s id n m) low ne = low
-within-slots d (Owing s id) low ne = low
-within-slots d (Holding s h) low ne = low
 
 -- a worker, the place that was read for it, and the slot that this names
 pub record Spot (o : Inside) (w : ℕ) (p : Place) (k : ℕ) : Type 0 where

@@ -1,11 +1,11 @@
 -- The ids of slots: whoever is inside with one is so at the one slot that has it, and one that is installed was never
 -- claimed of.
-use Rattle.std.proofs.Common.{◌≡◌, ℕ, ◌+◌, ◌/◌, ◌<◌, ◌≤◌, ◌⊎◌, true, cond, eqb, List, [], ◌∷◌, Some, ⊎_elim, refl, ap, ◌∙◌, eq-eqb, arith}
+use Rattle.std.proofs.Common.{◌≡◌, ℕ, ◌+◌, ◌/◌, ◌<◌, ◌≤◌, true, cond, eqb, List, [], ◌∷◌, Some, refl, ap, ◌∙◌, eq-eqb, arith}
 use Rattle.slot_history.specs.declared.shape.Shape.{Shape}
 use Rattle.slot_history.specs.declared.shape.TheConstants.{STAGES}
 use Rattle.slot_history.specs.declared.act.Act.TheVariants.{Install}
 use Rattle.slot_history.specs.declared.act.Entry.{Entry}
-use Rattle.slot_history.specs.States.{SlotState, Empty, Reserved, Open, Shut, Finishing, has_id, id_of, is_open, is_shut, is_inside, has_own_cell}
+use Rattle.slot_history.specs.States.{SlotState, Open, Shut, Finishing, has_id, id_of, is_inside, has_own_cell}
 use Rattle.slot_history.specs.Steps.{state_after}
 use Rattle.slot_history.specs.Histories.{IsLegal, entry, installs_of, place_of, ranges_of}
 use Rattle.slot_history.specs.Lives.{query_in}
@@ -14,20 +14,13 @@ use Rattle.slot_history.proofs.Places.{inside-slots}
 use Rattle.slot_history.proofs.Book.{book}
 use Rattle.slot_history.proofs.Counts.{only-once}
 use Rattle.slot_history.proofs.Claims.{no-early-claims}
+use Rattle.slot_history.proofs.Growth.{open-has}
 
 id-query : (X : SlotState) → has_id X ≡ true → query_in X ≡ Some (id_of X / STAGES)
 id-query (Open t) has = refl
 id-query (Shut t e) has = refl
 id-query (Finishing id w h) has = refl
 id-query _ has = absurd (cc)
-
--- a slot with a task set that may be worked on has an id
-pub open-has : (X : SlotState) → (is_open X ≡ true) ⊎ (is_shut X ≡ true) → has_id X ≡ true
-open-has (Open t) h = refl
-open-has (Shut t e) h = refl
-open-has (Finishing id w k) h = refl
-open-has Empty h = ⊎_elim (λ k. k) (λ k. k) h
-open-has (Reserved w k) h = ⊎_elim (λ k. k) (λ k. k) h
 
 -- whoever is inside with an id is so at the one slot that has it
 pub inside-one : (d : Shape) (h : List Entry) → IsLegal d h → (v t id : ℕ) → v < d.workers → has_own_cell (place_of d h v) t ≡ true → is_inside (place_of d h v) id ≡ true

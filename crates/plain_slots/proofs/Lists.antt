@@ -1,14 +1,14 @@
 -- Lists whose elements are the values of a function, with one of them set.
-use Rattle.std.proofs.Common.{◌≡◌, ◌≢◌, ℕ, zero, suc, ◌+◌, ◌*◌, ◌<◌, List, [], ◌∷◌, length, set, slice_get, Some, refl, sym, ap, ◌∙◌, subst, arith}
+use Rattle.std.proofs.Common.{◌≡◌, ◌≢◌, ℕ, zero, suc, ◌+◌, ◌*◌, ◌<◌, List, [], ◌∷◌, length, set, slice_get, Some, refl, sym, ap, ◌∙◌, subst, arith, mul_comm, length-set, get_or-set_same}
+use Rattle.std.proofs.lemmas.Nat.{mul-add-lt}
+use Rattle.std.proofs.lemmas.Option.{slice_get-get_or}
 use native.Mathlib.Decide.{ℕ_discrete}
 use Rattle.slot_history.specs.Sets.{upd}
 use Rattle.slot_history.proofs.Sets.{upd-same, upd-else}
 
 module _ {A : Type 0} where
   pub get-set_same : (l : List A) (i : ℕ) (x : A) → i < length l → slice_get (set l i x) i ≡ Some x
-  get-set_same [] i x h = absurd (omega arith)
-  get-set_same (y ∷ ys) zero x h = refl
-  get-set_same (y ∷ ys) (suc i) x h = get-set_same ys i x (omega arith)
+  get-set_same l i x h = slice_get-get_or (set l i x) i x (rw (length-set l i x) h) ∙ ap Some (get_or-set_same l i x x h)
 
   pub get-set_other : (l : List A) (i j : ℕ) (x : A) → j ≢ i → slice_get (set l i x) j ≡ slice_get l j
   get-set_other [] i j x n = refl
@@ -40,21 +40,6 @@ lists-kept-at show n l f i x same is k in_n (no ne) = is k in_n ∙ ap (λ y. So
 pub lists-kept : {A X : Type 0} (show : X → A) (n : ℕ) (l : List A) (f : ℕ → X) (i : ℕ) (x : X) → show x ≡ show (f i) → Lists show n l f → Lists show n l (upd f i x)
 lists-kept show n l f i x same is k in_n = lists-kept-at show n l f i x same is k in_n (ℕ_discrete k i)
 
--- of pairs, at s * n + v: two of them are one only where both numbers are
-pub same-pair : (n s t u v : ℕ) → u < n → v < n → s * n + u ≡ t * n + v → (s ≡ t) × (u ≡ v)
-same-pair n zero zero u v hu hv e = (refl, omega arith)
-same-pair n zero (suc t) u v hu hv e = absurd (let m : suc t * n ≡ t * n + n = omega arith in omega arith)
-same-pair n (suc s) zero u v hu hv e = absurd (let m : suc s * n ≡ s * n + n = omega arith in omega arith)
-same-pair n (suc s) (suc t) u v hu hv e =
-    let m : suc s * n ≡ s * n + n = omega arith in
-    let k : suc t * n ≡ t * n + n = omega arith in
-    let r = same-pair n s t u v hu hv (omega arith) in (ap suc r.0, r.1)
-
--- and it is within all of them
+-- of pairs, at s * n + v, each is within all of them
 pub pair-within : (m n s v : ℕ) → s < m → v < n → s * n + v < m * n
-pair-within zero n s v hs hv = absurd (omega arith)
-pair-within (suc m) n zero v hs hv = let k : suc m * n ≡ m * n + n = omega arith in omega arith
-pair-within (suc m) n (suc s) v hs hv =
-    let k : suc m * n ≡ m * n + n = omega arith in
-    let j : suc s * n ≡ s * n + n = omega arith in
-    let ih : s * n + v < m * n = pair-within m n s v (omega arith) hv in omega arith
+pair-within m n s v hs hv = subst (λ k. s * n + v < k) (mul_comm n m) (mul-add-lt s n v m hs hv)

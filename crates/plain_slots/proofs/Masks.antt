@@ -33,14 +33,11 @@ cond-or : (b c : Bool) → ◌≡◌ {A = ℕ} (cond b 1 (cond c 1 0)) (cond (co
 cond-or true c = refl
 cond-or false c = refl
 
-low-bit : (s : ℕ) → s % 64 < 64
-low-bit s = omega arith
-
 -- the word of the slot's part
 mask-comes : (f : ℕ → Bool) (n s : ℕ) → IsMask (s / 64) f n → IsMask (s / 64) (upd f s true) (bit_or n (1 * 2 ^ (s % 64) % 2 ^ 64))
 mask-comes f n s was = record {
   small = or_lt 64 n (1 * 2 ^ (s % 64) % 2 ^ 64) was.small (omega arith);
-  each = λ j low. set-bit n (s % 64) j (cond (f (s / 64 * 64 + j)) 1 0) (low-bit s) (was.each j low) (ℕ_discrete j (s % 64))
+  each = λ j low. set-bit n (s % 64) j (cond (f (s / 64 * 64 + j)) 1 0) (omega arith) (was.each j low) (ℕ_discrete j (s % 64))
       ∙ cond-or (eqb j (s % 64)) (f (s / 64 * 64 + j)) ∙ ap (λ b. cond (cond b true (f (s / 64 * 64 + j))) 1 0) (sym (place-eqb s j low (ℕ_discrete j (s % 64))));
 }
 

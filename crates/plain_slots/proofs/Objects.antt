@@ -1,5 +1,6 @@
 -- What is kept of the object at run time follows the history.
 use Rattle.std.proofs.Common.{◌≡◌, ◌≢◌, ℕ, ◌+◌, ◌*◌, ◌<◌, Bool, List, ◌∷◌, length, set, slice_get, Some, sym, ap, ◌∙◌, length-set, arith}
+use Rattle.std.proofs.lemmas.Nat.{same_from_place}
 use native.Mathlib.Decide.{ℕ_discrete}
 use Rattle.slot_history.specs.declared.shape.Shape.{Shape}
 use Rattle.slot_history.specs.declared.act.Act.{Act}
@@ -14,7 +15,7 @@ use Rattle.plain_slots.specs.declared.slot.Slot.{Slot}
 use Rattle.plain_slots.specs.Log.{call}
 use Rattle.plain_slots.specs.Slots.{shown}
 use Rattle.plain_slots.specs.Objects.{state_in, HasSlots, HasDebts, HasPlaces, HasMasks, IsObject}
-use Rattle.plain_slots.proofs.Lists.{lists-set, lists-kept, get-set_same, get-set_other, same-pair, pair-within}
+use Rattle.plain_slots.proofs.Lists.{lists-set, lists-kept, get-set_same, get-set_other, pair-within}
 
 module _ (d : Shape) where
   pub slots-set : (slots : List Slot) (f : ℕ → SlotState) (k : ℕ) (x : SlotState) → HasSlots d slots f → k < d.slots → HasSlots d (set slots k (shown x)) (upd f k x)
@@ -50,7 +51,7 @@ module _ (d : Shape) where
       ap (λ j. slice_get (set owing (k * d.workers + u) b) (j * d.workers + v)) e ∙ debts-set-here owing f k u x b has in_k in_u now same v in_v (ℕ_discrete v u)
       ∙ ap (λ y. Some (owes y v)) (sym (upd-same f k x) ∙ ap (upd f k x) (sym e))
   debts-set-at owing f k u x b has in_k in_u now same s v in_s in_v (no ne) =
-      get-set_other owing (k * d.workers + u) (s * d.workers + v) b (λ e. ne (same-pair d.workers s k v u in_v in_u e).0) ∙ has.are s v in_s in_v ∙ ap (λ y. Some (owes y v)) (sym (upd-else f k x s ne))
+      get-set_other owing (k * d.workers + u) (s * d.workers + v) b (λ e. ne (same_from_place s v k u d.workers in_v in_u e).0) ∙ has.are s v in_s in_v ∙ ap (λ y. Some (owes y v)) (sym (upd-else f k x s ne))
 
   -- the debt of one worker at one slot changed
   pub debts-set : (owing : List Bool) (f : ℕ → SlotState) (k u : ℕ) (x : SlotState) (b : Bool) → HasDebts d owing f → k < d.slots → u < d.workers → owes x u ≡ b → ((v : ℕ) → v < d.workers → v ≢ u → owes x v ≡ owes (f k) v)

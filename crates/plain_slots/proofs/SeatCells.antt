@@ -1,13 +1,13 @@
 -- An exchange of a cell over a seat of a table.
 use Rattle.std.proofs.Common.{◌≡◌, ℕ, ◌+◌, ◌*◌, ◌<◌, true, List, ◌∷◌, length, set, get_or, slice_get, Option, Some, IfSome, sym, ap, ◌∙◌, subst, arith}
 use Rattle.std.proofs.lemmas.Option.{slice_get_read}
-use mathlib.Core.Bool.{true≢false}
 use Rattle.slot_history.specs.declared.place.Held.{Held}
 use Rattle.slot_history.specs.declared.place.Place.TheVariants.{Holding}
 use Rattle.slot_history.specs.States.{slot_of}
 use Rattle.slot_history.specs.Histories.{IsLegal}
 use Rattle.slot_history.specs.Bounds.{IsPlaceWithin}
 use Rattle.slot_history.proofs.Within.{within}
+use Rattle.plain_slots.proofs.ExchangedCells.{has-within}
 use Rattle.plain_slots.specs.declared.note.Note.{Note}
 use Rattle.plain_slots.specs.declared.log.Logged.TheVariants.{Exchanged}
 use Rattle.plain_slots.specs.declared.token.Holder.{Holder}
@@ -19,7 +19,6 @@ use Rattle.plain_slots.specs.Plain.{Plain, IsPlain}
 use Rattle.plain_slots.specs.Seats.{desk_over, trail_in}
 use Rattle.plain_slots.specs.Tokens.{IsHolder}
 use Rattle.plain_slots.proofs.CellsExchanged.{own-cell-says, plain-own-cell, cell-says, plain-cell}
-use Rattle.plain_slots.proofs.Following.{within-slots}
 use Rattle.plain_slots.proofs.Lists.{pair-within}
 use Rattle.plain_slots.proofs.Trails.{place-trail}
 use Rattle.plain_slots.proofs.Seated.{to-object, to-seat, own-below, shape-for}
@@ -76,8 +75,7 @@ module _ {B Sub : Type 0} (total : Sub → ℕ → Option ℕ) (fits : Sub → �
     own-has = to-object o subject start now view shape same w (λ D l. has_cell (place_at D (trail_in D.worker (calls_of l))) ≡ true) has
 
     own-slots : slot_of (place_in o w) < o.shape.slots
-    own-slots = within-slots o.shape (place_in o w) ((within o.shape (calls_of o.log) legal).places w)
-        (λ e. let h : has_cell (place_in o w) ≡ true = ap has_cell (sym (place-trail o.shape w (calls_of o.log))) ∙ own-has in true≢false (sym h ∙ ap has_cell e))
+    own-slots = has-within o.shape (place_in o w) (ap has_cell (sym (place-trail o.shape w (calls_of o.log))) ∙ own-has) ((within o.shape (calls_of o.log) legal).places w)
 
     pub own-index : i < length cells
     own-index = let c = ok.count in let p = pair-within o.shape.slots o.shape.workers (slot_of (place_in o w)) w own-slots below in omega arith

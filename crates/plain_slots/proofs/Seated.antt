@@ -1,11 +1,12 @@
 -- A call over a seat of a table.
 use Rattle.std.proofs.Common.{◌≡◌, ◌≢◌, ℕ, ◌+◌, ◌<◌, ◌⊎◌, ⊎_elim, min, IsSome, IsSomeAnd, Bool, true, false, cond, eqb, ◌&&◌, inl, inr, arith, List, [], ◌∷◌, ◌++◌, All, Option, Some, None, slice_get, refl, sym, ap, ap₂, ◌∙◌, subst, eq-eqb, ne_eqb}
 use Rattle.std.proofs.lemmas.List.Elements.{All-cons}
-use Rattle.std.proofs.lemmas.Option.{slice_get_cases, get_or_from_slice_get}
+use Rattle.std.proofs.lemmas.Option.{get_or_from_slice_get, slice_get_within}
 use mathlib.Core.Bool.{true≢false}
 use mathlib.Core.Logic.{∥∥₁_map}
 use native.Mathlib.Decide.{ℕ_discrete}
 use Rattle.std.proofs.lemmas.Bool.{cond_both}
+use Rattle.std.specs.Option.{is_some}
 use Rattle.slot_history.specs.declared.shape.Shape.{Shape}
 use Rattle.slot_history.specs.declared.act.Act.{Act}
 use Rattle.slot_history.specs.declared.act.Act.TheVariants.{Enter, LookOpen, LookInvalid, LookVacant, ClaimRange, ClaimUsed, ShutWon, ShutLost, LeaveLeft, LeaveOwe, PayLast, PayDone, MarkMarked, MarkMissed, SweepLast, SweepOthers, ReserveGot, ReserveTaken, AdmitGot, AdmitLost, Arrivals, Finished, Note as NoteDone, Total, Install, Release, Tell, TakeReturn, TakeChange}
@@ -20,7 +21,7 @@ use Rattle.slot_history.specs.Histories.{IsLegal, IsOfTotals, Begins, Called, en
 use Rattle.slot_history.proofs.Sets.{pick, upd-same}
 use Rattle.slot_history.proofs.Own.{place-mine, place-other}
 use Rattle.slot_history.proofs.Table.{table}
-use Rattle.slot_history.proofs.Within.{within}
+use Rattle.slot_history.proofs.Within.{within, within-slots}
 use Rattle.slot_history.proofs.Places.{inside-slots}
 use Rattle.plain_slots.specs.declared.note.Note.{Note}
 use Rattle.plain_slots.specs.declared.note.Note.TheVariants.{Kept, Fresh}
@@ -55,7 +56,6 @@ use Rattle.plain_slots.specs.Plain.{Plain, IsPlain, InstallsOf, AllOfTotals, Hol
 use Rattle.plain_slots.specs.Objects.{Story, MakesCall, place_in, state_in}
 use Rattle.plain_slots.specs.Tokens.{IsHolder, IsCoordinator, IsAnnouncer, IsDone, opens, last_opened}
 use Rattle.plain_slots.specs.Seats.{IsSince, desk_over, trail_in}
-use Rattle.plain_slots.proofs.Following.{within-slots}
 use Rattle.plain_slots.proofs.Trails.{own-trail, place-trail}
 use Rattle.plain_slots.proofs.OwnCells.{NotesAllow}
 use Rattle.plain_slots.proofs.CellsKept.{plain-call}
@@ -222,9 +222,6 @@ module _ {Sub : Type 0} (o : Story) (subject : Sub) (start now : Plain Sub) (vie
 
 -- ---- what a caller needs of a reply's numbers
 
-some-is : (o : Option ℕ) (x : ℕ) → o ≡ Some x → IsSome o
-some-is o x e = subst IsSome (sym e) refl
-
 -- of the table's object o, which kept its task sets, after a call of w
 module _ (totals : ℕ → Option ℕ) (o : Story) (sets : (s : ℕ) → s < o.shape.slots → HoldsTaskSet totals ((state_in o.shape o.log).slots s)) (w : ℕ) where
   abbrev S : ObjectState
@@ -237,14 +234,14 @@ module _ (totals : ℕ → Option ℕ) (o : Story) (sets : (s : ℕ) → s < o.s
   in-slots a new m p at busy = within-slots o.shape p (subst (IsPlaceWithin o.shape) at ((within o.shape (calls_of o.log) (found a new m).2).places w)) busy
 
   open-set : (x : SlotState) → HoldsTaskSet totals x → is_open x ≡ true → IsSome (totals (id_of x))
-  open-set (Open t) has open_ = some-is (totals t.id) t.total has
+  open-set (Open t) has open_ = ap is_some has
   open-set Empty has open_ = absurd (true≢false (sym open_))
   open-set (Reserved u h) has open_ = absurd (true≢false (sym open_))
   open-set (Shut t e) has open_ = absurd (true≢false (sym open_))
   open-set (Finishing id u h) has open_ = absurd (true≢false (sym open_))
 
   owed-set : (x : SlotState) (v : ℕ) → HoldsTaskSet totals x → owes x v ≡ true → IsSome (totals (id_of x))
-  owed-set (Shut t e) v has owed = some-is (totals t.id) t.total has
+  owed-set (Shut t e) v has owed = ap is_some has
   owed-set Empty v has owed = absurd (true≢false (sym owed))
   owed-set (Reserved u h) v has owed = absurd (true≢false (sym owed))
   owed-set (Open t) v has owed = absurd (true≢false (sym owed))
@@ -329,7 +326,7 @@ leave-allows totals d w p notes (leave.Owe x) h = h
 
 -- an element of a list whose elements are None
 pub none-of : {A : Type 0} (l : List (Option A)) → All (λ x. x ≡ None) l → (i : ℕ) (x : Option A) → slice_get l i ≡ Some x → x ≡ None
-none-of l all i x is = ⊎_elim (λ (y, low, at, read_). sym (get_or_from_slice_get l i x x is) ∙ all i x low) (λ (past, at). absurd (cc (is, at))) (slice_get_cases l i).1
+none-of l all i x is = sym (get_or_from_slice_get l i x x is) ∙ all i x (slice_get_within l i x is)
 
 -- ---- tokens after a call
 

@@ -16,10 +16,11 @@ use Rattle.slot_history.specs.Table.{IsTable}
 use Rattle.slot_history.proofs.Table.{table}
 use Rattle.slot_history.proofs.Own.{place-mine, place-other, ranges-mine, ranges-other}
 use Rattle.slot_history.proofs.Holdings.{holder-slot}
+use Rattle.slot_history.proofs.Duties.{IsHeldBy}
 use Rattle.plain_slots.specs.declared.note.Note.{Note}
 use Rattle.plain_slots.specs.declared.note.Note.TheVariants as note
 use Rattle.plain_slots.specs.Plain.{CellAt}
-use Rattle.plain_slots.proofs.CellSteps.{IsHeldBy, cell-claimed, cell-shut, cell-ended, cell-noted, cell-totalled, cell-reserved, cell-admitted, cell-released, cell-finalised, cell-opened}
+use Rattle.plain_slots.proofs.CellSteps.{cell-claimed, cell-shut, cell-ended, cell-noted, cell-totalled, cell-reserved, cell-admitted, cell-released, cell-finalised, cell-opened}
 use Rattle.plain_slots.proofs.CellPlaces.{held-outside, note-mine, notes_after}
 use Rattle.plain_slots.proofs.Ids.{unclaimed}
 use Rattle.plain_slots.proofs.OwnCells.{NotesAllow}

@@ -1,6 +1,5 @@
 -- A call and the task sets in the slots: they are of the subject.
-use Rattle.std.proofs.Common.{◌≡◌, ℕ, ◌<◌, Option, Some, None, IsSome, unwrap_or, inl, inr, refl, sym, ◌∙◌, subst}
-use mathlib.Core.Bool.{true≢false}
+use Rattle.std.proofs.Common.{ℕ, ◌<◌, Option, inl, inr, sym, ◌∙◌, subst}
 use Rattle.slot_history.specs.declared.shape.Shape.{Shape}
 use Rattle.slot_history.specs.declared.act.Act.{Act}
 use Rattle.slot_history.specs.declared.act.Act.TheVariants.{ClaimRange, ClaimUsed, ShutWon, PayLast, PayDone, MarkMarked, MarkMissed, SweepLast, SweepOthers, ReserveGot, AdmitGot, Note as NoteDone, Total, Install, Release}
@@ -12,9 +11,9 @@ use Rattle.slot_history.specs.Allowed.{IsAllowed}
 use Rattle.slot_history.specs.Table.{IsTable}
 use Rattle.slot_history.proofs.Sets.{some-unwrapped}
 use Rattle.slot_history.proofs.Holdings.{holder-slot}
+use Rattle.slot_history.proofs.Duties.{IsHeldBy}
 use Rattle.plain_slots.specs.declared.note.Note.{Note}
 use Rattle.plain_slots.specs.Plain.{InstallsOf, HoldsTaskSet}
-use Rattle.plain_slots.proofs.CellSteps.{IsHeldBy}
 use Rattle.plain_slots.proofs.OwnCells.{NotesAllow}
 
 module _ (totals : ℕ → Option ℕ) where

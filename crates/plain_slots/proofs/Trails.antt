@@ -1,6 +1,7 @@
 -- What the trail of a worker of a one-thread form says of the history.
 use Rattle.std.proofs.Common.{◌≡◌, ◌≢◌, ℕ, ◌+◌, ◌*◌, ◌/◌, ◌%◌, ◌<◌, true, false, cond, List, [], ◌∷◌, inl, inr, refl, sym, ap, ap₂, ◌∙◌, subst, eq-eqb, ne_eqb, arith}
 use Rattle.std.specs.Prelude.{unwrap_or}
+use Rattle.std.proofs.lemmas.Bool.{false_from_ne_true}
 use mathlib.Core.Logic.{dite}
 use mathlib.Core.Bool.{true≢false}
 use native.Mathlib.Decide.{ℕ_discrete}
@@ -20,10 +21,10 @@ use Rattle.slot_history.proofs.Table.{table}
 use Rattle.slot_history.proofs.Own.{own-other, place-own, place-other, ranges-own, ranges-mine, ranges-other}
 use Rattle.slot_history.proofs.Places.{inside-cell}
 use Rattle.slot_history.proofs.Holdings.{holder-slot, slots-sound}
+use Rattle.slot_history.proofs.Duties.{IsHeldBy}
 use Rattle.plain_slots.specs.Cells.{finalised_id}
 use Rattle.plain_slots.specs.Seats.{trail_in}
-use Rattle.plain_slots.proofs.CellSteps.{IsHeldBy}
-use Rattle.plain_slots.proofs.CellPlaces.{false-of, held-outside}
+use Rattle.plain_slots.proofs.CellPlaces.{held-outside}
 use Rattle.plain_slots.proofs.Ids.{inside-one}
 
 trail-mine : (e : Entry) (h : List Entry) (w : ℕ) → w ≡ e.worker → trail_in w (e ∷ h) ≡ e ∷ h
@@ -61,7 +62,7 @@ finalises w k X (inr (id, is)) sound again =
 module _ (d : Shape) (w s : ℕ) (k : Held) (again : k.again ≡ true) where
   -- nobody is inside with it
   finalised-outside : (h : List Entry) → IsLegal d h → w < d.workers → place_of d h w ≡ Holding s k → (v : ℕ) → v < d.workers → is_inside (place_of d h v) (finalised_id k) ≡ false
-  finalised-outside h legal low at v in_v = false-of (is_inside (place_of d h v) (finalised_id k)) (λ inside.
+  finalised-outside h legal low at v in_v = false_from_ne_true (is_inside (place_of d h v) (finalised_id k)) (λ inside.
       let S : ObjectState = state_after d h in
       let held : IsHeldBy w k (S.slots s) = holder-slot d S (table d h legal) w s k low at in
       let has = finalises w k (S.slots s) held (slots-sound d h legal s) again in

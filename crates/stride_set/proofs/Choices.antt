@@ -1,6 +1,5 @@
-use Rattle.std.proofs.Common.{◌≡◌, ℕ, ◌+◌, ◌<◌, ◌≤◌, ◌&&◌, Bool, true, false, Option, Some, None, MatchOption, suc, zero, cond, nat_lt, refl, sym, ap, subst, ◌∙◌, ⊎_elim, add-one, arith}
+use Rattle.std.proofs.Common.{◌≡◌, ℕ, ◌+◌, ◌<◌, ◌≤◌, ◌&&◌, Bool, true, false, Option, Some, None, MatchOption, suc, zero, cond, nat_lt, refl, sym, ap, subst, ◌∙◌, ⊎_elim, add-one, below_more, ltb-true, ltb-false, arith}
 use Rattle.std.proofs.lemmas.Bool.{cases_lt, false≢true}
-use Rattle.std.proofs.lemmas.Bool.Decides.{nat_tests}
 use Rattle.stride_set.specs.Slots.{comes_before, choice_from, IsLeastActive}
 
 -- what the choice of n slots says
@@ -28,10 +27,6 @@ takes n active pass on better = record {
     same : (t : ℕ) → t < suc n → n ≤ t → t ≡ n
     same t below ge = omega arith
 
--- among no more slots than before there is none to choose
-none_still : (n : ℕ) (active : ℕ → Bool) → active n ≡ false → ((s : ℕ) → s < n → active s ≡ false) → (s : ℕ) → s < suc n → active s ≡ false
-none_still n active off h s below = ⊎_elim (h s) (λ ge. let same : n ≡ s = omega arith in subst (λ k. active k ≡ false) same off) (cases_lt s n)
-
 -- where none was active, an active one is better
 first_one : (n : ℕ) (active : ℕ → Bool) (pass : ℕ → ℕ) → ((s : ℕ) → s < n → active s ≡ false) → (t : ℕ) → t < n → active t ≡ true → pass n < pass t
 first_one n active pass h t below on = absurd (false≢true (sym (h t below) ∙ on))
@@ -42,19 +37,13 @@ choice_from-more n active pass None h = by_case (active n) refl
   where
     by_case : (b : Bool) → active n ≡ b → IsChoiceOf (suc n) active pass (cond (b && true) (Some n) None)
     by_case true on = takes n active pass on (first_one n active pass h)
-    by_case false off = none_still n active off h
+    by_case false off = λ s below. below_more (λ t. active t ≡ false) n h off s (omega arith)
 choice_from-more n active pass (Some s) h = by_case (active n) (nat_lt (pass n) (pass s)) refl refl
   where
-    below_from : nat_lt (pass n) (pass s) ≡ true → pass n < pass s
-    below_from e = grind (arith, nat_tests)
-
-    not_below : nat_lt (pass n) (pass s) ≡ false → pass s ≤ pass n
-    not_below e = grind (arith, nat_tests)
-
     by_case : (b c : Bool) → active n ≡ b → nat_lt (pass n) (pass s) ≡ c → IsChoiceOf (suc n) active pass (cond (b && c) (Some n) (Some s))
     by_case true true on less =
-        takes n active pass on (λ t below on_t. omega (arith, below_from less, h.least t below on_t))
-    by_case true false on not_less = keeps n active pass s (λ _. not_below not_less) h
+        takes n active pass on (λ t below on_t. omega (arith, ltb-true (pass n) (pass s) less, h.least t below on_t))
+    by_case true false on not_less = keeps n active pass s (λ _. ltb-false (pass n) (pass s) not_less) h
     by_case false c off less = keeps n active pass s (λ on. absurd (false≢true (sym off ∙ on))) h
 
 -- the choice is the active slot of least pass, the least slot among ties, and none where none is active

@@ -1,4 +1,4 @@
-use Rattle.std.proofs.Common.{◌≡◌, ℕ, ◌+◌, ◌-◌, ◌^◌, ◌<◌, ◌≤◌, ◌⊎◌, ◌&&◌, Bool, true, false, suc, zero, min, max, cond, refl, sym, ap, subst, ◌∙◌, ⊎_elim, inl, inr, arith}
+use Rattle.std.proofs.Common.{◌≡◌, ℕ, ◌+◌, ◌-◌, ◌^◌, ◌<◌, ◌≤◌, ◌⊎◌, ◌&&◌, Bool, true, false, suc, zero, min, max, cond, refl, sym, ap, ◌∙◌, ⊎_elim, inl, inr, below_more, arith}
 use Rattle.std.proofs.lemmas.Bool.{cases_lt, false≢true}
 use Rattle.stride_set.specs.Slots.{greatest, lead_of, spread_from}
 
@@ -68,15 +68,11 @@ HasEnds-none active pass = record {
   high_met = inl refl;
 }
 
--- what holds of the first n slots and of slot n holds of one more
-one_more : (P : ℕ → Type 0) (n : ℕ) → ((s : ℕ) → s < n → P s) → P n → (s : ℕ) → s < n + 1 → P s
-one_more P n below here s h = ⊎_elim (below s) (λ above. subst P (omega arith) here) (cases_lt s n)
-
 -- a slot that is not active changes no end
 pub HasEnds-skip : (n : ℕ) (active : ℕ → Bool) (pass : ℕ → ℕ) (low high : ℕ) → active n ≡ false → HasEnds n active pass low high → HasEnds (n + 1) active pass low high
 HasEnds-skip n active pass low high idle h = record {
-  low_below = one_more (λ s. active s ≡ true → low ≤ pass s) n h.low_below (λ on. absurd (false≢true (sym idle ∙ on)));
-  high_above = one_more (λ s. active s ≡ true → pass s ≤ high) n h.high_above (λ on. absurd (false≢true (sym idle ∙ on)));
+  low_below = below_more (λ s. active s ≡ true → low ≤ pass s) n h.low_below (λ on. absurd (false≢true (sym idle ∙ on)));
+  high_above = below_more (λ s. active s ≡ true → pass s ≤ high) n h.high_above (λ on. absurd (false≢true (sym idle ∙ on)));
   low_met = ⊎_elim inl (λ w. inr (w.0, omega (arith, w.1), w.2, w.3)) h.low_met;
   high_fits = h.high_fits;
   high_met = ⊎_elim inl (λ w. inr (w.0, omega (arith, w.1), w.2, w.3)) h.high_met;
@@ -85,8 +81,8 @@ HasEnds-skip n active pass low high idle h = record {
 -- an active one may be an end
 pub HasEnds-take : (n : ℕ) (active : ℕ → Bool) (pass : ℕ → ℕ) (low high : ℕ) → active n ≡ true → max high (pass n) < 2 ^ 128 → HasEnds n active pass low high → HasEnds (n + 1) active pass (min low (pass n)) (max high (pass n))
 HasEnds-take n active pass low high on fits h = record {
-  low_below = one_more (λ s. active s ≡ true → min low (pass n) ≤ pass s) n (λ s below on_s. omega (arith, h.low_below s below on_s)) (λ on_n. omega arith);
-  high_above = one_more (λ s. active s ≡ true → pass s ≤ max high (pass n)) n (λ s below on_s. omega (arith, h.high_above s below on_s)) (λ on_n. omega arith);
+  low_below = below_more (λ s. active s ≡ true → min low (pass n) ≤ pass s) n (λ s below on_s. omega (arith, h.low_below s below on_s)) (λ on_n. omega arith);
+  high_above = below_more (λ s. active s ≡ true → pass s ≤ max high (pass n)) n (λ s below on_s. omega (arith, h.high_above s below on_s)) (λ on_n. omega arith);
   low_met = ⊎_elim (λ lt. inr (n, omega arith, on, omega arith)) (λ ge. ⊎_elim (λ e. inl (omega arith)) (λ w. inr (w.0, omega (arith, w.1), w.2, omega (arith, w.3))) h.low_met) (cases_lt (pass n) low);
   high_fits = fits;
   high_met = ⊎_elim (λ lt. inr (n, omega arith, on, omega arith)) (λ ge. ⊎_elim (λ e. inl (omega arith)) (λ w. inr (w.0, omega (arith, w.1), w.2, omega (arith, w.3))) h.high_met) (cases_lt high (pass n));

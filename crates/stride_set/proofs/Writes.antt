@@ -52,33 +52,27 @@ record Becomes (slots : List Slot) (s : ℕ) (slot : Slot) (active : ℕ → Boo
   states : with_one (active_in slots) s slot.active ≡ active
   passes : with_one (pass_in slots) s slot.pass ≡ pass
 
+active_in-set : (slots : List Slot) (s : ℕ) (slot : Slot) (active : ℕ → Bool) (pass : ℕ → ℕ) → Becomes slots s slot active pass → active_in (set slots s slot) ≡ active
+active_in-set slots s slot active pass h = read-set (λ slot. slot.active) slots s slot h.within ∙ h.states
+
+pass_in-set : (slots : List Slot) (s : ℕ) (slot : Slot) (active : ℕ → Bool) (pass : ℕ → ℕ) → Becomes slots s slot active pass → pass_in (set slots s slot) ≡ pass
+pass_in-set slots s slot active pass h = read-set (λ slot. slot.pass) slots s slot h.within ∙ h.passes
+
 -- the spread after such a write
 spread_among-set : (slots : List Slot) (s : ℕ) (slot : Slot) (active : ℕ → Bool) (pass : ℕ → ℕ) → Becomes slots s slot active pass → spread_among (set slots s slot) ≡ spread_from (length slots) active pass
-spread_among-set slots s slot active pass h = λ i. spread_from (length-set slots s slot i) (states i) (passes i)
-  where
-    states : active_in (set slots s slot) ≡ active
-    states = read-set (λ slot. slot.active) slots s slot h.within ∙ h.states
-
-    passes : pass_in (set slots s slot) ≡ pass
-    passes = read-set (λ slot. slot.pass) slots s slot h.within ∙ h.passes
+spread_among-set slots s slot active pass h = λ i. spread_from (length-set slots s slot i) (active_in-set slots s slot active pass h i) (pass_in-set slots s slot active pass h i)
 
 -- and what contracts see then
 strides_of-set : (v : StrideState) (s : ℕ) (slot : Slot) (active : ℕ → Bool) (pass : ℕ → ℕ) (largest most widest : ℕ) → Becomes v.slots s slot active pass → largest ≡ most → widest ≡ max v.widest (spread_from (length v.slots) active pass)
     → strides_of (record { slots = set v.slots s slot; floor = v.floor; largest = largest; widest = widest }) ≡ record { slots = length v.slots; active = active; pass = pass; floor = v.floor; largest = most; widest = max v.widest (spread_from (length v.slots) active pass) }
 strides_of-set v s slot active pass largest most widest h l w = λ i. record {
   slots = length-set v.slots s slot i;
-  active = states i;
-  pass = passes i;
+  active = active_in-set v.slots s slot active pass h i;
+  pass = pass_in-set v.slots s slot active pass h i;
   floor = v.floor;
   largest = l i;
   widest = w i;
 }
-  where
-    states : active_in (set v.slots s slot) ≡ active
-    states = read-set (λ slot. slot.active) v.slots s slot h.within ∙ h.states
-
-    passes : pass_in (set v.slots s slot) ≡ pass
-    passes = read-set (λ slot. slot.pass) v.slots s slot h.within ∙ h.passes
 
 -- what `join_change` writes
 pub strides_of-join_change : (v : StrideState) (s widest : ℕ) → s < length v.slots

@@ -1,17 +1,11 @@
 -- Pieces that follow one another.
-use Rattle.std.proofs.Common.{◌≡◌, ℕ, ◌+◌, ◌-◌, ◌≤◌, List, ◌++◌, length, take, drop, Option, Some, None, ap, refl, append_assoc, arith, length-append, length-drop, sym, ◌∙◌}
+use Rattle.std.proofs.Common.{◌≡◌, ℕ, ◌+◌, ◌-◌, ◌≤◌, List, ◌++◌, length, take, drop, Option, Some, None, ap, refl, arith, length-append, length-drop, sym, ◌∙◌}
 use Rattle.std.specs.Io.{StartsWith}
 use Rattle.std.specs.Io.KnownBytes.{Appends, Keeps}
+use Rattle.std.proofs.KnownBytes.{Appends-trans}
 use Rattle.std.proofs.Math.Seq.{take-add}
 use Rattle.std.proofs.lemmas.List.{drop-drop, length-take-le}
 use Rattle.outside_io.specs.Pieces.{AppendsPrefix, IsPiece}
-
--- two pieces written one after the other are their bytes together
-Appends-append : (a b c : Option (List ℕ)) (xs ys : List ℕ) → Appends a b xs → Appends b c ys → Appends a c (xs ++ ys)
-Appends-append None b c xs ys p q = tt
-Appends-append (Some a) None c xs ys p q = elim p [ ]
-Appends-append (Some a) (Some b) None xs ys p q = elim q [ ]
-Appends-append (Some a) (Some b) (Some c) xs ys p q = q ∙ ap (λ v. v ++ ys) p ∙ append_assoc a xs ys
 
 -- what was written before a call that took nothing is a beginning of the text
 pub AppendsPrefix-Keeps : (a b c : Option (List ℕ)) (text : List ℕ) (count : ℕ) → count ≤ length text → Appends a b (take count text) → Keeps b c → AppendsPrefix a c text
@@ -26,7 +20,7 @@ Appends-next text rest a b c count is fits within before now =
     let done : ℕ = length text - length rest in
     let all : length text - length (drop count rest) ≡ done + count = omega (arith, length-drop count rest) in
     let joined : take (done + count) text ≡ take done text ++ take count rest = take-add done count text ∙ ap (λ v. take done text ++ take count v) (sym is) in
-    rw (all, joined) (Appends-append a b c _ _ before now)
+    rw (all, joined) (Appends-trans a b c _ _ before now)
 
 -- what is left of a text, and then left of that
 pub drop-next : (text rest : List ℕ) (count : ℕ) → rest ≡ drop (length text - length rest) text → count ≤ length rest → length rest ≤ length text → drop count rest ≡ drop (length text - length (drop count rest)) text

@@ -1,5 +1,5 @@
 -- Each call of the object keeps what is kept of it.
-use Rattle.std.proofs.Common.{◌≡◌, ◌≢◌, ℕ, ◌+◌, ◌*◌, ◌<◌, ◌≤◌, ◌⊎◌, Bool, true, false, cond, eqb, List, set, get_or, slice_get, IsSome, Option, Some, None, refl, sym, ap, ◌∙◌, subst, ⊎_elim, eq-eqb, eqb-true, arith}
+use Rattle.std.proofs.Common.{◌≡◌, ◌≢◌, ℕ, ◌+◌, ◌*◌, ◌<◌, ◌≤◌, ◌⊎◌, Bool, true, false, cond, eqb, List, set, get_or, slice_get, IsSome, Option, Some, None, refl, sym, ap, ◌∙◌, subst, eq-eqb, eqb-true, arith}
 use mathlib.Core.Bool.{true≢false}
 use Rattle.slot_history.specs.declared.shape.Shape.{Shape}
 use Rattle.slot_history.specs.declared.shape.TheConstants.{STAGES, MOST_CLAIM, MOST_TOTAL}
@@ -14,6 +14,7 @@ use Rattle.slot_history.specs.Steps.{site, slot_after, moved, claimed, shut_by, 
 use Rattle.slot_history.specs.Allowed.{IsAllowed}
 use Rattle.slot_history.proofs.Places.{inside-slots}
 use Rattle.slot_history.proofs.Duties.{owes-claimed, owes-shut, owes-held}
+use Rattle.slot_history.proofs.Growth.{open-shut-cases}
 use Rattle.plain_slots.specs.declared.object.Object.TheInside.{Inside}
 use Rattle.plain_slots.specs.declared.reply.Look.{Look}
 use Rattle.plain_slots.specs.declared.reply.Look.TheVariants as look
@@ -170,11 +171,7 @@ claim-fine d S w n s id p (Some r) at some most f = (s, id, at, some, most, f.0,
 
 -- a slot that is open or shut may be claimed from
 works-on : (x : SlotState) → (is_open x ≡ true) ⊎ (is_shut x ≡ true) → has_work (shown x) ≡ true
-works-on Empty k = absurd (⊎_elim (λ e. true≢false (sym e)) (λ e. true≢false (sym e)) k)
-works-on (Reserved u h) k = absurd (⊎_elim (λ e. true≢false (sym e)) (λ e. true≢false (sym e)) k)
-works-on (Open t) k = refl
-works-on (Shut t e) k = refl
-works-on (Finishing id u h) k = absurd (⊎_elim (λ e. true≢false (sym e)) (λ e. true≢false (sym e)) k)
+works-on x = open-shut-cases x (λ y. has_work (shown y) ≡ true) (λ t. refl) (λ t e. refl)
 
 -- the slot of a worker that is inside with an id is open or shut with it
 pub inside-work : (o : Inside) (ok : Kept o) (w : ℕ) (p : Place) (k id : ℕ) → Spot o w p k → has_own_cell p k ≡ true → is_inside p id ≡ true → has_work (shown ((now_of o).slots k)) ≡ true
@@ -212,11 +209,8 @@ shut-site (shut.Won y) p = refl
 shut-site shut.Lost p = refl
 
 shut-fine : (d : Shape) (S : ObjectState) (w s id : ℕ) (p : Place) (x : SlotState) → S.places w ≡ Used s id → S.slots s ≡ x → (is_open x ≡ true) ⊎ (is_shut x ≡ true) → IsAllowed d S w (shut_act (shut_of w p d (is_open x)))
-shut-fine d S w s id p (Open t) at is k = (s, id, at, rw is refl)
-shut-fine d S w s id p (Shut t e) at is k = (s, id, at, rw is refl)
-shut-fine d S w s id p Empty at is k = absurd (⊎_elim (λ e. true≢false (sym e)) (λ e. true≢false (sym e)) k)
-shut-fine d S w s id p (Reserved u h) at is k = absurd (⊎_elim (λ e. true≢false (sym e)) (λ e. true≢false (sym e)) k)
-shut-fine d S w s id p (Finishing jd u h) at is k = absurd (⊎_elim (λ e. true≢false (sym e)) (λ e. true≢false (sym e)) k)
+shut-fine d S w s id p x at is k = open-shut-cases x (λ y. S.slots s ≡ y → IsAllowed d S w (shut_act (shut_of w p d (is_open y))))
+    (λ t is. (s, id, at, rw is refl)) (λ t e is. (s, id, at, rw is refl)) k is
 
 shut-slot : (d : Shape) (w : ℕ) (p : Place) (x : SlotState) → slot_after d w (shut_act (shut_of w p d (is_open x))) x ≡ shut_by w x
 shut-slot d w p Empty = refl

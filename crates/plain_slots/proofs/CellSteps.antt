@@ -1,6 +1,6 @@
 -- What is said of a cell, when one of the things changes that it speaks of: the notes, the state of the slot, and on the
 -- side of its worker the place, the own note and the ranges.
-use Rattle.std.proofs.Common.{◌≡◌, ℕ, ◌⊎◌, Bool, true, false, List, [], Option, Some, None, IsSome, IsSomeAnd, refl, sym, subst, inl, inr, ⊎_elim}
+use Rattle.std.proofs.Common.{◌≡◌, ℕ, ◌⊎◌, Bool, true, false, List, [], Option, Some, None, IsSome, IsSomeAnd, refl, sym, subst, inl, inr}
 use mathlib.Core.Bool.{true≢false}
 use Rattle.slot_history.specs.declared.shape.Shape.{Shape}
 use Rattle.slot_history.specs.declared.act.Act.{Act}
@@ -9,6 +9,7 @@ use Rattle.slot_history.specs.declared.place.Held.{Held}
 use Rattle.slot_history.specs.States.{SlotState, Empty, Reserved, Open, Shut, Finishing, is_empty, is_open, is_shut, id_of, has_id, reservation, finalisation, next_id}
 use Rattle.slot_history.specs.Steps.{claimed, shut_by, ended, finalised_by, held_on, opened}
 use Rattle.slot_history.proofs.Duties.{IsHeldBy}
+use Rattle.slot_history.proofs.Growth.{open-shut-cases}
 use Rattle.plain_slots.specs.declared.note.Note.{Note}
 use Rattle.plain_slots.specs.declared.note.Note.TheVariants as note
 use Rattle.plain_slots.specs.Cells.{loosened, NoteSays, FitsNext}
@@ -78,11 +79,8 @@ module _ {B : Type 0} (fits : ℕ → List (ℕ × ℕ) → B → Type 0) (R : �
 
   -- a claim loosens the own note
   pub cell-claims : (R' : ℕ → List (ℕ × ℕ)) (X : SlotState) (n : Note) (N : ℕ → Note) (x : Option B) → (is_open X ≡ true) ⊎ (is_shut X ≡ true) → CellAt fits R X true n N x → CellAt fits R' X true (loosened n) N x
-  cell-claims R' (Open t) n N x open_ c = says-loosens (FitsClaims fits R t.id) (FitsClaims fits R' t.id) (λ b. ⊥) n x c
-  cell-claims R' (Shut t e) n N x open_ c = says-loosens (FitsClaims fits R t.id) (FitsClaims fits R' t.id) (λ b. ⊥) n x c
-  cell-claims R' Empty n N x open_ c = c
-  cell-claims R' (Reserved w h) n N x open_ c = c
-  cell-claims R' (Finishing id w h) n N x open_ c = absurd (⊎_elim (λ k. true≢false (sym k)) (λ k. true≢false (sym k)) open_)
+  cell-claims R' X n N x = open-shut-cases X (λ Y. CellAt fits R Y true n N x → CellAt fits R' Y true (loosened n) N x)
+      (λ t. says-loosens (FitsClaims fits R t.id) (FitsClaims fits R' t.id) (λ b. ⊥) n x) (λ t e. says-loosens (FitsClaims fits R t.id) (FitsClaims fits R' t.id) (λ b. ⊥) n x)
 
   -- ---- the notes of the holder
 

@@ -23,6 +23,7 @@ use Rattle.slot_history.proofs.Own.{place-mine, place-other}
 use Rattle.slot_history.proofs.Table.{table}
 use Rattle.slot_history.proofs.Within.{within, within-slots}
 use Rattle.slot_history.proofs.Places.{inside-slots}
+use Rattle.slot_history.proofs.Growth.{open-shut-cases}
 use Rattle.plain_slots.specs.declared.note.Note.{Note}
 use Rattle.plain_slots.specs.declared.note.Note.TheVariants.{Kept, Fresh}
 use Rattle.plain_slots.specs.declared.note.Note.TheVariants as note
@@ -265,11 +266,7 @@ module _ (totals : ℕ → Option ℕ) (o : Story) (sets : (s : ℕ) → s < o.s
   owes-set leave.Left new m = tt
 
   work-set : (x : SlotState) → HoldsTaskSet totals x → (is_open x ≡ true) ⊎ (is_shut x ≡ true) → totals (id_of x) ≡ Some (task_of x).total
-  work-set (Open t) has k = has
-  work-set (Shut t e) has k = has
-  work-set Empty has k = absurd (⊎_elim (λ e. true≢false (sym e)) (λ e. true≢false (sym e)) k)
-  work-set (Reserved u h) has k = absurd (⊎_elim (λ e. true≢false (sym e)) (λ e. true≢false (sym e)) k)
-  work-set (Finishing id u h) has k = absurd (⊎_elim (λ e. true≢false (sym e)) (λ e. true≢false (sym e)) k)
+  work-set x has k = open-shut-cases x (λ y. HoldsTaskSet totals y → totals (id_of y) ≡ Some (task_of y).total) (λ t has. has) (λ t e has. has) k has
 
   pub cuts : (n : ℕ) (c : Claim) (new : Story) → w < o.shape.workers → MakesCall o w (claim_act n c) new → IsCutRange (totals (id_at (S.places w))) n c
   cuts n (claim.Range from to) new low m =

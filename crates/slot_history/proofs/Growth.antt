@@ -1,29 +1,30 @@
 -- The task set of a slot stays the same while there is one, and its cursor does not fall.
-use Rattle.std.proofs.Common.{◌≡◌, ℕ, ◌+◌, ◌≤◌, ◌⊎◌, true, refl, ⊎_elim, arith}
+use Rattle.std.proofs.Common.{◌≡◌, ℕ, ◌+◌, ◌≤◌, ◌⊎◌, true, refl, sym, ⊎_elim, arith}
+use mathlib.Core.Bool.{true≢false}
 use Rattle.slot_history.specs.declared.shape.Shape.{Shape}
 use Rattle.slot_history.specs.declared.act.Act.{Act}
 use Rattle.slot_history.specs.declared.act.Act.TheVariants.{ClaimRange, ClaimUsed, ShutWon, PayLast, PayDone, MarkMarked, MarkMissed, SweepLast, SweepOthers, ReserveGot, AdmitGot, Note, Total, Install, Release}
-use Rattle.slot_history.specs.States.{SlotState, Empty, Reserved, Open, Shut, Finishing, task_of, has_id, is_open, is_shut}
+use Rattle.slot_history.specs.States.{TaskSet, Ending, SlotState, Empty, Reserved, Open, Shut, Finishing, task_of, has_id, is_open, is_shut}
 use Rattle.slot_history.specs.Steps.{slot_after, claimed, shut_by, ended, finalised_by, held_on, opened}
 use Rattle.slot_history.specs.Lives.{has_task}
 
 -- ---- the task set of the slot of a call
 
--- a slot that is open or shut has a task set
+-- what holds of open slots and of shut ones
+pub open-shut-cases : (x : SlotState) (P : SlotState → Type 0) → ((t : TaskSet) → P (Open t)) → ((t : TaskSet) (e : Ending) → P (Shut t e)) → (is_open x ≡ true) ⊎ (is_shut x ≡ true) → P x
+open-shut-cases (Open t) P opens shuts h = opens t
+open-shut-cases (Shut t e) P opens shuts h = shuts t e
+open-shut-cases Empty P opens shuts h = absurd (⊎_elim (λ k. true≢false (sym k)) (λ k. true≢false (sym k)) h)
+open-shut-cases (Reserved w k) P opens shuts h = absurd (⊎_elim (λ k. true≢false (sym k)) (λ k. true≢false (sym k)) h)
+open-shut-cases (Finishing id w k) P opens shuts h = absurd (⊎_elim (λ k. true≢false (sym k)) (λ k. true≢false (sym k)) h)
+
+-- each has a task set
 pub open-or-shut : (x : SlotState) → (is_open x ≡ true) ⊎ (is_shut x ≡ true) → has_task x ≡ true
-open-or-shut (Open t) h = refl
-open-or-shut (Shut t e) h = refl
-open-or-shut Empty h = ⊎_elim (λ k. k) (λ k. k) h
-open-or-shut (Reserved w k) h = ⊎_elim (λ k. k) (λ k. k) h
-open-or-shut (Finishing id w k) h = ⊎_elim (λ k. k) (λ k. k) h
+open-or-shut x = open-shut-cases x (λ y. has_task y ≡ true) (λ t. refl) (λ t e. refl)
 
 -- and an id
 pub open-has : (x : SlotState) → (is_open x ≡ true) ⊎ (is_shut x ≡ true) → has_id x ≡ true
-open-has (Open t) h = refl
-open-has (Shut t e) h = refl
-open-has (Finishing id w k) h = refl
-open-has Empty h = ⊎_elim (λ k. k) (λ k. k) h
-open-has (Reserved w k) h = ⊎_elim (λ k. k) (λ k. k) h
+open-has x = open-shut-cases x (λ y. has_id y ≡ true) (λ t. refl) (λ t e. refl)
 
 -- it is the same task set after the call, and its cursor does not fall
 pub record Grows (x y : SlotState) : Type 0 where

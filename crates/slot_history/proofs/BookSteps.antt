@@ -50,12 +50,12 @@ alike-held a (Open t) same = alike-self (Open t)
 alike-held a (Shut t e) same = alike-self (Shut t e)
 
 -- past its total, the cursor says nothing new
-tiles-spent : (ms : List Morsel) (c n total : ℕ) → total ≤ c → Tiles ms (min c total) → Tiles ms (min (c + n) total)
-tiles-spent ms c n total spent k = subst (Tiles ms) (let r : min c total ≡ min (c + n) total = omega arith in r) k
+pub tiles-spent : (ms : List Morsel) (c total n : ℕ) → total ≤ c → total ≡ n → Tiles ms (min c total) → Tiles ms n
+tiles-spent ms c total n spent same k = subst (Tiles ms) (let r : min c total ≡ n = omega arith in r) k
 
 pub alike-used : (x : SlotState) (n : ℕ) → (task_of x).total ≤ (task_of x).cursor → Alike x (claimed x n)
-alike-used (Open t) n spent = record { book = λ m life claims s k. record { lives = k.lives; tiles = tiles-spent (claims t.id) t.cursor n t.total spent k.tiles; later = k.later }; query = λ q k. k; task = λ k. (refl, refl) }
-alike-used (Shut t e) n spent = record { book = λ m life claims s k. record { lives = k.lives; tiles = tiles-spent (claims t.id) t.cursor n t.total spent k.tiles; later = k.later }; query = λ q k. k; task = λ k. (refl, refl) }
+alike-used (Open t) n spent = record { book = λ m life claims s k. record { lives = k.lives; tiles = tiles-spent (claims t.id) t.cursor t.total (min (t.cursor + n) t.total) spent (omega arith) k.tiles; later = k.later }; query = λ q k. k; task = λ k. (refl, refl) }
+alike-used (Shut t e) n spent = record { book = λ m life claims s k. record { lives = k.lives; tiles = tiles-spent (claims t.id) t.cursor t.total (min (t.cursor + n) t.total) spent (omega arith) k.tiles; later = k.later }; query = λ q k. k; task = λ k. (refl, refl) }
 alike-used Empty n spent = alike-self Empty
 alike-used (Reserved u h) n spent = alike-self (Reserved u h)
 alike-used (Finishing id u h) n spent = alike-self (Finishing id u h)

@@ -1,6 +1,6 @@
 -- The claims of a task set tile what was claimed of it, and its total in the end. It rules out a claim that is not cut at
 -- the total, and a claim after the last call.
-use Rattle.std.proofs.Common.{◌≡◌, ℕ, ◌<◌, ◌≤◌, Bool, true, false, cond, eqb, ◌&&◌, min, List, [], ◌∷◌, Option, Some, refl, sym, ap, ◌∙◌, subst, inr, ⊎_elim, arith, eq-eqb, ne_eqb, eqb-true}
+use Rattle.std.proofs.Common.{◌≡◌, ℕ, ◌<◌, Bool, true, false, cond, eqb, ◌&&◌, min, List, [], ◌∷◌, Option, Some, refl, sym, ap, ◌∙◌, subst, inr, ⊎_elim, arith, eq-eqb, ne_eqb, eqb-true}
 use Rattle.std.specs.Prelude.{unwrap_or}
 use Rattle.std.proofs.lemmas.Bool.{cond_both, cases_Bool, and_parts}
 use Rattle.slot_history.specs.declared.shape.Shape.{Shape}
@@ -19,6 +19,7 @@ use Rattle.slot_history.proofs.Table.{table}
 use Rattle.slot_history.proofs.Places.{inside-cell}
 use Rattle.slot_history.proofs.Cursors.{cursors}
 use Rattle.slot_history.proofs.Growth.{open-or-shut}
+use Rattle.slot_history.proofs.BookSteps.{tiles-spent}
 use Rattle.slot_history.proofs.Book.{book, inside-task}
 use Rattle.slot_history.proofs.Counts.{slot-runs, last-runs, Counts, counts, counts-never, counts-done}
 
@@ -83,9 +84,6 @@ done-claims d h w (ClaimRange k from to) id n legal low ok over ms = cond_both (
     (λ t. absurd (inside-done d h w id n legal low over t)) (λ f. refl)
 done-claims d h w _ id n legal low ok over ms = refl
 
-spent-tiles : (ms : List Morsel) (cursor total n : ℕ) → total ≤ cursor → total ≡ n → Tiles ms (min cursor total) → Tiles ms n
-spent-tiles ms cursor total n spent same k = subst (Tiles ms) (let r : min cursor total ≡ n = omega arith in r) k
-
 abbrev TiledAfter : Act → Place → ℕ → Life → List Morsel → Bool → Bool → Type 0
 TiledAfter a p id l ms installed last = (n : ℕ) → cond installed (Runs (slot_of p) (unwrap_or (held_at p).total 0)) (cond last (done l) l) ≡ Done n → Tiles ms n
 
@@ -98,7 +96,7 @@ tiles-done d id (e ∷ es) legal =
     (λ last. let both = and_parts (is_last a) (eqb (id_at p) id) last in
     let r = last-runs d es e.worker a id legal.2 legal.0 legal.1 both.0 (eqb-true (id_at p) id both.1) in
     subst (TiledAfter a p id l ms false) (sym last) (λ n k. subst (λ z. Tiles z n) (sym (last-claims e.worker a p id (claims_of d id es) both.0))
-    (spent-tiles (claims_of d id es) r.0.cursor r.0.total n r.3 (let q : Done r.0.total ≡ Done n = sym (ap done r.1) ∙ k in cc) r.2)))
+    (tiles-spent (claims_of d id es) r.0.cursor r.0.total n r.3 (let q : Done r.0.total ≡ Done n = sym (ap done r.1) ∙ k in cc) r.2)))
     (λ none. subst (TiledAfter a p id l ms false) (sym none) (λ n k. subst (λ z. Tiles z n) (sym (done-claims d es e.worker a id n legal.2 legal.0 legal.1 k (claims_of d id es))) (tiles-done d id es legal.2 n k)))
     (cases_Bool (is_last a && eqb (id_at p) id))))
     (cases_Bool (is_install a id))
@@ -106,7 +104,7 @@ tiles-done d id (e ∷ es) legal =
 pub tiles-total : (d : Shape) (h : List Entry) → IsLegal d h → TilesTotal d h
 tiles-total d h legal = (
   λ s shut_. let x : SlotState = (state_after d h).slots s in let t : TaskSet = task_of x in
-      spent-tiles (claims_of d t.id h) t.cursor t.total t.total ((cursors d h legal).shut s shut_) refl (tiles-cursor d h legal s (open-or-shut x (inr shut_))).1,
+      tiles-spent (claims_of d t.id h) t.cursor t.total t.total ((cursors d h legal).shut s shut_) refl (tiles-cursor d h legal s (open-or-shut x (inr shut_))).1,
   λ id total some_last is. let k = counts-done (life_of d id h) (installs_of id h) (lasts_of d id h) (total_of d id h) (slot_with d id h) (counts d id h legal) some_last in
       tiles-done d id h legal total (k.1 ∙ ap Done (let e : Some k.0 ≡ Some total = sym k.2 ∙ is in cc)),
 )

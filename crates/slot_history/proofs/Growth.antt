@@ -8,7 +8,7 @@ use Rattle.slot_history.specs.States.{TaskSet, Ending, SlotState, Empty, Reserve
 use Rattle.slot_history.specs.Steps.{slot_after, claimed, shut_by, ended, finalised_by, held_on, opened}
 use Rattle.slot_history.specs.Lives.{has_task}
 
--- ---- the task set of the slot of a call
+-- ---- slots that are open or shut
 
 -- what holds of open slots and of shut ones
 pub open-shut-cases : (x : SlotState) (P : SlotState → Type 0) → ((t : TaskSet) → P (Open t)) → ((t : TaskSet) (e : Ending) → P (Shut t e)) → (is_open x ≡ true) ⊎ (is_shut x ≡ true) → P x
@@ -25,6 +25,8 @@ open-or-shut x = open-shut-cases x (λ y. has_task y ≡ true) (λ t. refl) (λ 
 -- and an id
 pub open-has : (x : SlotState) → (is_open x ≡ true) ⊎ (is_shut x ≡ true) → has_id x ≡ true
 open-has x = open-shut-cases x (λ y. has_id y ≡ true) (λ t. refl) (λ t e. refl)
+
+-- ---- the task set of the slot of a call
 
 -- it is the same task set after the call, and its cursor does not fall
 pub record Grows (x y : SlotState) : Type 0 where

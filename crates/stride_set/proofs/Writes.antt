@@ -1,6 +1,6 @@
 use Rattle.std.proofs.Common.{◌≡◌, ℕ, ◌+◌, ◌-◌, ◌^◌, ◌<◌, ◌≤◌, Bool, true, false, List, length, get_or, set, length-set, min, max, refl, replicate, sym, ap, ◌∙◌, ⊎_elim, arith}
 use Rattle.std.proofs.Math.Path.{fun_ext}
-use Rattle.std.proofs.lemmas.List.{get_or-set_same, get_or-set_other, get_or_default, get_or-replicate, length-replicate, get_or_past}
+use Rattle.std.proofs.lemmas.List.{get_or-set_same, get_or-set_other, get_or_read, get_or-replicate, length-replicate, get_or_past}
 use Rattle.std.proofs.lemmas.Bool.{cases_eq, cases_lt, false≢true}
 use Rattle.std.proofs.lemmas.Bool.Decides.{nat_tests}
 use Rattle.stride_set.specs.declared.Slot.{Slot}
@@ -37,14 +37,11 @@ with_one-kept f k x kept = fun_ext (λ j. ⊎_elim (here j) (with_one-other f k 
     here j e = with_one-same f k j x e ∙ kept ∙ ap f (sym e)
 
 -- a slot that is read is the one at its place
-at_place : (slots : List Slot) (s : ℕ) (slot : Slot) → s < length slots → slot ≡ get_or slots s slot → slot ≡ get_or slots s idle
-at_place slots s slot below read = read ∙ get_or_default slots s slot idle below
-
 pub active_in-read : (slots : List Slot) (s : ℕ) (slot : Slot) → s < length slots → slot ≡ get_or slots s slot → slot.active ≡ active_in slots s
-active_in-read slots s slot below read = ap (λ (slot : Slot). slot.active) (at_place slots s slot below read)
+active_in-read slots s slot below read = ap (λ (slot : Slot). slot.active) (get_or_read slots s slot below read idle)
 
 pub pass_in-read : (slots : List Slot) (s : ℕ) (slot : Slot) → s < length slots → slot ≡ get_or slots s slot → slot.pass ≡ pass_in slots s
-pass_in-read slots s slot below read = ap (λ (slot : Slot). slot.pass) (at_place slots s slot below read)
+pass_in-read slots s slot below read = ap (λ (slot : Slot). slot.pass) (get_or_read slots s slot below read idle)
 
 -- the passes after a write to slot s are `active` and `pass`
 record Becomes (slots : List Slot) (s : ℕ) (slot : Slot) (active : ℕ → Bool) (pass : ℕ → ℕ) : Type 0 where

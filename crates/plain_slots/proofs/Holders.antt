@@ -1,5 +1,5 @@
--- What the moves of worked rows check of a token.
-use Rattle.std.proofs.Common.{◌≡◌, ℕ, sym, ap, ◌∙◌}
+-- What the tests check of a token.
+use Rattle.std.proofs.Common.{◌≡◌, ℕ, sym, refl, subst}
 use Rattle.slot_history.specs.declared.shape.Shape.{Shape}
 use Rattle.slot_history.specs.declared.place.Held.{Held}
 use Rattle.slot_history.specs.declared.place.Place.{Place}
@@ -7,14 +7,9 @@ use Rattle.slot_history.specs.declared.place.Place.TheVariants.{Holding}
 use Rattle.plain_slots.specs.declared.token.Holder.{Holder}
 use Rattle.plain_slots.specs.Tokens.{IsHolder}
 
--- a holder whose fields are those of its worker's place
-pub holder-by : (d : Shape) (w : ℕ) (p : Place) (x : Holder) (s : ℕ) (k : Held) → Holding s k ≡ p → x.worker ≡ w → x.slot ≡ s → x.query ≡ k.query → x.stage ≡ k.stage → x.again ≡ k.again → IsHolder d w p x
-holder-by d w p x s k at worker slot query stage again = record {
-  worker = worker;
-  noted = k.noted;
-  total = k.total;
-  place = sym at ∙ ap (λ t. Holding t k) (sym slot)
-      ∙ ap (λ q. Holding x.slot (record { query = q; stage = k.stage; again = k.again; noted = k.noted; total = k.total })) (sym query)
-      ∙ ap (λ n. Holding x.slot (record { query = x.query; stage = n; again = k.again; noted = k.noted; total = k.total })) (sym stage)
-      ∙ ap (λ b. Holding x.slot (record { query = x.query; stage = x.stage; again = b; noted = k.noted; total = k.total })) (sym again);
-}
+-- the token of a worker that holds the slot s
+abbrev pub token : ℕ → ℕ → Held → Holder
+token w s k = record { worker = w; slot = s; query = k.query; stage = k.stage; again = k.again }
+
+pub is-holder : (d : Shape) (w : ℕ) (p : Place) (x : Holder) (s : ℕ) (k : Held) → p ≡ Holding s k → x ≡ token w s k → IsHolder d w p x
+is-holder d w p x s k at same = subst (λ q. IsHolder d w q x) (sym at) (subst (IsHolder d w (Holding s k)) (sym same) (record { worker = refl; noted = k.noted; total = k.total; place = refl }))

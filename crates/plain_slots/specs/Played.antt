@@ -1,14 +1,14 @@
 -- What the tests play: the totals of task sets, and the place of a worker by its seat.
-use Rattle.std.specs.Prelude.{ℕ, cond, eqb, Option, Some}
+use Rattle.std.specs.Prelude.{ℕ, eqb, List, Option, option_map, find}
 use Rattle.slot_history.specs.declared.place.Place.{Place}
 use Rattle.plain_slots.specs.Desks.{place_at}
 use Rattle.plain_slots.specs.Log.{calls_of}
 use Rattle.plain_slots.specs.Plain.{Plain}
 use Rattle.plain_slots.specs.Seats.{desk_over, trail_in}
 
--- the total of a task set, whatever the number of queries
-abbrev pub total_of : ℕ → Option ℕ
-total_of id = Some (cond (eqb id 8) 5 (cond (eqb id 16) 100 0))
+-- the total of a task set, by a list of ids and totals
+abbrev pub total_in : List (ℕ × ℕ) → ℕ → Option ℕ
+total_in totals id = option_map (λ set. set.1) (find (λ set. eqb set.0 id) totals)
 
 -- where the worker is, by the table at the start of its seat and the table now
 abbrev pub seat_place : {Sub : Type 0} → Plain Sub → Plain Sub → ℕ → Place

@@ -15,6 +15,8 @@ mod moves;
 pub mod note;
 pub mod notes;
 mod object;
+#[cfg(test)]
+mod player;
 pub mod reply;
 #[cfg(test)]
 mod rows;
@@ -26,5 +28,7 @@ pub mod table;
 #[cfg(test)]
 mod tests;
 pub mod token;
+#[cfg(test)]
+mod worker_calls;
 
 pub use slot_history::{act, laws, place, shape};

@@ -1,68 +1,13 @@
-//! The limits of tables, and calls through the bound of a station, at a cell type of the tests' own.
-ghost use Rattle.std.specs.Prelude.{◌≡◌, ◌<◌};
-ghost use Rattle.slot_history.specs.declared.place.Place.TheVariants.{Free};
-ghost use Rattle.plain_slots.specs.Desks.{place_at};
+//! The limits of tables, and lists that only contracts see.
+ghost use Rattle.std.specs.Prelude.{◌≡◌, ℕ, [], ◌∷◌, IfOk};
 
-use crate::reply::{Leave, Look, MakeRefusal};
-use crate::station::{Fits, Station};
-use crate::steps::Steps;
+use crate::notes::{History, Memo};
+use crate::reply::MakeRefusal;
 use crate::table::PlainTable;
-use std::alloc::Global;
-use std::marker::Brand;
+use crate::worker_calls::{Piece, Sets};
+use std::alloc::{AllocError, Global};
 use std::snapshot::Snapshot;
-use std::sync::ledger::{Blank, Ledger};
 use std::test::Fail;
-
-/// A cell's value: whose it is, and of which task set.
-#[derive(Drop)]
-pub(crate) struct Piece {
-    pub(crate) worker: u32,
-    pub(crate) id: u32,
-}
-
-impl Fits for Piece {
-    ghost use Rattle.std.specs.Prelude.{◌≡◌};
-    ghost use Rattle.plain_slots.specs.Played.{total_of};
-
-    // how many queries there are
-    type Subject = u32;
-
-    ghost queries = { λ s. s };
-
-    ghost total = { λ s. total_of };
-
-    ghost fits = { λ s w id ranges p. (p.worker ≡ w) × (p.id ≡ id) };
-}
-
-/// Enters the last slot, looks at it and leaves it.
-fn pass_by<S: Station<Piece>, L: Ledger>(station: &mut S, steps: &mut Steps<L>) -> (Look, Leave)
-    requires { place_at (S.desk (S.origin station.old)) (S.trail station.old) ≡ Free }
-{
-    let s = station.slots() - 1;
-    station.enter(s, steps);
-    let look = station.look(steps);
-    let leave = station.leave(steps);
-    (look, leave)
-}
-
-/// Worker 1 of three passes by at a table without task sets.
-fn finds_nothing<L: Ledger>(alloc: Global, blank: Blank) -> Result<(Look, Leave), Fail>
-    requires name { blank.name ≡ L.name }
-    requires parts { blank.parts ≡ L.parts }
-    requires some { 0 < blank.parts }
-{
-    let mut steps = Steps::<L>::start(blank);
-    let mut table = PlainTable::make(alloc, 2, 3, 1, Snapshot::of(&1))?;
-    let mut seat = table.seat(1);
-    Ok(pass_by(&mut seat, &mut steps))
-}
-
-#[test]
-fn workers_pass_by(rt: HostRuntime) -> Result<(), Fail> {
-    let found = finds_nothing::<Brand>(rt.alloc(), Blank::new(1))?;
-    assert_eq!(rt; found, (Look::Vacant, Leave::Left));
-    Ok(())
-}
 
 #[test]
 fn tables_have_limits(rt: HostRuntime) -> Result<(), Fail> {
@@ -76,14 +21,51 @@ fn tables_have_limits(rt: HostRuntime) -> Result<(), Fail> {
         ((128, 64, 4096), None),
     ];
     for ((slots, workers, queries), refusal) in rows {
+        let sets = Sets {
+            queries,
+            totals: Vec::new(rt.alloc()),
+        };
         let table = PlainTable::<Piece>::make(
             rt.alloc(),
             slots,
             workers,
             queries,
-            Snapshot::of(&queries),
+            Snapshot::of(&sets),
         );
         assert_eq!(rt; table.err(), refusal, "at {slots}, {workers}, {queries}");
     }
+    Ok(())
+}
+
+/// The history of a table on which nobody made a call.
+fn unused(alloc: Global, sets: &Sets) -> Result<History, MakeRefusal>
+    ensures { IfOk result (λ history. history ≡ []) }
+{
+    let table = PlainTable::<Piece>::make(alloc, 2, 3, sets.queries, Snapshot::of(sets))?;
+    Ok(table.end())
+}
+
+#[test]
+fn tables_end(rt: HostRuntime) -> Result<(), Fail> {
+    let totals = Vec::new(rt.alloc());
+    let history = unused(rt.alloc(), &Sets { queries: 0, totals })?;
+    drop(history);
+    Ok(())
+}
+
+/// A memo of two numbers.
+fn two_noted(alloc: Global) -> Result<Memo, AllocError>
+    ensures { IfOk result (λ memo. memo ≡ 16 ∷ 5 ∷ []) }
+{
+    let mut memo = Memo::new(alloc)?;
+    memo.note(5);
+    memo.note(16);
+    Ok(memo)
+}
+
+#[test]
+fn memos_keep_numbers(rt: HostRuntime) -> Result<(), Fail> {
+    let memo = two_noted(rt.alloc())?;
+    drop(memo);
     Ok(())
 }

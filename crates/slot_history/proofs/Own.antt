@@ -1,14 +1,12 @@
 -- A worker's place, with the numbers of its tokens, and its claims are given by its own entries alone: no call of another
 -- worker changes them.
-use Rattle.std.proofs.Common.{◌≡◌, ◌≢◌, ℕ, ◌<◌, cond, List, [], ◌∷◌, refl, sym, ap, ap₂, ◌∙◌, subst, eq-eqb, ne_eqb}
+use Rattle.std.proofs.Common.{◌≡◌, ◌≢◌, ℕ, cond, List, [], ◌∷◌, refl, sym, ap, ap₂, ◌∙◌, subst, eq-eqb, ne_eqb}
 use native.Mathlib.Decide.{ℕ_discrete}
 use Rattle.slot_history.specs.declared.shape.Shape.{Shape}
-use Rattle.slot_history.specs.declared.act.Act.{Act}
 use Rattle.slot_history.specs.declared.act.Entry.{Entry}
 use Rattle.slot_history.specs.Steps.{moved, state_after}
-use Rattle.slot_history.specs.Allowed.{IsAllowed}
-use Rattle.slot_history.specs.Histories.{IsLegal, entry, own_calls, place_of, Called, ranges_after, ranges_of}
-use Rattle.slot_history.specs.Laws.{OwnEntries}
+use Rattle.slot_history.specs.Histories.{IsLegal, entry, own_calls, place_of, ranges_after, ranges_of}
+use Rattle.slot_history.specs.Laws.{OwnEntries, CallsGoOn}
 use Rattle.slot_history.proofs.Sets.{upd-else}
 
 pub own-mine : (e : Entry) (h : List Entry) (w : ℕ) → w ≡ e.worker → own_calls w (e ∷ h) ≡ e ∷ own_calls w h
@@ -54,17 +52,19 @@ own-entries d h w = record { place = place-own d w h; ranges = λ id. ranges-own
 
 -- ---- after a call, by the clause of every call
 
--- the worker's place is the next of the place that its own trail gave
-pub place-called : (d : Shape) (w : ℕ) (a : Act) (old new : List Entry) → Called d w a old new → place_of d new w ≡ moved d a (place_of d old w)
-place-called d w a old new c = ap (λ h. place_of d h w) c.1 ∙ place-mine d (entry w a) c.0 w refl ∙ ap (moved d a) (place-own d w c.0 ∙ ap (λ h. place_of d h w) c.3 ∙ sym (place-own d w old))
+-- what the call found is at the place that the worker's own trail gave
+found-place : (d : Shape) (w : ℕ) (old h : List Entry) → own_calls w h ≡ own_calls w old → place_of d h w ≡ place_of d old w
+found-place d w old h same = place-own d w h ∙ ap (λ l. place_of d l w) same ∙ sym (place-own d w old)
 
--- so are its claims
-pub ranges-called : (d : Shape) (w id : ℕ) (a : Act) (old new : List Entry) → Called d w a old new → ranges_of d w id new ≡ ranges_after a (place_of d old w) id (ranges_of d w id old)
-ranges-called d w id a old new c = ap (ranges_of d w id) c.1 ∙ ranges-mine d w id (entry w a) c.0 refl
-    ∙ ap₂ (λ p rs. ranges_after a p id rs) (place-own d w c.0 ∙ ap (λ h. place_of d h w) c.3 ∙ sym (place-own d w old)) (ranges-own d w id c.0 ∙ ap (ranges_of d w id) c.3 ∙ sym (ranges-own d w id old))
+found-ranges : (d : Shape) (w id : ℕ) (old h : List Entry) → own_calls w h ≡ own_calls w old → ranges_of d w id h ≡ ranges_of d w id old
+found-ranges d w id old h same = ranges-own d w id h ∙ ap (ranges_of d w id) same ∙ sym (ranges-own d w id old)
 
--- what the call found: a legal history in which it was allowed, with the worker at the place that its own trail gave
-pub allowed-called : (d : Shape) (w : ℕ) (a : Act) (old new : List Entry) → Called d w a old new
-    → (h : List Entry) × (new ≡ entry w a ∷ h) × IsLegal d h × (w < d.workers) × IsAllowed d (state_after d h) w a × (place_of d h w ≡ place_of d old w)
-allowed-called d w a old new c = let l : IsLegal d (entry w a ∷ c.0) = subst (IsLegal d) c.1 c.4 in
-    (c.0, c.1, l.2, l.0, l.1, place-own d w c.0 ∙ ap (λ h. place_of d h w) c.3 ∙ sym (place-own d w old))
+pub calls-go-on : CallsGoOn
+calls-go-on d w a old new (h, is, begins, same, legal) =
+    let at : place_of d h w ≡ place_of d old w = found-place d w old h same in
+    let before : IsLegal d (entry w a ∷ h) = subst (IsLegal d) is legal in
+    record {
+      place = ap (λ l. place_of d l w) is ∙ place-mine d (entry w a) h w refl ∙ ap (moved d a) at;
+      ranges = λ id. ap (ranges_of d w id) is ∙ ranges-mine d w id (entry w a) h refl ∙ ap₂ (λ p rs. ranges_after a p id rs) at (found-ranges d w id old h same);
+      allowed = (h, is, before.2, before.0, before.1, at);
+    }

@@ -1,10 +1,12 @@
 -- The laws of legal histories, as the functions of module `laws` state them.
-use Rattle.std.specs.Prelude.{◌≡◌, ℕ, ◌<◌, ◌≤◌, ◌⊎◌, true, false, List, [], min, Some}
+use Rattle.std.specs.Prelude.{◌≡◌, ℕ, ◌<◌, ◌≤◌, ◌⊎◌, true, false, List, [], ◌∷◌, min, Some}
 use Rattle.slot_history.specs.declared.shape.Shape.{Shape}
+use Rattle.slot_history.specs.declared.act.Act.{Act}
 use Rattle.slot_history.specs.declared.act.Entry.{Entry}
 use Rattle.slot_history.specs.States.{TaskSet, Ending, Shut, Finishing, task_of, ObjectState, id_of, is_empty, is_open, is_shut, owes, is_inside, has_own_cell, HasCell}
-use Rattle.slot_history.specs.Steps.{state_after}
-use Rattle.slot_history.specs.Histories.{IsLegal, own_calls, place_of, ranges_of, ranges_by, claims_of, Tiles, installs_of, admits_of, lasts_of, total_of, FinalisedOnce}
+use Rattle.slot_history.specs.Steps.{moved, state_after}
+use Rattle.slot_history.specs.Allowed.{IsAllowed}
+use Rattle.slot_history.specs.Histories.{IsLegal, Called, entry, own_calls, place_of, ranges_of, ranges_after, ranges_by, claims_of, Tiles, installs_of, admits_of, lasts_of, total_of, FinalisedOnce}
 use Rattle.slot_history.specs.declared.place.Held.{Held}
 use Rattle.slot_history.specs.Lives.{has_task}
 use Rattle.slot_history.specs.Notices.{IsQuiet}
@@ -44,6 +46,17 @@ pub record IsOwn (d : Shape) (h : List Entry) (w : ℕ) : Type 0 where
 
 abbrev pub OwnEntries : Shape → List Entry → Type 0
 OwnEntries d h = (w : ℕ) → IsOwn d h w
+
+-- What a worker knows of its call, by its trails before and after: its place and its claims go on from those that the
+-- trail before gave, and the call was allowed, with its answer, after a legal history in which it was at that place.
+pub record IsCallFrom (d : Shape) (w : ℕ) (a : Act) (old new : List Entry) : Type 0 where
+  pub place : place_of d new w ≡ moved d a (place_of d old w)
+  pub ranges : (id : ℕ) → ranges_of d w id new ≡ ranges_after a (place_of d old w) id (ranges_of d w id old)
+  pub allowed : (h : List Entry) × (new ≡ entry w a ∷ h) × IsLegal d h × (w < d.workers)
+      × IsAllowed d (state_after d h) w a × (place_of d h w ≡ place_of d old w)
+
+abbrev pub CallsGoOn : Type 0
+CallsGoOn = (d : Shape) (w : ℕ) (a : Act) (old new : List Entry) → Called d w a old new → IsCallFrom d w a old new
 
 -- after every legal history
 abbrev pub AfterAll : (Shape → List Entry → Type 0) → Type 0

@@ -3,7 +3,7 @@
 //! Each function does nothing; its contract is a law, and the lemma of its name in `proofs/` is what crates above cite.
 //! Each says which fault of the protocol it rules out.
 
-ghost use Rattle.slot_history.specs.Laws.{Always, AfterAll, QuietSlots, InsideSlots, OneDebt, ShutInside, OneOwner, OwnEntries, OnlyOnce, RangesOfClaims, NoEarlyClaims, TilesCursor, TilesTotal, FinishingLast, OnceInPlace};
+ghost use Rattle.slot_history.specs.Laws.{Always, AfterAll, QuietSlots, InsideSlots, OneDebt, ShutInside, OneOwner, OwnEntries, CallsGoOn, OnlyOnce, RangesOfClaims, NoEarlyClaims, TilesCursor, TilesTotal, FinishingLast, OnceInPlace};
 ghost use Rattle.slot_history.specs.Lives.{IsBookOf};
 ghost use Rattle.slot_history.specs.Table.{IsTable};
 ghost use Rattle.slot_history.specs.Bounds.{IsWithin, AreCursors, IsCursorLimit, AreDebtsWithin, AreSlotsSound, IsFinishedBound};
@@ -86,6 +86,14 @@ pub fn finished_bound()
 /// Ruled out: a call of another worker that moves this one, or takes its claims away.
 pub fn own_entries()
     ensures { AfterAll OwnEntries }
+{}
+
+/// After a call, by the clause of every call, its worker's place and claims go on from those that the trail before gave; and
+/// the call was allowed there, with its answer.
+///
+/// Ruled out: a trail that leaves out a call of its own worker.
+pub fn calls_go_on()
+    ensures { CallsGoOn }
 {}
 
 /// Each task set that runs is in its slot, one that was never installed has no claims, no later task set of a query is

@@ -1,11 +1,7 @@
 -- What the words on tables say of one another.
 use Rattle.std.proofs.Common.{◌≡◌, ℕ, ◌<◌, [], length, pos}
-use Rattle.std.proofs.lemmas.List.{get_or-map, length-map}
+use Rattle.std.proofs.lemmas.List.{get_or-map}
 use Rattle.col_table.specs.NamedRows.{NamedRows, column_of, value_at, value_in}
-
--- a column has one value a row
-pub length-column_of : (table : NamedRows) (column : ℕ) → length (column_of table column) ≡ length table.rows
-length-column_of table column = length-map table.rows (λ row. value_in row column)
 
 -- the value of a column in a row
 pub value_in-column_of : (table : NamedRows) (row column : ℕ) → row < length table.rows → value_in (column_of table column) row ≡ value_at table row column

@@ -1,18 +1,11 @@
 -- Pieces that follow one another.
-use Rattle.std.proofs.Common.{◌≡◌, ℕ, ◌+◌, ◌-◌, ◌≤◌, List, ◌++◌, length, take, drop, Option, Some, None, ap, refl, arith, length-append, length-drop, sym, ◌∙◌}
+use Rattle.std.proofs.Common.{◌≡◌, ℕ, ◌+◌, ◌-◌, ◌≤◌, List, ◌++◌, length, take, drop, Option, ap, refl, arith, length-append, length-drop, sym, ◌∙◌}
 use Rattle.std.specs.Io.{StartsWith}
-use Rattle.std.specs.Io.KnownBytes.{Appends, Keeps}
+use Rattle.std.specs.Io.KnownBytes.{Appends}
 use Rattle.std.proofs.KnownBytes.{Appends-trans}
 use Rattle.std.proofs.Math.Seq.{take-add}
 use Rattle.std.proofs.lemmas.List.{drop-drop, length-take-le}
-use Rattle.outside_io.specs.Pieces.{AppendsPrefix, IsPiece}
-
--- what was written before a call that took nothing is a beginning of the text
-pub AppendsPrefix-Keeps : (a b c : Option (List ℕ)) (text : List ℕ) (count : ℕ) → count ≤ length text → Appends a b (take count text) → Keeps b c → AppendsPrefix a c text
-AppendsPrefix-Keeps None b c text count short p q = tt
-AppendsPrefix-Keeps (Some a) None c text count short p q = elim p [ ]
-AppendsPrefix-Keeps (Some a) (Some b) None text count short p q = elim q [ ]
-AppendsPrefix-Keeps (Some a) (Some b) (Some c) text count short p q = (count, short, q ∙ p)
+use Rattle.outside_io.specs.Pieces.{IsPiece}
 
 -- the first bytes of a text, and then more of what was left of it
 pub Appends-next : (text rest : List ℕ) (a b c : Option (List ℕ)) (count : ℕ) → rest ≡ drop (length text - length rest) text → count ≤ length rest → length rest ≤ length text → Appends a b (take (length text - length rest) text) → Appends b c (take count rest) → Appends a c (take (length text - length (drop count rest)) text)

@@ -146,10 +146,6 @@ module _ {Sub : Type 0} (o : Story) (subject : Sub) (start now : Plain Sub) (vie
   pub notes-for : (P : (ℕ → Note) → Type 0) → P (note_in now.log w) → P (note_in o.log w)
   notes-for P h = subst (λ (t : Plain Sub). P (note_in t.log w)) (sym view) h
 
-  -- of the place by the object's trail
-  pub own-place-for : (P : Place → Type 0) → P (place_in o w) → P (place_of o.shape (trail_in w (calls_of o.log)) w)
-  own-place-for P h = subst P (sym (place-trail o.shape w (calls_of o.log))) h
-
   -- a token, by the place before the call
   pub token-old : (X : Shape → Place → Type 0) → X start.shape (place_at (desk_over start w) (trail_in w (calls_of now.log))) → X o.shape (place_in o w)
   token-old X h = place-for (λ p. X o.shape p) (subst (λ d. X d (place_at (desk_over start w) (trail_in w (calls_of now.log)))) (sym object-shape) h)

@@ -1,8 +1,8 @@
 -- What is accepted is not refused, where two ways to say what files hold agree.
 use Rattle.std.proofs.Common.{◌≡◌, ◌<◌, ℕ, List, [], ◌∷◌, ◌++◌, length, get_or, Option, None, Some, IfSome, ap, arith, refl, subst, sym, ◌∙◌}
 use Rattle.std.proofs.lemmas.Option.{get_or_from_slice_get, slice_get_within}
-use Rattle.col_table.specs.NamedRows.{NamedRows}
-use Rattle.csv_tables.specs.Loading.{LoadsTable, RecordsStandFor, records_of}
+use Rattle.csv_tables.proofs.Loading.{one_table}
+use Rattle.csv_tables.specs.Loading.{LoadsTable, records_of}
 use Rattle.plan_ast.specs.Names.{refusal_of}
 use Rattle.plan_ast.specs.Subject.{Subject}
 use Rattle.plan_ast.specs.declared.checks.PlanRefusal.{PlanRefusal}
@@ -30,14 +30,6 @@ IsTold-MayHold content file a b told held = let h : b ≡ a = subst (λ o. IfSom
 pub MayHold-IsTold : (content : List ℕ → Option (List ℕ)) (file a b : List ℕ) → MayHold content file a → IsTold content file b → a ≡ b
 MayHold-IsTold content file a b held told = sym (IsTold-MayHold content file b a told held)
 
-RecordsStandFor-unique : (records : List (List (List ℕ))) (a b : NamedRows) → RecordsStandFor records a → RecordsStandFor records b → a ≡ b
-RecordsStandFor-unique [] a b x y = elim x [ ]
-RecordsStandFor-unique (header ∷ lines) a b x y = λ i. record { names = (x.1.names ∙ sym y.1.names) i; rows = (x.1.rows ∙ sym y.1.rows) i }
-
--- bytes are one table at most
-LoadsTable-unique : (bytes : List ℕ) (a b : NamedRows) → LoadsTable bytes a → LoadsTable bytes b → a ≡ b
-LoadsTable-unique bytes a b x y = RecordsStandFor-unique (records_of bytes) a b x y
-
 module _ (A B : List ℕ → List ℕ → Type 0) (agree : (file a b : List ℕ) → A file a → B file b → a ≡ b) where
   script_is : (file : List ℕ) (a b : Script) → HoldsScript A file a → HoldsScript B file b → a ≡ b
   script_is file a b x y = ReadsScript-unique y.bytes a b (subst (λ bytes. ReadsScript bytes a) (agree file x.bytes y.bytes x.held y.held) x.reads) y.reads
@@ -45,7 +37,7 @@ module _ (A B : List ℕ → List ℕ → Type 0) (agree : (file a b : List ℕ)
   table_is : (entry : TableEntry) (a b : NamedTable) → HoldsTable A entry a → HoldsTable B entry b → a ≡ b
   table_is entry a b x y =
       let same = agree entry.file x.bytes y.bytes x.held y.held in
-      let rows = LoadsTable-unique y.bytes a.table b.table (subst (λ bytes. LoadsTable bytes a.table) same x.loads) y.loads in
+      let rows = one_table (records_of y.bytes) a.table b.table (subst (λ bytes. LoadsTable bytes a.table) same x.loads) y.loads in
       λ i. record { name = (x.name ∙ sym y.name) i; file = (x.file ∙ sym y.file) i; table = rows i }
 
   tables_are : (entries : List TableEntry) (a b : List NamedTable) → HoldTables A entries a → HoldTables B entries b → a ≡ b

@@ -1,8 +1,8 @@
 -- Queries one after another.
-use Rattle.std.proofs.Common.{◌≡◌, ℕ, zero, suc, ◌+◌, ◌<◌, List, [], ◌∷◌, ◌++◌, length, map, take, get_or, All, Some, None, sym, ap, ◌∙◌, subst, inl, inr, ◌⊎◌, arith}
+use Rattle.std.proofs.Common.{◌≡◌, ℕ, ◌+◌, ◌<◌, List, [], ◌∷◌, ◌++◌, length, map, take, get_or, All, Some, None, sym, ap, ◌∙◌, subst, inl, inr, ◌⊎◌, arith}
 use Rattle.std.specs.List.{enumerate_from}
 use Rattle.std.proofs.lemmas.List.{get_or-map, length-map, length-take-le, map-append, take_more}
-use Rattle.std.proofs.lemmas.List.Elements.{All-append}
+use Rattle.std.proofs.lemmas.List.Elements.{All-push}
 use Rattle.std.proofs.lemmas.Option.{slice_get-get_or}
 use Rattle.plan_ast.specs.Answer.{answer_of}
 use Rattle.plan_ast.specs.Checks.{query_of}
@@ -18,14 +18,6 @@ use Rattle.sched_tool.specs.Outcomes.{replies_of}
 use Rattle.sched_tool.specs.Subjects.{AllFound}
 use Rattle.sched_tool.specs.declared.answers_text.QueryReply.{QueryReply}
 use Rattle.sched_tool.specs.declared.answers_text.Reply.TheVariants.{Answer}
-
-All-one : {X : Type 0} (P : X → Type 0) (x : X) → P x → All P (x ∷ [])
-All-one P x p zero d short = p
-All-one P x p (suc k) d short = absurd (omega arith)
-
--- one more element
-pub All-push : {X : Type 0} (P : X → Type 0) (xs : List X) (x : X) → All P xs → P x → All P (xs ++ x ∷ [])
-All-push P xs x all p = All-append P xs (x ∷ []) all (All-one P x p)
 
 -- the queries checked so far, and the next
 pub same_more : (queries : List Query) (all : List Checked) (checked : Checked) (number : ℕ) (query : Query) → number < length queries → query ≡ get_or queries number query → map query_of all ≡ take number queries → query_of checked ≡ query → map query_of (all ++ checked ∷ []) ≡ take (number + 1) queries

@@ -24,8 +24,3 @@ HoldTables-push holds [] entry [] table all one = (one, tt)
 HoldTables-push holds [] entry (t ∷ ts) table all one = elim all [ ]
 HoldTables-push holds (e ∷ es) entry [] table all one = elim all [ ]
 HoldTables-push holds (e ∷ es) entry (t ∷ ts) table all one = (all.0, HoldTables-push holds es entry ts table all.1 one)
-
--- a list without a length has no item
-pub no_items : {X : Type 0} (xs : List X) → length xs ≡ 0 → xs ≡ []
-no_items [] h = refl
-no_items (x ∷ xs) h = absurd (omega arith)

@@ -1,11 +1,12 @@
 use Rattle.std.proofs.Common.{◌<◌, ◌≡◌, ◌++◌, ◌∷◌, [], All, ap, length, subst, sym, ◌∙◌, arith}
+use Rattle.std.proofs.lemmas.List.Elements.{All-push}
 use Rattle.plan_ast.specs.Checks.{IsOneSum, query_of}
 use Rattle.sched_tool.specs.Answers.{CanBePrinted}
 use Rattle.plan_ast.specs.Answer.{answer_of}
 use Rattle.plan_ast.specs.declared.answers.Answer.{Answer}
 use Rattle.sched_tool.specs.declared.answers_text.QueryReply.{QueryReply}
 use Rattle.sched_tool.specs.declared.answers_text.Reply.TheVariants as reply
-use Rattle.sched_tool.proofs.QueriesLemmas.{All-push, replies_of-more}
+use Rattle.sched_tool.proofs.QueriesLemmas.{replies_of-more}
 use Rattle.sched_tool.proofs.check.answer_queries.Goals as goal
 
 pub plain_answer-requires-clause-one_sum : goal.plain_answer-requires-clause-one_sum

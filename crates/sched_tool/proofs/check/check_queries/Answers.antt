@@ -1,7 +1,8 @@
 use Rattle.std.proofs.Common.{◌<◌, ◌≡◌, ◌++◌, ◌∷◌, [], length, sym, subst, arith}
+use Rattle.std.proofs.lemmas.List.Elements.{All-push}
 use Rattle.plan_ast.specs.Checks.{IsCheckedFor, IsOneSum}
 use Rattle.sched_tool.specs.Openings.{IsQueryRefused}
-use Rattle.sched_tool.proofs.QueriesLemmas.{All-push, AllFound-more, IsQueryRefused-first, same_more}
+use Rattle.sched_tool.proofs.QueriesLemmas.{AllFound-more, IsQueryRefused-first, same_more}
 use Rattle.sched_tool.proofs.check.check_queries.Goals as goal
 
 pub check-requires : goal.check-requires

@@ -1,12 +1,12 @@
 use Rattle.std.proofs.Common.{◌≡◌, ◌++◌, ◌∷◌, [], ap, append_assoc, arith, inr, subst, sym, ◌∙◌}
 use Rattle.std.specs.Vec.Iter.{into_iter_items}
-use Rattle.std.proofs.lemmas.List.{append-nil}
+use Rattle.std.proofs.lemmas.List.{append-nil, nil_from_length}
 use Rattle.std.proofs.lemmas.Result.{err_from_is_err_and}
 use Rattle.sched_tool.specs.Openings.{IsTableFileRefused}
 use Rattle.sched_tool.specs.Subjects.{HoldsTable, HoldTables}
 use Rattle.sched_tool.specs.Told.{MayHold}
 use Rattle.sched_tool.proofs.FaultsLemmas.{Grew-Grew, NameFailed-after}
-use Rattle.sched_tool.proofs.SubjectsLemmas.{HoldTables-push, no_items, same_content}
+use Rattle.sched_tool.proofs.SubjectsLemmas.{HoldTables-push, same_content}
 use Rattle.sched_tool.proofs.subject.open_tables.Goals as goal
 
 pub returns-in_err-open_table-clause-fault : goal.returns-in_err-open_table-clause-fault
@@ -45,6 +45,6 @@ loop-entry-preserved g c =
 pub returns-clause-ok : goal.returns-clause-ok
 returns-clause-ok g c =
     let left = into_iter_items c.loop-entry.entry-iterator in
-    let none : left ≡ [] = no_items left (omega (arith, c.in-None.ensures.steps.0, c.loop-entry.entry-iterator.rest.ok.0)) in
+    let none : left ≡ [] = nil_from_length left (omega (arith, c.in-None.ensures.steps.0, c.loop-entry.entry-iterator.rest.ok.0)) in
     let all : c.args.entries ≡ c.loop-entry.yielded = c.loop-entry.invariant.split ∙ ap (λ v. c.loop-entry.yielded ++ v) none ∙ append-nil c.loop-entry.yielded in
     subst (λ entries. HoldTables (MayHold (g.F.Files.content c.args.files.now)) entries c.loop-entry.tables.items) (sym all) c.loop-entry.invariant.tables

@@ -1,6 +1,5 @@
 //! The command `check`: the answers to the queries of a script, one after another.
 ghost use Rattle.std.specs.Prelude.{◌≡◌, ◌≤◌, ℕ, List, All, Some, Err, IfErr, IfOk, OnOk, length, map};
-ghost use Rattle.std.specs.List.{enumerate_from};
 ghost use Rattle.outside_io.specs.Faults.{Grew, NameFailed};
 ghost use Rattle.plan_ast.specs.Checks.{IsCheckedFor, IsOneSum, query_of};
 ghost use Rattle.sched_tool.specs.Answers.{CanBePrinted};

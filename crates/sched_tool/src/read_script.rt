@@ -38,7 +38,6 @@ pub enum ScriptRefusal {
 }
 
 impl From<AllocError> for ScriptRefusal {
-    ghost use Rattle.std.specs.Prelude.{◌≡◌};
     ghost use Rattle.sched_tool.specs.declared.read_script.ScriptRefusal.TheVariants.{OutOfMemory};
 
     ghost from_gives = { λ _ e. e ≡ OutOfMemory };

@@ -1,5 +1,5 @@
 //! The script and the tables of a command, read from their files.
-ghost use Rattle.std.specs.Prelude.{◌≡◌, ◌≢◌, ◌≤◌, ◌⊎◌, ℕ, List, All, Err, IfErr, IfOk, length};
+ghost use Rattle.std.specs.Prelude.{◌≡◌, ◌≤◌, ◌⊎◌, ℕ, List, All, Err, IfErr, IfOk, length};
 ghost use Rattle.outside_io.specs.Faults.{Grew, NameFailed};
 ghost use Rattle.plan_ast.specs.Checks.{IsOneSum};
 ghost use Rattle.sched_tool.specs.Told.{MayHold};

@@ -1,12 +1,12 @@
 -- What each status says, from how a command ended.
-use Rattle.std.proofs.Common.{◌≡◌, ◌⊎◌, ℕ, List, [], ◌∷◌, Option, Vec, Result, Ok, Err, IfOk, IfErr, None, Some, Contains, ap, arith, lit<, inl, inr, refl, subst, sym, ◌≢◌, ◌∙◌}
+use Rattle.std.proofs.Common.{◌≡◌, ◌⊎◌, ℕ, List, Option, Vec, Result, Ok, Err, IfOk, IfErr, None, Some, Contains, ap, arith, lit<, inl, inr, refl, subst, sym, ◌≢◌, ◌∙◌}
 use Rattle.std.specs.Global.{Global}
 use Rattle.std.specs.Io.KnownBytes.{Appends}
 use Rattle.outside_io.specs.Faults.{CountRose}
 use Rattle.outside_io.specs.Pieces.{AppendsPrefix}
-use Rattle.sched_tool.specs.Endings.{IsRefusalWritten, IsWritten, Told}
-use Rattle.sched_tool.specs.ErrorLines.{error_bytes, status_of}
-use Rattle.sched_tool.specs.Outcomes.{Answers, IsRefused, IsTextOf}
+use Rattle.sched_tool.specs.Endings.{IsRefusalWritten, IsWritten, Told, WritesOne}
+use Rattle.sched_tool.specs.ErrorLines.{error_bytes, status_of, statuses}
+use Rattle.sched_tool.specs.Outcomes.{Answers, HasFault, IsMemoryText, IsRefused, IsTextOf}
 use Rattle.sched_tool.specs.Words.{Meaning, check}
 use Rattle.sched_tool.specs.declared.refusal.Refusal.{Refusal}
 use Rattle.sched_tool.specs.declared.refusal.Refusal.TheVariants.{Usage, CannotRead, Script, Table, OutOfMemory}
@@ -60,6 +60,18 @@ Ends-from holds meaning failed old new result (Err refusal) answers refused faul
       written = line.written;
     })
 
+-- the line that is written where memory was wanting
+memory_line : (holds : List ℕ → List ℕ → Type 0) (meaning : Option Meaning) → IsMemoryText holds meaning (error_bytes OutOfMemory)
+memory_line holds None = refl
+memory_line holds (Some (check script)) = refl
+
+has_fault : (failed : List ℕ → Type 0) (told : Refusal) → ((file : List ℕ) → told ≡ CannotRead file → failed file) → HasFault failed told
+has_fault failed Usage fault = tt
+has_fault failed (CannotRead file) fault = fault file refl
+has_fault failed (Script cause) fault = tt
+has_fault failed (Table file cause) fault = tt
+has_fault failed OutOfMemory fault = tt
+
 -- a status that a refusal may have
 other_status : (told : Refusal) → status_of told ≡ 0 → ⊥
 other_status Usage e = omega arith
@@ -70,7 +82,7 @@ other_status OutOfMemory e = omega arith
 
 module _ (holds : List ℕ → List ℕ → Type 0) (meaning : Option Meaning) (failed : List ℕ → Type 0) (old new : Told) (result : ℕ) where
   -- 0
-  pub at_answered : Ends holds meaning failed old new result → result ≡ 0 → (text : List ℕ) × Answers holds meaning text × Appends old.written new.written text
+  pub at_answered : Ends holds meaning failed old new result → result ≡ 0 → WritesOne (Answers holds meaning) old.written new.written
   at_answered (inl e) zero_is = elim e.written [ inl w ↦ (e.text, e.answers, w.1) | inr w ↦ absurd (omega (arith, w.0, zero_is)) ]
   at_answered (inr e) zero_is = elim e.written [ inl w ↦ absurd (other_status e.told (sym w.0 ∙ zero_is)) | inr w ↦ absurd (omega (arith, w.0, zero_is)) ]
 
@@ -132,10 +144,10 @@ module _ (holds : List ℕ → List ℕ → Type 0) (meaning : Option Meaning) (
       table_told OutOfMemory r a h = absurd (omega arith)
 
   -- 7
-  pub at_memory : Ends holds meaning failed old new result → result ≡ 7 → Appends old.written new.written (error_bytes OutOfMemory)
+  pub at_memory : Ends holds meaning failed old new result → result ≡ 7 → WritesOne (IsMemoryText holds meaning) old.written new.written
   at_memory e is =
       let w = refused_at e (λ h. omega (arith, h, is)) (λ h. omega (arith, h, is)) in
-      memory_told w.0 w.4 (sym w.3 ∙ is)
+      (error_bytes OutOfMemory, memory_line holds meaning, memory_told w.0 w.4 (sym w.3 ∙ is))
     where
       memory_told : (told : Refusal) → Appends old.written new.written (error_bytes told) → status_of told ≡ 7 → Appends old.written new.written (error_bytes OutOfMemory)
       memory_told Usage a h = absurd (omega arith)
@@ -145,9 +157,9 @@ module _ (holds : List ℕ → List ℕ → Type 0) (meaning : Option Meaning) (
       memory_told OutOfMemory a h = a
 
   -- 4
-  pub at_cannot_write : Ends holds meaning failed old new result → result ≡ 4 → (text : List ℕ) × CountRose old.faults new.faults × IsTextOf holds meaning text × AppendsPrefix old.written new.written text
+  pub at_cannot_write : Ends holds meaning failed old new result → result ≡ 4 → (text : List ℕ) × CountRose old.faults new.faults × IsTextOf holds failed meaning text × AppendsPrefix old.written new.written text
   at_cannot_write (inl e) is = elim e.written [ inl w ↦ absurd (omega (arith, w.0, is)) | inr w ↦ (e.text, w.1, inl e.answers, w.2) ]
-  at_cannot_write (inr e) is = elim e.written [ inl w ↦ absurd (not_four e.told (sym w.0 ∙ is)) | inr w ↦ (error_bytes e.told, w.1, inr (e.told, e.refused, refl), w.2) ]
+  at_cannot_write (inr e) is = elim e.written [ inl w ↦ absurd (not_four e.told (sym w.0 ∙ is)) | inr w ↦ (error_bytes e.told, w.1, inr (inl (e.told, e.refused, has_fault failed e.told e.fault, refl)), w.2) ]
     where
       not_four : (told : Refusal) → status_of told ≡ 4 → ⊥
       not_four Usage h = omega arith
@@ -157,11 +169,11 @@ module _ (holds : List ℕ → List ℕ → Type 0) (meaning : Option Meaning) (
       not_four OutOfMemory h = omega arith
 
   -- there is no other status
-  pub at_status : Ends holds meaning failed old new result → Contains (0 ∷ 2 ∷ 3 ∷ 4 ∷ 5 ∷ 6 ∷ 7 ∷ []) result
+  pub at_status : Ends holds meaning failed old new result → Contains statuses result
   at_status (inl e) = elim e.written [ inl w ↦ (0, lit< tt, sym w.0) | inr w ↦ (3, lit< tt, sym w.0) ]
   at_status (inr e) = elim e.written [ inl w ↦ listed e.told w.0 | inr w ↦ (3, lit< tt, sym w.0) ]
     where
-      listed : (told : Refusal) → result ≡ status_of told → Contains (0 ∷ 2 ∷ 3 ∷ 4 ∷ 5 ∷ 6 ∷ 7 ∷ []) result
+      listed : (told : Refusal) → result ≡ status_of told → Contains statuses result
       listed Usage is = (1, lit< tt, sym is)
       listed (CannotRead file) is = (2, lit< tt, sym is)
       listed (Script fault) is = (4, lit< tt, sym is)

@@ -8,6 +8,7 @@ use Rattle.serde_json.specs.View.{items_view, members_view}
 use Rattle.serde_json.specs.declared.value.Value.{Value}
 use Rattle.sched_tool.specs.Scripts.{one_item, IsSumScript, ReadsScript, StandsFor, Texts, script_of, sum_query}
 use Rattle.sched_tool.specs.declared.read_script.Script.{Script}
+use Rattle.sched_tool.specs.declared.read_script.TheConstants.{MOST_QUERIES}
 use Rattle.sched_tool.specs.declared.read_script.ScriptRefusal.{ScriptRefusal}
 
 -- an object has as many members as entries
@@ -22,9 +23,9 @@ one_item-other (v ∷ []) h = absurd (h refl)
 one_item-other (v ∷ w ∷ values) h = refl
 
 -- a script that texts stand for has one query, of the form that can be checked and answered
-pub queries-StandsFor : (texts : Texts) (result : Result Script ScriptRefusal) → IfOk result (StandsFor texts) → IfOk result (λ script. All IsOneSum script.queries × (length script.queries ≤ 4096))
+pub queries-StandsFor : (texts : Texts) (result : Result Script ScriptRefusal) → IfOk result (StandsFor texts) → IfOk result (λ script. All IsOneSum script.queries × (length script.queries ≤ MOST_QUERIES))
 queries-StandsFor texts (Ok script) stands =
-    let Q : Script → Type 0 = λ s. All IsOneSum s.queries × (length s.queries ≤ 4096) in
+    let Q : Script → Type 0 = λ s. All IsOneSum s.queries × (length s.queries ≤ MOST_QUERIES) in
     let query = sum_query texts.name texts.column in
     let sums : IsOneSum query = (texts.column, record { filters = refl; joins = refl; output = refl }) in
     subst Q (sym stands.says) (All-cons IsOneSum query [] sums (All-nil IsOneSum), omega arith)

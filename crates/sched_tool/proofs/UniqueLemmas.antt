@@ -23,6 +23,10 @@ use Rattle.sched_tool.specs.declared.refusal.ScriptFault.TheVariants as script_f
 use Rattle.sched_tool.specs.declared.refusal.TableFault.{TableFault}
 use Rattle.sched_tool.specs.declared.refusal.TableFault.TheVariants as table_fault
 
+-- one text is told of a file
+pub IsTold-IsTold : (content : List ℕ → Option (List ℕ)) (file a b : List ℕ) → IsTold content file a → IsTold content file b → a ≡ b
+IsTold-IsTold content file a b x y = let same : Some a ≡ Some b = sym x ∙ y in cc
+
 -- what is told of a file is all that it may hold
 pub IsTold-MayHold : (content : List ℕ → Option (List ℕ)) (file a b : List ℕ) → IsTold content file a → MayHold content file b → a ≡ b
 IsTold-MayHold content file a b told held = let h : b ≡ a = subst (λ o. IfSome o (λ bytes. b ≡ bytes)) told held in sym h

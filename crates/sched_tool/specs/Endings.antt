@@ -1,7 +1,7 @@
 -- How a command ends: what is written, and with which status.
 use Rattle.std.specs.Prelude.{◌≡◌, ◌⊎◌, ℕ, List, Option}
 use Rattle.std.specs.Io.KnownBytes.{Appends}
-use Rattle.outside_io.specs.Faults.{CountRose, NameFailed}
+use Rattle.outside_io.specs.Faults.{CountRose}
 use Rattle.outside_io.specs.Pieces.{AppendsPrefix}
 use Rattle.sched_tool.specs.ErrorLines.{error_bytes, status_of}
 use Rattle.sched_tool.specs.declared.refusal.Refusal.{Refusal}
@@ -11,6 +11,10 @@ use Rattle.sched_tool.specs.declared.refusal.Refusal.TheVariants.{Usage, CannotR
 pub record Told : Type 0 where
   pub written : Option (List ℕ)
   pub faults : ℕ
+
+-- one of these texts was written
+abbrev pub WritesOne : (List ℕ → Type 0) → Option (List ℕ) → Option (List ℕ) → Type 0
+WritesOne IsText old new = (text : List ℕ) × IsText text × Appends old new text
 
 -- the text was written and this is its status, or the writing failed after a beginning of the text and the status is 4
 abbrev pub IsWritten : Told → Told → List ℕ → ℕ → ℕ → Type 0
@@ -31,7 +35,7 @@ IsFinding (Script fault) = Unit {0}
 IsFinding (Table file fault) = Unit {0}
 IsFinding OutOfMemory = ⊥
 
--- no count of faults rose: of no name among those that failed, and not of the sink
-pub record NoneRose (old_names new_names : List (List ℕ)) (old_faults new_faults : ℕ) : Type 0 where
-  pub names : (file : List ℕ) → ¬ (NameFailed old_names new_names file)
+-- no count of faults rose: of no file that is read, and not of the sink; `reads` and `failed` say of which files these are so
+pub record NoneRose (reads failed : List ℕ → Type 0) (old_faults new_faults : ℕ) : Type 0 where
+  pub files : (file : List ℕ) → reads file → ¬ (failed file)
   pub sink : ¬ (CountRose old_faults new_faults)

@@ -1,5 +1,5 @@
 -- The lines that say why there is no answer, and their statuses.
-use Rattle.std.specs.Prelude.{ℕ, List, ◌++◌, codes, decimal}
+use Rattle.std.specs.Prelude.{ℕ, List, [], ◌∷◌, ◌++◌, codes, decimal}
 use Rattle.sched_tool.specs.Answers.{line}
 use Rattle.sched_tool.specs.declared.refusal.ScriptFault.{ScriptFault}
 use Rattle.sched_tool.specs.declared.refusal.ScriptFault.TheVariants as script
@@ -28,6 +28,10 @@ error_text OutOfMemory = codes "error: out of memory"
 -- the line that is written for a refusal
 abbrev pub error_bytes : Refusal → List ℕ
 error_bytes refusal = line (error_text refusal)
+
+-- the statuses that the program ends with
+abbrev pub statuses : List ℕ
+statuses = 0 ∷ 2 ∷ 3 ∷ 4 ∷ 5 ∷ 6 ∷ 7 ∷ []
 
 -- the status that the program ends with at a refusal
 abbrev pub status_of : Refusal → ℕ

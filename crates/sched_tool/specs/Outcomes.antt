@@ -6,6 +6,7 @@ use Rattle.plan_ast.specs.Subject.{Subject}
 use Rattle.sched_tool.specs.Answers.{answers_bytes, line}
 use Rattle.sched_tool.specs.ErrorLines.{error_bytes}
 use Rattle.sched_tool.specs.Subjects.{IsAccepted, IsNextTable, IsRead, IsScriptRefused, IsTableRefused}
+use Rattle.sched_tool.specs.Told.{IsTold}
 use Rattle.sched_tool.specs.Words.{Meaning, check}
 use Rattle.sched_tool.specs.declared.answers_text.QueryReply.{QueryReply}
 use Rattle.sched_tool.specs.declared.answers_text.Reply.TheVariants.{Answer}
@@ -47,6 +48,31 @@ abbrev pub IsRefused : (List ℕ → List ℕ → Type 0) → Option Meaning →
 IsRefused holds None refusal = IsUsageRefused refusal
 IsRefused holds (Some (check script)) refusal = IsCheckRefused holds script refusal
 
+-- the file is one that the command reads
+abbrev pub Reads : (List ℕ → List ℕ → Type 0) → Option Meaning → List ℕ → Type 0
+Reads holds meaning file = IsRefused holds meaning (CannotRead file)
+
+-- where a refusal rests on a fault of a file, there was one; `failed` says of which files
+abbrev pub HasFault : (List ℕ → Type 0) → Refusal → Type 0
+HasFault failed Usage = Unit {0}
+HasFault failed (CannotRead file) = failed file
+HasFault failed (Script fault) = Unit {0}
+HasFault failed (Table file fault) = Unit {0}
+HasFault failed OutOfMemory = Unit {0}
+
+-- what a command writes where memory was wanting
+abbrev pub IsMemoryText : (List ℕ → List ℕ → Type 0) → Option Meaning → List ℕ → Type 0
+IsMemoryText holds None text = text ≡ error_bytes OutOfMemory
+IsMemoryText holds (Some (check script)) text = text ≡ error_bytes OutOfMemory
+
+-- the line of a refusal that has its cause
+abbrev pub IsRefusalLine : (List ℕ → List ℕ → Type 0) → (List ℕ → Type 0) → Option Meaning → List ℕ → Type 0
+IsRefusalLine holds failed meaning text = (refusal : Refusal) × IsRefused holds meaning refusal × HasFault failed refusal × (text ≡ error_bytes refusal)
+
 -- a text that a command may write
-abbrev pub IsTextOf : (List ℕ → List ℕ → Type 0) → Option Meaning → List ℕ → Type 0
-IsTextOf holds meaning text = Answers holds meaning text ⊎ ((refusal : Refusal) × IsRefused holds meaning refusal × (text ≡ error_bytes refusal))
+abbrev pub IsTextOf : (List ℕ → List ℕ → Type 0) → (List ℕ → Type 0) → Option Meaning → List ℕ → Type 0
+IsTextOf holds failed meaning text = Answers holds meaning text ⊎ (IsRefusalLine holds failed meaning text ⊎ IsMemoryText holds meaning text)
+
+-- where the files are told, `check` has one answer
+abbrev pub OneAnswer : Type 0
+OneAnswer = (content : List ℕ → Option (List ℕ)) (script a b : List ℕ) → Answers (IsTold content) (Some (check script)) a → Answers (IsTold content) (Some (check script)) b → a ≡ b

@@ -6,8 +6,9 @@ ghost use Rattle.sched_tool.specs.Answers.{CanBePrinted};
 ghost use Rattle.sched_tool.specs.Told.{MayHold};
 ghost use Rattle.sched_tool.specs.Subjects.{AllFound};
 ghost use Rattle.sched_tool.specs.Openings.{IsQueryRefused, query_refusal};
-ghost use Rattle.sched_tool.specs.Outcomes.{IsCheckRefused, Answers, check_text, replies_of};
+ghost use Rattle.sched_tool.specs.Outcomes.{IsCheckRefused, Answers, OneAnswer, check_text, replies_of};
 ghost use Rattle.sched_tool.specs.Words.{check as asks_check};
+ghost use Rattle.sched_tool.specs.declared.read_script.TheConstants.{MOST_QUERIES};
 
 use super::answers_text::{QueryReply, Reply, answers_text};
 use super::plain_answer::plain_answer;
@@ -36,6 +37,11 @@ pub fn check_script<F: Files>(alloc: Global, files: &mut F, file: &str) -> Resul
     Ok(text_of(alloc, tables.as_slice(), checked.as_slice())?)
 }
 
+/// Where the files are told, an accepted script has one answer.
+pub fn one_answer()
+    ensures { OneAnswer }
+{}
+
 // Checks each query against the tables, in order.
 fn check_queries(
     alloc: Global,
@@ -43,7 +49,7 @@ fn check_queries(
     queries: &[Query],
 ) -> Result<Vec<Checked>, Refusal>
     requires form { All IsOneSum queries.now }
-    requires few { length queries.now ≤ 4096 }
+    requires few { length queries.now ≤ MOST_QUERIES }
     ensures same { IfOk result (λ checked. map query_of checked.items ≡ queries.now) }
     ensures placed { IfOk result (λ checked. All (IsCheckedFor tables.now) checked.items) }
     ensures found { OnOk result (AllFound tables.now queries.now) }
@@ -80,7 +86,7 @@ fn refusal_of_query(query: u32, refusal: PlanRefusal) -> Refusal
 fn text_of(alloc: Global, tables: &[NamedTable], checked: &[Checked]) -> Result<Vec<u8>, AllocError>
     requires placed { All (IsCheckedFor tables.now) checked.now }
     requires form { All (λ c. IsOneSum (query_of c)) checked.now }
-    requires few { length checked.now ≤ 4096 }
+    requires few { length checked.now ≤ MOST_QUERIES }
     ensures { IfOk result (λ text. text.items ≡ check_text (record { tables = tables.now; queries = map query_of checked.now })) }
 {
     let replies = answer_queries(alloc, tables, checked)?;
@@ -97,7 +103,7 @@ fn answer_queries(
 ) -> Result<Vec<QueryReply>, AllocError>
     requires placed { All (IsCheckedFor tables.now) checked.now }
     requires form { All (λ c. IsOneSum (query_of c)) checked.now }
-    requires few { length checked.now ≤ 4096 }
+    requires few { length checked.now ≤ MOST_QUERIES }
     ensures answers { IfOk result (λ replies. replies.items
         ≡ replies_of (record { tables = tables.now; queries = map query_of checked.now })) }
     ensures printed { IfOk result (λ replies. All CanBePrinted replies.items) }

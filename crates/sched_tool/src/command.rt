@@ -1,12 +1,12 @@
 //! A command from its words to the bytes that it writes.
-ghost use Rattle.std.specs.Prelude.{◌≡◌, ◌≤◌, ◌⊎◌, ℕ, List, [], ◌∷◌, Contains, Err, IfErr, IfOk};
+ghost use Rattle.std.specs.Prelude.{◌≡◌, ◌≤◌, ◌⊎◌, ℕ, List, Contains, Err, IfErr, IfOk};
 ghost use Rattle.std.specs.Io.KnownBytes.{Appends};
 ghost use Rattle.outside_io.specs.Faults.{CountRose, Grew, NameFailed};
 ghost use Rattle.outside_io.specs.Pieces.{AppendsPrefix};
 ghost use Rattle.sched_tool.specs.Commands.{asked};
-ghost use Rattle.sched_tool.specs.Endings.{IsFinding, IsRefusalWritten, IsWritten, NoneRose};
-ghost use Rattle.sched_tool.specs.ErrorLines.{error_bytes, status_of};
-ghost use Rattle.sched_tool.specs.Outcomes.{Answers, IsRefused, IsTextOf};
+ghost use Rattle.sched_tool.specs.Endings.{IsFinding, IsRefusalWritten, IsWritten, NoneRose, WritesOne};
+ghost use Rattle.sched_tool.specs.ErrorLines.{error_bytes, status_of, statuses};
+ghost use Rattle.sched_tool.specs.Outcomes.{Answers, IsMemoryText, IsRefused, IsTextOf, Reads};
 ghost use Rattle.sched_tool.specs.Told.{IsTold, MayHold};
 ghost use Rattle.sched_tool.specs.declared.refusal.Refusal.{Refusal};
 ghost use Rattle.sched_tool.specs.declared.refusal.ScriptFault.{ScriptFault};
@@ -27,8 +27,8 @@ use std::alloc::{AllocError, Global};
 /// it is met (7). Where the writing fails, the status is 4, and a beginning of the text was written.
 pub fn command<F: Files, S: Sink>(alloc: Global, words: &[String], files: &mut F, out: &mut S) -> u8
     // Where the words, the script, the tables and the queries are accepted, the text is written.
-    ensures answered { result ≡ 0 → (text : List ℕ) × Answers (MayHold (F.content files.old)) (asked words.now) text
-        × Appends (S.written out.old) (S.written out.new) text }
+    ensures answered { result ≡ 0 → WritesOne (Answers (MayHold (F.content files.old)) (asked words.now))
+        (S.written out.old) (S.written out.new) }
 
     // The words are outside the grammar.
     ensures usage { result ≡ 2 → IsRefused (MayHold (F.content files.old)) (asked words.now) Refusal.Usage
@@ -43,7 +43,7 @@ pub fn command<F: Files, S: Sink>(alloc: Global, words: &[String], files: &mut F
     // The sink's count of faults rose in this call, and a beginning of the text was written.
     ensures cannot_write { result ≡ 4 → (text : List ℕ)
         × CountRose (S.faults out.old) (S.faults out.new)
-        × IsTextOf (MayHold (F.content files.old)) (asked words.now) text
+        × IsTextOf (MayHold (F.content files.old)) (NameFailed (F.failed files.old) (F.failed files.new)) (asked words.now) text
         × AppendsPrefix (S.written out.old) (S.written out.new) text }
 
     // The script or one of its queries is refused.
@@ -57,18 +57,23 @@ pub fn command<F: Files, S: Sink>(alloc: Global, words: &[String], files: &mut F
         × Appends (S.written out.old) (S.written out.new) (error_bytes (Refusal.Table file fault)) }
 
     // Memory was wanting.
-    ensures memory { result ≡ 7 → Appends (S.written out.old) (S.written out.new) (error_bytes Refusal.OutOfMemory) }
+    ensures memory { result ≡ 7 → WritesOne (IsMemoryText (MayHold (F.content files.old)) (asked words.now))
+        (S.written out.old) (S.written out.new) }
 
     // There is no other status.
-    ensures statuses { Contains (0 ∷ 2 ∷ 3 ∷ 4 ∷ 5 ∷ 6 ∷ 7 ∷ []) result }
+    ensures statuses { Contains statuses result }
 
-    // Where no count of faults rose, an accepted command is answered, but for want of memory,
-    ensures accepted { NoneRose (F.failed files.old) (F.failed files.new) (S.faults out.old) (S.faults out.new) →
-        (text : List ℕ) → Answers (IsTold (F.content files.old)) (asked words.now) text →
-        ((result ≡ 0) × Appends (S.written out.old) (S.written out.new) text) ⊎ (result ≡ 7) }
+    // Where no count of faults rose, of no file that is read and not of the sink, an accepted command is answered, but for
+    // want of memory,
+    ensures accepted { NoneRose (Reads (MayHold (F.content files.old)) (asked words.now))
+        (NameFailed (F.failed files.old) (F.failed files.new)) (S.faults out.old) (S.faults out.new) →
+        (answer : List ℕ) → Answers (IsTold (F.content files.old)) (asked words.now) answer →
+        ((result ≡ 0) × WritesOne (Answers (IsTold (F.content files.old)) (asked words.now))
+        (S.written out.old) (S.written out.new)) ⊎ (result ≡ 7) }
 
     // and one that the words, the script or a table refuse ends with the status of that, but for want of memory.
-    ensures refused { NoneRose (F.failed files.old) (F.failed files.new) (S.faults out.old) (S.faults out.new) →
+    ensures refused { NoneRose (Reads (MayHold (F.content files.old)) (asked words.now))
+        (NameFailed (F.failed files.old) (F.failed files.new)) (S.faults out.old) (S.faults out.new) →
         (refusal : Refusal) → IsFinding refusal → IsRefused (IsTold (F.content files.old)) (asked words.now) refusal →
         (result ≡ status_of refusal) ⊎ (result ≡ 7) }
 

@@ -10,6 +10,9 @@ use plan_ast::{Agg, Func, NameRef, Output, Query};
 use serde_json::{Category, Value};
 use std::alloc::{AllocError, Global};
 
+/// The most queries that a script may have.
+pub const MOST_QUERIES: usize = 4096;
+
 /// The greatest number of bytes of a file's name.
 const MAX_FILE_BYTES: usize = 255;
 
@@ -57,7 +60,7 @@ impl From<AllocError> for ScriptRefusal {
 pub fn read_script(alloc: Global, bytes: &[u8]) -> Result<Script, ScriptRefusal>
     ensures accepted { IfOk result (ReadsScript bytes.now) }
     ensures refused { IfErr result (RefusesScript bytes.now) }
-    ensures form { IfOk result (λ script. All IsOneSum script.queries × (length script.queries ≤ 4096)) }
+    ensures form { IfOk result (λ script. All IsOneSum script.queries × (length script.queries ≤ MOST_QUERIES)) }
 {
     let value = match Value::from_slice(alloc, after_mark(bytes)) {
         Ok(value) => value,

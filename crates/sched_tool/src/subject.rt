@@ -5,6 +5,7 @@ ghost use Rattle.plan_ast.specs.Checks.{IsOneSum};
 ghost use Rattle.sched_tool.specs.Told.{MayHold};
 ghost use Rattle.sched_tool.specs.Subjects.{HoldsScript, HoldsTable, HoldTables};
 ghost use Rattle.sched_tool.specs.Openings.{IsScriptFileRefused, IsTableFileRefused, AreTablesRefused};
+ghost use Rattle.sched_tool.specs.declared.read_script.TheConstants.{MOST_QUERIES};
 
 use super::read_script::{Script, ScriptRefusal, TableEntry, read_script};
 use super::refusal::{Refusal, ScriptFault, TableFault};
@@ -19,7 +20,7 @@ pub fn open_script<F: Files>(alloc: Global, files: &mut F, file: &str) -> Result
     ensures kept { (any : List ℕ) → F.content files.new any ≡ F.content files.old any }
     ensures grew { Grew (F.failed files.old) (F.failed files.new) }
     ensures ok { IfOk result (HoldsScript (MayHold (F.content files.old)) file.now) }
-    ensures form { IfOk result (λ script. All IsOneSum script.queries × (length script.queries ≤ 4096)) }
+    ensures form { IfOk result (λ script. All IsOneSum script.queries × (length script.queries ≤ MOST_QUERIES)) }
     ensures err { IfErr result (IsScriptFileRefused (MayHold (F.content files.old)) file.now) }
     ensures fault { (name : List ℕ) → result ≡ Err (Refusal.CannotRead name) →
         NameFailed (F.failed files.old) (F.failed files.new) name }

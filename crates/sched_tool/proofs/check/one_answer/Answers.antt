@@ -1,0 +1,5 @@
+use Rattle.sched_tool.proofs.CompletenessLemmas.{one_answer}
+use Rattle.sched_tool.proofs.check.one_answer.Goals as goal
+
+pub returns : goal.returns
+returns c = one_answer

@@ -8,6 +8,7 @@ pub mod OtherDuties
 pub mod Endings
 pub mod Table
 pub mod Places
+pub mod Stations
 pub mod Growth
 pub mod CursorBounds
 pub mod Cursors

@@ -7,13 +7,13 @@ use Rattle.slot_history.specs.declared.shape.Shape.{Shape}
 use Rattle.slot_history.specs.declared.place.Held.{Held}
 use Rattle.slot_history.specs.declared.place.Place.{Place}
 use Rattle.slot_history.specs.declared.place.Place.TheVariants.{Free, Inside, Used, Behind, Leading, Holding}
-use Rattle.slot_history.specs.States.{TaskSet, Ending, SlotState, Empty, Reserved, Open, Shut, Finishing, ObjectState, slot_of, id_at, id_of, is_empty, is_open, is_shut, is_inside, has_own_cell, holds}
+use Rattle.slot_history.specs.States.{TaskSet, Ending, SlotState, Empty, Reserved, Open, Shut, Finishing, ObjectState, slot_of, id_at, id_of, is_empty, is_open, is_shut, owes, is_inside, has_own_cell, holds}
 use Rattle.slot_history.specs.Notices.{IsQuiet}
 use Rattle.slot_history.specs.Table.{Duty, Visits, Works, Unasked, Owes, Leads, Holds, owing, duty_at_end, duty_of, binds, Meets, IsChain, IsChainOf, IsTable}
 use Rattle.slot_history.specs.Bounds.{AreDebtsWithin}
-use Rattle.slot_history.specs.Laws.{QuietSlots, InsideSlots, OneDebt, ShutInside, OneOwner}
+use Rattle.slot_history.specs.Laws.{QuietSlots, InsideSlots, OneDebt, ShutInside, CoordinatorOwesNothing, OneOwner}
 use Rattle.slot_history.proofs.Sets.{pick, count-split, count-fewer}
-use Rattle.slot_history.proofs.Duties.{IsHeldBy, end-cases, end-leads, end-owes, held-mine, owes-duty, owes-slot, leads-slot, holding-holds, holds-slot}
+use Rattle.slot_history.proofs.Duties.{IsHeldBy, end-cases, end-leads, end-owes, held-mine, owes-duty, owes-slot, leading-leads, leads-slot, holding-holds, holds-slot}
 
 own-cell-slot : (p : Place) (s : ℕ) → has_own_cell p s ≡ true → slot_of p ≡ s
 own-cell-slot (Inside t id) s h = eqb-true t s h
@@ -98,6 +98,12 @@ one-debt d S ok s t v low a b =
     let m : Meets d s (Owes (id_of (S.slots s))) (S.places v) = subst (λ D. Meets d s D (S.places v)) (owes-duty d (S.slots s) v (ok.chain s) a) (ok.duty s v low) in
     let k : Meets d t (Owes (id_of (S.slots t))) (S.places v) = subst (λ D. Meets d t D (S.places v)) (owes-duty d (S.slots t) v (ok.chain t) b) (ok.duty t v low) in
     sym m.0 ∙ k.0
+
+-- the coordinator leads the end, and nobody that owes does
+pub coordinator-owes-nothing : (d : Shape) (S : ObjectState) → IsTable d S → CoordinatorOwesNothing d S
+coordinator-owes-nothing d S ok s id w low at =
+    let r = leading-leads d s id (duty_of (S.slots s) w) (subst (Meets d s (duty_of (S.slots s) w)) at (ok.duty s w low)) in
+    false_from_ne_true (owes (S.slots s) w) (λ h. let e : Leads id r.0 ≡ Owes (id_of (S.slots s)) = sym r.1 ∙ owes-duty d (S.slots s) w (ok.chain s) h in cc)
 
 pub debts-within : (d : Shape) (S : ObjectState) → IsTable d S → AreDebtsWithin d S
 debts-within d S ok s t e is = let c : IsChain d e = subst (IsChainOf d) is (ok.chain s) in (

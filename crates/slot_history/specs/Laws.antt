@@ -1,13 +1,15 @@
 -- The laws of legal histories, as the functions of module `laws` state them.
-use Rattle.std.specs.Prelude.{◌≡◌, ℕ, ◌<◌, ◌≤◌, ◌⊎◌, true, false, List, [], ◌∷◌, min, Some}
+use Rattle.std.specs.Prelude.{◌≡◌, ◌≢◌, ℕ, ◌<◌, ◌≤◌, ◌⊎◌, true, false, List, [], ◌∷◌, min, Some}
 use Rattle.slot_history.specs.declared.shape.Shape.{Shape}
 use Rattle.slot_history.specs.declared.act.Act.{Act}
+use Rattle.slot_history.specs.declared.act.Act.TheVariants.{LeaveOwe}
 use Rattle.slot_history.specs.declared.act.Entry.{Entry}
 use Rattle.slot_history.specs.States.{TaskSet, Ending, Shut, Finishing, task_of, ObjectState, id_of, is_empty, is_open, is_shut, owes, is_inside, has_own_cell, HasCell}
 use Rattle.slot_history.specs.Steps.{moved, state_after}
 use Rattle.slot_history.specs.Allowed.{IsAllowed}
 use Rattle.slot_history.specs.Histories.{IsLegal, Called, entry, own_calls, place_of, ranges_of, ranges_after, ranges_by, claims_of, Tiles, installs_of, admits_of, lasts_of, total_of, FinalisedOnce}
 use Rattle.slot_history.specs.declared.place.Held.{Held}
+use Rattle.slot_history.specs.declared.place.Place.TheVariants.{Leading}
 use Rattle.slot_history.specs.Lives.{has_task}
 use Rattle.slot_history.specs.Notices.{IsQuiet}
 use Rattle.slot_history.specs.Table.{owing}
@@ -35,6 +37,10 @@ ShutInside d S = (s v : ℕ) (t : TaskSet) (e : Ending) → v < d.workers → S.
     → has_own_cell (S.places v) s ≡ true
     → (owing e v ≡ true) ⊎ ((e.asked v ≡ false) ⊎ (v ≡ e.coordinator))
 
+-- a coordinator that is still at its slot owes nothing there
+abbrev pub CoordinatorOwesNothing : Shape → ObjectState → Type 0
+CoordinatorOwesNothing d S = (s id w : ℕ) → w < d.workers → S.places w ≡ Leading s id → owes (S.slots s) w ≡ false
+
 -- a cell is with one worker at most
 abbrev pub OneOwner : Shape → ObjectState → Type 0
 OneOwner d S = (s v t u : ℕ) → t < d.workers → u < d.workers → HasCell S s v t → HasCell S s v u → t ≡ u
@@ -57,6 +63,11 @@ pub record IsCallFrom (d : Shape) (w : ℕ) (a : Act) (old new : List Entry) : T
 
 abbrev pub CallsGoOn : Type 0
 CallsGoOn = (d : Shape) (w : ℕ) (a : Act) (old new : List Entry) → Called d w a old new → IsCallFrom d w a old new
+
+-- who learns at its leave that it owes was not the coordinator
+abbrev pub CoordinatorLeaves : Type 0
+CoordinatorLeaves = (d : Shape) (w s id jd : ℕ) (old new : List Entry) → Called d w (LeaveOwe jd) old new
+    → place_of d old w ≢ Leading s id
 
 -- after every legal history
 abbrev pub AfterAll : (Shape → List Entry → Type 0) → Type 0

@@ -3,7 +3,7 @@
 //! Each function does nothing; its contract is a law, and the lemma of its name in `proofs/` is what crates above cite.
 //! Each says which fault of the protocol it rules out.
 
-ghost use Rattle.slot_history.specs.Laws.{Always, AfterAll, QuietSlots, InsideSlots, OneDebt, ShutInside, OneOwner, OwnEntries, CallsGoOn, OnlyOnce, RangesOfClaims, NoEarlyClaims, TilesCursor, TilesTotal, FinishingLast, OnceInPlace};
+ghost use Rattle.slot_history.specs.Laws.{Always, AfterAll, QuietSlots, InsideSlots, OneDebt, ShutInside, CoordinatorOwesNothing, CoordinatorLeaves, OneOwner, OwnEntries, CallsGoOn, OnlyOnce, RangesOfClaims, NoEarlyClaims, TilesCursor, TilesTotal, FinishingLast, OnceInPlace};
 ghost use Rattle.slot_history.specs.Lives.{IsBookOf};
 ghost use Rattle.slot_history.specs.Table.{IsTable};
 ghost use Rattle.slot_history.specs.Bounds.{IsWithin, AreCursors, IsCursorLimit, AreDebtsWithin, AreSlotsSound, IsFinishedBound};
@@ -52,6 +52,20 @@ pub fn one_debt()
 /// Ruled out: a sweep before the last worker was asked.
 pub fn shut_inside()
     ensures { Always ShutInside }
+{}
+
+/// A coordinator that is still at its slot owes nothing there.
+///
+/// Ruled out: a coordinator that marks itself.
+pub fn coordinator_owes_nothing()
+    ensures { Always CoordinatorOwesNothing }
+{}
+
+/// The leave of a coordinator answers `LeaveLeft`: a worker whose leave answered `LeaveOwe` was not at `Leading` before.
+///
+/// Ruled out: a shut that two workers win, of whom one is marked by the other and leaves with two duties.
+pub fn coordinator_leaves()
+    ensures { CoordinatorLeaves }
 {}
 
 /// A cell is with one worker at most.

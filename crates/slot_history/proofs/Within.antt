@@ -1,14 +1,16 @@
 -- Only the slots, workers and queries of the shape take part.
-use Rattle.std.proofs.Common.{◌≡◌, ◌≢◌, ℕ, ◌+◌, ◌<◌, ◌≤◌, ◌⊎◌, Bool, true, List, [], ◌∷◌, refl, sym, ap, ◌∙◌, subst, inl, inr, ⊎_elim, arith}
+use Rattle.std.proofs.Common.{◌≡◌, ◌≢◌, ℕ, ◌+◌, ◌<◌, ◌≤◌, ◌⊎◌, Bool, true, false, List, [], ◌∷◌, refl, sym, ap, ◌∙◌, subst, inl, inr, ⊎_elim, arith}
 use mathlib.Core.Bool.{true≢false}
+use Rattle.std.proofs.lemmas.Bool.{cond_both}
 use Rattle.slot_history.specs.declared.shape.Shape.{Shape}
 use Rattle.slot_history.specs.declared.act.Act.{Act}
-use Rattle.slot_history.specs.declared.act.Act.TheVariants.{Enter, LookOpen, LookInvalid, LookVacant, ClaimRange, ClaimUsed, ShutWon, ShutLost, LeaveLeft, LeaveOwe, PayLast, PayDone, MarkMarked, MarkMissed, SweepLast, SweepOthers, ReserveGot, AdmitGot, Note, Total, Install, Release, Tell}
+use Rattle.slot_history.specs.declared.act.Act.TheVariants.{Enter, LookOpen, LookInvalid, LookVacant, ClaimRange, ClaimUsed, ShutWon, ShutLost, LeaveLeft, LeaveOwe, PayLast, PayDone, MarkMarked, MarkMissed, SweepLast, SweepOthers, ReserveGot, AdmitGot, Note, Total, Install, Release, Tell, TakeReturn, TakeChange}
 use Rattle.slot_history.specs.declared.act.Entry.{Entry}
 use Rattle.slot_history.specs.declared.place.Place.{Place}
 use Rattle.slot_history.specs.declared.place.Place.TheVariants.{Free, Entered, Astray, Inside, Used, Behind, Leading, Asking, Owing, Holding, Announcing}
+use Rattle.slot_history.specs.Sets.{upd}
 use Rattle.slot_history.specs.States.{SlotState, Empty, Reserved, Open, Shut, Finishing, ObjectState, slot_of, is_empty, can_leave}
-use Rattle.slot_history.specs.Steps.{site, moved, left, told_one, slot_after, admitted_after, next, state_after}
+use Rattle.slot_history.specs.Steps.{site, moved, left, told_one, slot_after, is_in_part, told, taken, changes_after, returns_after, admitted_after, next, state_after}
 use Rattle.slot_history.specs.Allowed.{IsAllowed}
 use Rattle.slot_history.specs.Histories.{IsLegal}
 use Rattle.slot_history.specs.Bounds.{IsPlaceWithin, IsWithin}
@@ -102,6 +104,33 @@ admits : (d : Shape) (S : ObjectState) (w : ℕ) (a : Act) → IsAllowed d S w a
 admits d S w (AdmitGot q) ok k = let low : q < d.queries = ok.4 in let e : S.admitted ≡ q = ok.5 in omega arith
 admits d S w _ ok k = k
 
+-- ---- notices
+
+-- the notices name slots of the shape
+abbrev AreNamed : Shape → (ℕ → ℕ → Bool) → Type 0
+AreNamed d f = (v s : ℕ) → f v s ≡ true → s < d.slots
+
+told-named : (d : Shape) (again : Bool) (p : Place) (f : ℕ → ℕ → Bool) → IsPlaceWithin d p → AreNamed d f → AreNamed d (told again p f)
+told-named d true (Announcing t true k) f fine ok v s = upd-cases f k (upd (f k) t true) v (λ g. g s ≡ true → s < d.slots)
+    (λ e. upd-cases (f k) t true s (λ b. b ≡ true → s < d.slots) (λ here h. subst (λ j. j < d.slots) (sym here) fine.0) (λ n. ok k s)) (λ n. ok v s)
+told-named d false (Announcing t false k) f fine ok v s = upd-cases f k (upd (f k) t true) v (λ g. g s ≡ true → s < d.slots)
+    (λ e. upd-cases (f k) t true s (λ b. b ≡ true → s < d.slots) (λ here h. subst (λ j. j < d.slots) (sym here) fine.0) (λ n. ok k s)) (λ n. ok v s)
+told-named d again p f fine ok v s = ok v s
+
+taken-named : (d : Shape) (part w : ℕ) (f : ℕ → ℕ → Bool) → AreNamed d f → AreNamed d (upd f w (taken part (f w)))
+taken-named d part w f ok v s = upd-cases f w (taken part (f w)) v (λ g. g s ≡ true → s < d.slots)
+    (λ e. cond_both (is_in_part part s) false (f w s) (λ b. b ≡ true → s < d.slots) (λ t h. absurd (cc)) (λ t. ok w s)) (λ n. ok v s)
+
+changes-named : (d : Shape) (w : ℕ) (a : Act) (p : Place) (f : ℕ → ℕ → Bool) → IsPlaceWithin d p → AreNamed d f → AreNamed d (changes_after w a p f)
+changes-named d w Tell p f fine ok = told-named d false p f fine ok
+changes-named d w (TakeChange part bits) p f fine ok = taken-named d part w f ok
+changes-named d w _ p f fine ok = ok
+
+returns-named : (d : Shape) (w : ℕ) (a : Act) (p : Place) (f : ℕ → ℕ → Bool) → IsPlaceWithin d p → AreNamed d f → AreNamed d (returns_after w a p f)
+returns-named d w Tell p f fine ok = told-named d true p f fine ok
+returns-named d w (TakeReturn part bits) p f fine ok = taken-named d part w f ok
+returns-named d w _ p f fine ok = ok
+
 pub within-next : (d : Shape) (S : ObjectState) (w : ℕ) (a : Act) → w < d.workers → IsWithin d S → IsAllowed d S w a → IsWithin d (next d S w a)
 within-next d S w a low ok fine = let p : Place = S.places w in let k : ℕ = site a p in record {
   places = λ v. upd-cases S.places w (moved d a p) v (IsPlaceWithin d) (λ e. moves d S w a low fine (ok.places w)) (λ n. ok.places v);
@@ -109,8 +138,17 @@ within-next d S w a low ok fine = let p : Place = S.places w in let k : ℕ = si
   slots = λ s high. upd-cases S.slots k (slot_after d w a (S.slots k)) s (λ x. is_empty x ≡ true)
       (λ e. let far : d.slots ≤ k = omega arith in past-empty d S w a fine far (ok.slots k far)) (λ n. ok.slots s high);
   admitted = admits d S w a fine ok.admitted;
+  changes = changes-named d w a p S.changes (ok.places w) ok.changes;
+  returns = returns-named d w a p S.returns (ok.places w) ok.returns;
 }
 
 pub within : (d : Shape) (h : List Entry) → IsLegal d h → IsWithin d (state_after d h)
-within d [] legal = record { places = λ v. tt; others = λ v h. refl; slots = λ s h. refl; admitted = omega arith }
+within d [] legal = record {
+  places = λ v. tt;
+  others = λ v h. refl;
+  slots = λ s h. refl;
+  admitted = omega arith;
+  changes = λ v s h. absurd (cc);
+  returns = λ v s h. absurd (cc);
+}
 within d (e ∷ es) legal = within-next d (state_after d es) e.worker e.act legal.0 (within d es legal.2) legal.1

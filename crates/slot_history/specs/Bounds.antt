@@ -15,12 +15,14 @@ IsPlaceWithin d Free = Unit {0}
 IsPlaceWithin d (Announcing s again told) = (s < d.slots) × (told < d.workers)
 IsPlaceWithin d p = slot_of p < d.slots
 
--- only the slots and workers of the shape take part, and no more queries are admitted than there are
+-- only the slots and workers of the shape take part, also in notices, and no more queries are admitted than there are
 pub record IsWithin (d : Shape) (S : ObjectState) : Type 0 where
   pub places : (v : ℕ) → IsPlaceWithin d (S.places v)
   pub others : (v : ℕ) → d.workers ≤ v → S.places v ≡ Free
   pub slots : (s : ℕ) → d.slots ≤ s → is_empty (S.slots s) ≡ true
   pub admitted : S.admitted ≤ d.queries
+  pub changes : (v s : ℕ) → S.changes v s ≡ true → s < d.slots
+  pub returns : (v s : ℕ) → S.returns v s ≡ true → s < d.slots
 
 -- the worker found all tuples of the slot's task set claimed, and has not shut it yet
 abbrev pub is_used_at : ℕ → Place → Bool

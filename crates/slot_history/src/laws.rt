@@ -21,7 +21,9 @@ pub fn table()
     ensures { Always IsTable }
 {}
 
-/// Only the workers, slots and queries of the shape take part.
+/// Only the workers, slots and queries of the shape take part, and notices are of slots of the shape.
+///
+/// Ruled out: an announcement of a slot that is not there, to which a worker would then go.
 pub fn within()
     ensures { Always IsWithin }
 {}

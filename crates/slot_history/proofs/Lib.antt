@@ -18,6 +18,7 @@ pub mod BookSteps
 pub mod Book
 pub mod Counts
 pub mod Claims
+pub mod Ranges
 pub mod TaskSets
 pub mod Masks
 pub mod OneAnswer

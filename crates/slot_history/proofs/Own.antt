@@ -53,10 +53,10 @@ own-entries d h w = record { place = place-own d w h; ranges = λ id. ranges-own
 -- ---- after a call, by the clause of every call
 
 -- what the call found is at the place that the worker's own trail gave
-found-place : (d : Shape) (w : ℕ) (old h : List Entry) → own_calls w h ≡ own_calls w old → place_of d h w ≡ place_of d old w
+pub found-place : (d : Shape) (w : ℕ) (old h : List Entry) → own_calls w h ≡ own_calls w old → place_of d h w ≡ place_of d old w
 found-place d w old h same = place-own d w h ∙ ap (λ l. place_of d l w) same ∙ sym (place-own d w old)
 
-found-ranges : (d : Shape) (w id : ℕ) (old h : List Entry) → own_calls w h ≡ own_calls w old → ranges_of d w id h ≡ ranges_of d w id old
+pub found-ranges : (d : Shape) (w id : ℕ) (old h : List Entry) → own_calls w h ≡ own_calls w old → ranges_of d w id h ≡ ranges_of d w id old
 found-ranges d w id old h same = ranges-own d w id h ∙ ap (ranges_of d w id) same ∙ sym (ranges-own d w id old)
 
 pub calls-go-on : CallsGoOn

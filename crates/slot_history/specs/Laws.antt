@@ -1,15 +1,15 @@
 -- The laws of legal histories, as the functions of module `laws` state them.
-use Rattle.std.specs.Prelude.{◌≡◌, ◌≢◌, ℕ, ◌<◌, ◌≤◌, ◌⊎◌, true, false, List, [], ◌∷◌, min, Some}
+use Rattle.std.specs.Prelude.{◌≡◌, ◌≢◌, ℕ, ◌<◌, ◌≤◌, ◌⊎◌, true, false, List, [], ◌∷◌, min, Some, All, AllPairs}
 use Rattle.slot_history.specs.declared.shape.Shape.{Shape}
 use Rattle.slot_history.specs.declared.act.Act.{Act}
-use Rattle.slot_history.specs.declared.act.Act.TheVariants.{LeaveOwe}
+use Rattle.slot_history.specs.declared.act.Act.TheVariants.{ClaimRange, LeaveOwe}
 use Rattle.slot_history.specs.declared.act.Entry.{Entry}
 use Rattle.slot_history.specs.States.{TaskSet, Ending, Shut, Finishing, task_of, ObjectState, id_of, is_empty, is_open, is_shut, owes, is_inside, has_own_cell, HasCell}
 use Rattle.slot_history.specs.Steps.{moved, state_after}
 use Rattle.slot_history.specs.Allowed.{IsAllowed}
-use Rattle.slot_history.specs.Histories.{IsLegal, Called, entry, own_calls, place_of, ranges_of, ranges_after, ranges_by, claims_of, Tiles, installs_of, admits_of, lasts_of, total_of, FinalisedOnce}
+use Rattle.slot_history.specs.Histories.{IsLegal, Called, entry, own_calls, place_of, ranges_of, ranges_after, ranges_by, Morsel, claims_of, Tiles, installs_of, admits_of, lasts_of, total_of, FinalisedOnce}
 use Rattle.slot_history.specs.declared.place.Held.{Held}
-use Rattle.slot_history.specs.declared.place.Place.TheVariants.{Leading}
+use Rattle.slot_history.specs.declared.place.Place.TheVariants.{Inside, Leading}
 use Rattle.slot_history.specs.Lives.{has_task}
 use Rattle.slot_history.specs.Notices.{IsQuiet}
 use Rattle.slot_history.specs.Table.{owing}
@@ -76,6 +76,21 @@ AfterAll P = (d : Shape) (h : List Entry) → IsLegal d h → P d h
 -- each task set is installed, and each query admitted, once at most
 abbrev pub OnlyOnce : Shape → List Entry → Type 0
 OnlyOnce d h = ((id : ℕ) → installs_of id h ≤ 1) × ((q : ℕ) → admits_of q h ≤ 1)
+
+-- what a claim gets begins where all that was claimed of its id before ended, or later
+abbrev pub ClaimsGoOn : Type 0
+ClaimsGoOn = (d : Shape) (w n from to s id : ℕ) (h : List Entry) → IsLegal d (entry w (ClaimRange n from to) ∷ h)
+    → place_of d h w ≡ Inside s id → All (λ (m : Morsel). m.to ≤ from) (claims_of d id h)
+
+-- the same of the worker's own ranges, by its trail before the call
+abbrev pub RangesGoOn : Type 0
+RangesGoOn = (d : Shape) (w n from to s id : ℕ) (old new : List Entry) → Called d w (ClaimRange n from to) old new
+    → place_of d old w ≡ Inside s id → All (λ (r : ℕ × ℕ). r.1 ≤ from) (ranges_of d w id old)
+
+-- of two claims of an id the later begins where the earlier ended, or later; and so of two ranges of a worker
+pub record AreApart (d : Shape) (h : List Entry) : Type 0 where
+  pub claims : (id : ℕ) → AllPairs (λ (m k : Morsel). k.to ≤ m.from) (claims_of d id h)
+  pub ranges : (w id : ℕ) → AllPairs (λ (r q : ℕ × ℕ). q.1 ≤ r.0) (ranges_of d w id h)
 
 -- a task set that was never installed has no claims
 abbrev pub NoEarlyClaims : Shape → List Entry → Type 0

@@ -3,7 +3,7 @@
 //! Each function does nothing; its contract is a law, and the lemma of its name in `proofs/` is what crates above cite.
 //! Each says which fault of the protocol it rules out.
 
-ghost use Rattle.slot_history.specs.Laws.{Always, AfterAll, QuietSlots, InsideSlots, OneDebt, ShutInside, CoordinatorOwesNothing, CoordinatorLeaves, OneOwner, OwnEntries, CallsGoOn, OnlyOnce, RangesOfClaims, NoEarlyClaims, TilesCursor, TilesTotal, FinishingLast, OnceInPlace};
+ghost use Rattle.slot_history.specs.Laws.{Always, AfterAll, QuietSlots, InsideSlots, OneDebt, ShutInside, CoordinatorOwesNothing, CoordinatorLeaves, OneOwner, OwnEntries, CallsGoOn, OnlyOnce, RangesOfClaims, ClaimsGoOn, RangesGoOn, AreApart, NoEarlyClaims, TilesCursor, TilesTotal, FinishingLast, OnceInPlace};
 ghost use Rattle.slot_history.specs.Lives.{IsBookOf};
 ghost use Rattle.slot_history.specs.Table.{IsTable};
 ghost use Rattle.slot_history.specs.Bounds.{IsWithin, AreCursors, IsCursorLimit, AreDebtsWithin, AreSlotsSound, IsFinishedBound};
@@ -132,6 +132,22 @@ pub fn only_once()
 /// Ruled out: a claim that is another worker's.
 pub fn ranges_claims()
     ensures { AfterAll RangesOfClaims }
+{}
+
+/// What a claim gets begins where all ranges that were claimed of its id before ended, or later: those of all workers,
+/// and, by the clause of every call, those that the worker's own trail gave.
+///
+/// Ruled out: a claim that reads the cursor and adds to it in two steps, between which another worker gets the same range.
+pub fn ranges_go_on()
+    ensures claims { ClaimsGoOn }
+    ensures ranges { RangesGoOn }
+{}
+
+/// No two ranges that were claimed of one id share a tuple: the later begins where the earlier ended, or later.
+///
+/// Ruled out: a cursor that is set back while its task set is open.
+pub fn ranges_apart()
+    ensures { AfterAll AreApart }
 {}
 
 /// A task set that was never installed has no claims.

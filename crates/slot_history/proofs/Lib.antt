@@ -25,6 +25,7 @@ pub mod OneAnswer
 pub mod Announcements
 pub mod SameTask
 pub mod Records
+pub mod OwnRecords
 pub mod Notices
 pub mod LoneTurns
 pub mod Known

@@ -1,11 +1,11 @@
--- A worker's place, with the numbers of its tokens, and its claims are given by its own entries alone: no call of another
--- worker changes them.
+-- A worker's place, with the numbers of its tokens, its claims and its notice records are given by its own entries
+-- alone: no call of another worker changes them.
 use Rattle.std.proofs.Common.{◌≡◌, ◌≢◌, ℕ, cond, List, [], ◌∷◌, refl, sym, ap, ap₂, ◌∙◌, subst, eq-eqb, ne_eqb}
 use native.Mathlib.Decide.{ℕ_discrete}
 use Rattle.slot_history.specs.declared.shape.Shape.{Shape}
 use Rattle.slot_history.specs.declared.act.Entry.{Entry}
 use Rattle.slot_history.specs.Steps.{moved, state_after}
-use Rattle.slot_history.specs.Histories.{IsLegal, entry, own_calls, place_of, ranges_after, ranges_of}
+use Rattle.slot_history.specs.Histories.{IsLegal, entry, own_calls, place_of, ranges_after, ranges_of, own_record, own_record_after}
 use Rattle.slot_history.specs.Laws.{OwnEntries, CallsGoOn}
 use Rattle.slot_history.proofs.Sets.{upd-else}
 
@@ -47,8 +47,24 @@ pub ranges-own : (d : Shape) (w id : ℕ) (h : List Entry) → ranges_of d w id 
 ranges-own d w id [] = refl
 ranges-own d w id (e ∷ es) = ranges-own-step d w id e es (ranges-own d w id es) (ℕ_discrete w e.worker)
 
+pub record-mine : (d : Shape) (w s : ℕ) (e : Entry) (h : List Entry) → w ≡ e.worker → own_record d w s (e ∷ h) ≡ own_record_after e.act (place_of d h w) s (own_record d w s h)
+record-mine d w s e h same = ap (λ b. cond b (own_record_after e.act (place_of d h w) s (own_record d w s h)) (own_record d w s h)) (eq-eqb w e.worker same)
+
+pub record-other : (d : Shape) (w s : ℕ) (e : Entry) (h : List Entry) → w ≢ e.worker → own_record d w s (e ∷ h) ≡ own_record d w s h
+record-other d w s e h other = ap (λ b. cond b (own_record_after e.act (place_of d h w) s (own_record d w s h)) (own_record d w s h)) (ne_eqb w e.worker other)
+
+record-own-step : (d : Shape) (w s : ℕ) (e : Entry) (es : List Entry) → own_record d w s es ≡ own_record d w s (own_calls w es) → Dec (w ≡ e.worker)
+    → own_record d w s (e ∷ es) ≡ own_record d w s (own_calls w (e ∷ es))
+record-own-step d w s e es ih (yes same) =
+    record-mine d w s e es same ∙ ap₂ (λ p r. own_record_after e.act p s r) (place-own d w es) ih ∙ sym (ap (own_record d w s) (own-mine e es w same) ∙ record-mine d w s e (own_calls w es) same)
+record-own-step d w s e es ih (no other) = record-other d w s e es other ∙ ih ∙ sym (ap (own_record d w s) (own-other e es w other))
+
+pub record-own : (d : Shape) (w s : ℕ) (h : List Entry) → own_record d w s h ≡ own_record d w s (own_calls w h)
+record-own d w s [] = refl
+record-own d w s (e ∷ es) = record-own-step d w s e es (record-own d w s es) (ℕ_discrete w e.worker)
+
 pub own-entries : (d : Shape) (h : List Entry) → OwnEntries d h
-own-entries d h w = record { place = place-own d w h; ranges = λ id. ranges-own d w id h }
+own-entries d h w = record { place = place-own d w h; ranges = λ id. ranges-own d w id h; records = λ s. record-own d w s h }
 
 -- ---- after a call, by the clause of every call
 
@@ -59,6 +75,9 @@ found-place d w old h same = place-own d w h ∙ ap (λ l. place_of d l w) same 
 pub found-ranges : (d : Shape) (w id : ℕ) (old h : List Entry) → own_calls w h ≡ own_calls w old → ranges_of d w id h ≡ ranges_of d w id old
 found-ranges d w id old h same = ranges-own d w id h ∙ ap (ranges_of d w id) same ∙ sym (ranges-own d w id old)
 
+found-record : (d : Shape) (w s : ℕ) (old h : List Entry) → own_calls w h ≡ own_calls w old → own_record d w s h ≡ own_record d w s old
+found-record d w s old h same = record-own d w s h ∙ ap (own_record d w s) same ∙ sym (record-own d w s old)
+
 pub calls-go-on : CallsGoOn
 calls-go-on d w a old new (h, is, begins, same, legal) =
     let at : place_of d h w ≡ place_of d old w = found-place d w old h same in
@@ -67,4 +86,5 @@ calls-go-on d w a old new (h, is, begins, same, legal) =
       place = ap (λ l. place_of d l w) is ∙ place-mine d (entry w a) h w refl ∙ ap (moved d a) at;
       ranges = λ id. ap (ranges_of d w id) is ∙ ranges-mine d w id (entry w a) h refl ∙ ap₂ (λ p rs. ranges_after a p id rs) at (found-ranges d w id old h same);
       allowed = (h, is, before.2, before.0, before.1, at);
+      records = λ s. ap (own_record d w s) is ∙ record-mine d w s (entry w a) h refl ∙ ap₂ (λ p r. own_record_after a p s r) at (found-record d w s old h same);
     }

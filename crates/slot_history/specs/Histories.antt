@@ -1,12 +1,14 @@
 -- Legal histories, what a trail knows of them, and what they did with each task set. Newest entries come first.
-use Rattle.std.specs.Prelude.{◌≡◌, ℕ, ◌+◌, ◌<◌, Bool, true, false, cond, eqb, ◌&&◌, List, [], ◌∷◌, ◌++◌, Option, Some, None}
+use Rattle.std.specs.Prelude.{◌≡◌, ℕ, ◌+◌, ◌/◌, ◌%◌, ◌<◌, Bool, true, false, cond, eqb, ◌&&◌, List, [], ◌∷◌, ◌++◌, Option, Some, None}
+use Rattle.std.specs.Int.{bit_at}
 use Rattle.slot_history.specs.declared.shape.Shape.{Shape}
+use Rattle.slot_history.specs.declared.shape.TheConstants.{STAGES}
 use Rattle.slot_history.specs.declared.act.Act.{Act}
-use Rattle.slot_history.specs.declared.act.Act.TheVariants.{LookOpen, ClaimRange, ClaimUsed, ShutWon, ShutLost, PayLast, MarkMarked, MarkMissed, SweepLast, ReserveGot, AdmitGot, Install, Release}
+use Rattle.slot_history.specs.declared.act.Act.TheVariants.{LookOpen, LookInvalid, LookVacant, ClaimRange, ClaimUsed, ShutWon, ShutLost, PayLast, MarkMarked, MarkMissed, SweepLast, ReserveGot, AdmitGot, Install, Release, TakeReturn, TakeChange}
 use Rattle.slot_history.specs.declared.act.Entry.{Entry}
 use Rattle.slot_history.specs.declared.place.Place.{Place}
-use Rattle.slot_history.specs.States.{slot_of, id_at, held_at, is_inside}
-use Rattle.slot_history.specs.Steps.{site, state_after}
+use Rattle.slot_history.specs.States.{NoticeRecord, slot_of, id_at, held_at, is_inside}
+use Rattle.slot_history.specs.Steps.{site, is_in_part, dropped, looked, state_after}
 use Rattle.slot_history.specs.Allowed.{IsAllowed}
 
 -- each call was allowed where it was made, and had its answer
@@ -74,6 +76,28 @@ ranges_by w (m ∷ ms) = cond (eqb w m.worker) ((m.from, m.to) ∷ ranges_by w m
 abbrev pub Tiles : List Morsel → ℕ → Type 0
 Tiles [] total = total ≡ 0
 Tiles (m ∷ ms) total = (m.to ≡ total) × (m.from < m.to) × Tiles ms m.from
+
+-- ---- notice records, by what a worker's own calls were answered
+
+-- the mask word of this part has the bit of the slot
+abbrev pub is_in_mask : ℕ → ℕ → ℕ → Bool
+is_in_mask part bits s = is_in_part part s && eqb (bit_at bits (s % 64)) 1
+
+-- the record of the slot s after a call of its worker, which is at p
+abbrev pub own_record_after : Act → Place → ℕ → NoticeRecord → NoticeRecord
+own_record_after (LookOpen id) p s r = cond (eqb s (slot_of p)) (looked (id / STAGES) r) r
+own_record_after LookInvalid p s r = cond (eqb s (slot_of p)) (dropped r) r
+own_record_after LookVacant p s r = cond (eqb s (slot_of p)) (dropped r) r
+own_record_after ShutWon p s r = cond (eqb s (slot_of p)) (dropped r) r
+own_record_after ShutLost p s r = cond (eqb s (slot_of p)) (dropped r) r
+own_record_after (TakeReturn part bits) p s r = cond (is_in_mask part bits s) (record r { active = true }) r
+own_record_after (TakeChange part bits) p s r = cond (is_in_mask part bits s) (record { active = true; group = None }) r
+own_record_after _ p s r = r
+
+-- the record that w has of the slot s
+abbrev pub own_record : Shape → ℕ → ℕ → List Entry → NoticeRecord
+own_record d w s [] = record { active = false; group = None }
+own_record d w s (e ∷ es) = cond (eqb w e.worker) (own_record_after e.act (place_of d es w) s (own_record d w s es)) (own_record d w s es)
 
 -- ---- task sets
 

@@ -7,7 +7,7 @@ use Rattle.slot_history.specs.declared.act.Entry.{Entry}
 use Rattle.slot_history.specs.States.{TaskSet, Ending, Shut, Finishing, task_of, ObjectState, id_of, is_empty, is_open, is_shut, owes, is_inside, has_own_cell, HasCell}
 use Rattle.slot_history.specs.Steps.{moved, state_after}
 use Rattle.slot_history.specs.Allowed.{IsAllowed}
-use Rattle.slot_history.specs.Histories.{IsLegal, Called, entry, own_calls, place_of, ranges_of, ranges_after, ranges_by, Morsel, claims_of, Tiles, installs_of, admits_of, lasts_of, total_of, FinalisedOnce}
+use Rattle.slot_history.specs.Histories.{IsLegal, Called, entry, own_calls, place_of, ranges_of, ranges_after, ranges_by, own_record, own_record_after, Morsel, claims_of, Tiles, installs_of, admits_of, lasts_of, total_of, FinalisedOnce}
 use Rattle.slot_history.specs.declared.place.Held.{Held}
 use Rattle.slot_history.specs.declared.place.Place.TheVariants.{Inside, Leading}
 use Rattle.slot_history.specs.Lives.{has_task}
@@ -45,21 +45,28 @@ CoordinatorOwesNothing d S = (s id w : ℕ) → w < d.workers → S.places w ≡
 abbrev pub OneOwner : Shape → ObjectState → Type 0
 OneOwner d S = (s v t u : ℕ) → t < d.workers → u < d.workers → HasCell S s v t → HasCell S s v u → t ≡ u
 
--- a worker's place, with the numbers of its tokens, and its claims are given by its own entries
+-- a worker's place, with the numbers of its tokens, its claims and its notice records are given by its own entries
 pub record IsOwn (d : Shape) (h : List Entry) (w : ℕ) : Type 0 where
   pub place : place_of d h w ≡ place_of d (own_calls w h) w
   pub ranges : (id : ℕ) → ranges_of d w id h ≡ ranges_of d w id (own_calls w h)
+  pub records : (s : ℕ) → own_record d w s h ≡ own_record d w s (own_calls w h)
 
 abbrev pub OwnEntries : Shape → List Entry → Type 0
 OwnEntries d h = (w : ℕ) → IsOwn d h w
 
--- What a worker knows of its call, by its trails before and after: its place and its claims go on from those that the
--- trail before gave, and the call was allowed, with its answer, after a legal history in which it was at that place.
+-- the notice records of a state are those that the workers' own calls give
+abbrev pub OwnRecords : Shape → List Entry → Type 0
+OwnRecords d h = (w s : ℕ) → (state_after d h).records w s ≡ own_record d w s h
+
+-- What a worker knows of its call, by its trails before and after: its place, its claims and its notice records go on
+-- from those that the trail before gave, and the call was allowed, with its answer, after a legal history in which it was
+-- at that place.
 pub record IsCallFrom (d : Shape) (w : ℕ) (a : Act) (old new : List Entry) : Type 0 where
   pub place : place_of d new w ≡ moved d a (place_of d old w)
   pub ranges : (id : ℕ) → ranges_of d w id new ≡ ranges_after a (place_of d old w) id (ranges_of d w id old)
   pub allowed : (h : List Entry) × (new ≡ entry w a ∷ h) × IsLegal d h × (w < d.workers)
       × IsAllowed d (state_after d h) w a × (place_of d h w ≡ place_of d old w)
+  pub records : (s : ℕ) → own_record d w s new ≡ own_record_after a (place_of d old w) s (own_record d w s old)
 
 abbrev pub CallsGoOn : Type 0
 CallsGoOn = (d : Shape) (w : ℕ) (a : Act) (old new : List Entry) → Called d w a old new → IsCallFrom d w a old new

@@ -3,7 +3,7 @@
 //! Each function does nothing; its contract is a law, and the lemma of its name in `proofs/` is what crates above cite.
 //! Each says which fault of the protocol it rules out.
 
-ghost use Rattle.slot_history.specs.Laws.{Always, AfterAll, QuietSlots, InsideSlots, OneDebt, ShutInside, CoordinatorOwesNothing, CoordinatorLeaves, OneOwner, OwnEntries, CallsGoOn, OnlyOnce, RangesOfClaims, ClaimsGoOn, RangesGoOn, AreApart, NoEarlyClaims, TilesCursor, TilesTotal, FinishingLast, OnceInPlace};
+ghost use Rattle.slot_history.specs.Laws.{Always, AfterAll, QuietSlots, InsideSlots, OneDebt, ShutInside, CoordinatorOwesNothing, CoordinatorLeaves, OneOwner, OwnEntries, OwnRecords, CallsGoOn, OnlyOnce, RangesOfClaims, ClaimsGoOn, RangesGoOn, AreApart, NoEarlyClaims, TilesCursor, TilesTotal, FinishingLast, OnceInPlace};
 ghost use Rattle.slot_history.specs.Lives.{IsBookOf};
 ghost use Rattle.slot_history.specs.Table.{IsTable};
 ghost use Rattle.slot_history.specs.Bounds.{IsWithin, AreCursors, IsCursorLimit, AreDebtsWithin, AreSlotsSound, IsFinishedBound};
@@ -63,7 +63,8 @@ pub fn coordinator_owes_nothing()
     ensures { Always CoordinatorOwesNothing }
 {}
 
-/// The leave of a coordinator answers `LeaveLeft`: a worker whose leave answered `LeaveOwe` was not at `Leading` before.
+/// The leave of a coordinator answers `LeaveLeft`: a worker whose leave answered `LeaveOwe` was not at `Leading`
+/// before.
 ///
 /// Ruled out: a shut that two workers win, of whom one is marked by the other and leaves with two duties.
 pub fn coordinator_leaves()
@@ -97,15 +98,24 @@ pub fn finished_bound()
     ensures { Always IsFinishedBound }
 {}
 
-/// A worker's place, with the numbers of its tokens, and its claims are given by its own entries alone.
+/// A worker's place, with the numbers of its tokens, its claims and its notice records are given by its own entries
+/// alone.
 ///
 /// Ruled out: a call of another worker that moves this one, or takes its claims away.
 pub fn own_entries()
     ensures { AfterAll OwnEntries }
 {}
 
-/// After a call, by the clause of every call, its worker's place and claims go on from those that the trail before gave; and
-/// the call was allowed there, with its answer.
+/// The notice records of every state are those that the workers' own calls give: a worker's by its looks, its shuts and
+/// the bits that it took.
+///
+/// Ruled out: a take that answers other bits than those of the notices that it clears.
+pub fn own_records()
+    ensures { AfterAll OwnRecords }
+{}
+
+/// After a call, by the clause of every call, its worker's place, claims and notice records go on from those that the
+/// trail before gave; and the call was allowed there, with its answer.
 ///
 /// Ruled out: a trail that leaves out a call of its own worker.
 pub fn calls_go_on()
@@ -137,7 +147,8 @@ pub fn ranges_claims()
 /// What a claim gets begins where all ranges that were claimed of its id before ended, or later: those of all workers,
 /// and, by the clause of every call, those that the worker's own trail gave.
 ///
-/// Ruled out: a claim that reads the cursor and adds to it in two steps, between which another worker gets the same range.
+/// Ruled out: a claim that reads the cursor and adds to it in two steps, between which another worker gets the same
+/// range.
 pub fn ranges_go_on()
     ensures claims { ClaimsGoOn }
     ensures ranges { RangesGoOn }

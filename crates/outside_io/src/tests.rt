@@ -1,7 +1,7 @@
 use super::*;
 use std::alloc::{AllocError, Global};
 use std::test::Fail;
-use std::{env, fs};
+use std::{env, fs, process};
 
 fn files(alloc: Global, fails: &[u64], name: &str, len: usize) -> Result<MemFiles, AllocError> {
     let mut files = MemFiles::new(alloc, Vec::from_slice(alloc, fails)?);
@@ -83,7 +83,11 @@ fn writes_in_pieces(rt: HostRuntime) -> Result<(), Fail> {
 #[test]
 fn reads_and_writes_outside(rt: HostRuntime) -> Result<(), Fail> {
     let alloc = rt.alloc();
-    let name = format!(in alloc; "{}/outside_io_test", env::temp_dir(&rt)?.display())?;
+    let name = format!(in alloc;
+        "{}/outside_io_test_{}",
+        env::temp_dir(&rt)?.display(),
+        process::id(rt.process())
+    )?;
     fs::write(&rt, name.as_str(), b"k,v\n")?;
     let mut files = DirFiles::new(rt, alloc);
     let read = read_whole(alloc, &mut files, name.as_str(), 4)?;

@@ -191,6 +191,7 @@ impl Sink for MemSink {
         ensures goes_on { IfOk result (λ count. 0 < length bytes.now → 0 < count) }
         ensures appended { WriteAppends (Some (taken_bytes self.old)) (Some (taken_bytes self.new)) result bytes.now }
         ensures never_falls { faults_met self.old ≤ faults_met self.new }
+        ensures ok { OnOk result (faults_met self.new ≡ faults_met self.old) }
         ensures failed { OnErr result (CountRose (faults_met self.old) (faults_met self.new)) }
         ensures answer { MatchBool (refuses_piece self.old bytes.now) (IsErr result)
             (result ≡ Ok (bytes_taken self.old bytes.now)) }

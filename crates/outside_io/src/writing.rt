@@ -26,6 +26,7 @@ pub trait Sink {
         ensures goes_on { IfOk result (λ count. 0 < length bytes.now → 0 < count) }
         ensures appended { WriteAppends (written self.old) (written self.new) result bytes.now }
         ensures never_falls { faults self.old ≤ faults self.new }
+        ensures ok { OnOk result (faults self.new ≡ faults self.old) }
         ensures failed { OnErr result (CountRose (faults self.old) (faults self.new)) };
 }
 
@@ -35,6 +36,7 @@ pub fn write_all<S: Sink>(sink: &mut S, bytes: &[u8]) -> Result<(), Failed>
     ensures ok { OnOk result (Appends (S.written sink.old) (S.written sink.new) bytes.now) }
     ensures err { OnErr result (AppendsPrefix (S.written sink.old) (S.written sink.new) bytes.now) }
     ensures never_falls { S.faults sink.old ≤ S.faults sink.new }
+    ensures no_fault { OnOk result (S.faults sink.new ≡ S.faults sink.old) }
     ensures failed { OnErr result (CountRose (S.faults sink.old) (S.faults sink.new)) }
 {
     let mut rest = bytes;

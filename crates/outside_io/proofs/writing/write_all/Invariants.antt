@@ -7,7 +7,7 @@ invariant-loop-rest g l = record {
   rest_is : l.rest ≡ drop (length l.bytes - length l.rest) l.bytes;
   within : length l.rest ≤ length l.bytes;
   told : Appends (g.S.Sink.written l.fn.sink) (g.S.Sink.written l.sink) (take (length l.bytes - length l.rest) l.bytes);
-  never_fell : g.S.Sink.faults l.fn.sink ≤ g.S.Sink.faults l.sink;
+  no_fault : g.S.Sink.faults l.sink ≡ g.S.Sink.faults l.fn.sink;
 }
 
 abbrev pub decreases-loop-rest : goal.decreases-loop-rest

@@ -1,5 +1,5 @@
 //! The trusted edge: the files of the file system and standard output, of whose bytes no clause speaks.
-ghost use Rattle.std.specs.Prelude.{◌≡◌, List, [], length, IfOk, ◌≤◌};
+ghost use Rattle.std.specs.Prelude.{◌≡◌, [], length, IfOk, ◌≤◌};
 
 use super::faults::note_fault;
 use super::reading::{Files, PieceRefusal};

@@ -4,8 +4,8 @@
 //! from text, check queries against them and scan them.
 //!
 //! The one fact that they may use: a table is a list of names and a list of rows (`NamedRows`). Its names
-//! are legal and differ, there are 1 to 32 of them, each row has one value a name, and there are at most
-//! 1,048,576 rows (`IsTable`).
+//! differ, there are 1 to 32 of them, each row has one value a name, and there are at most 1,048,576 rows
+//! (`IsTable`). That each name is legal is told where it is shown, by `ColumnName::as_str`.
 #![tactic(auto)]
 
 mod lists;

@@ -2,11 +2,11 @@
 use Rattle.std.specs.Prelude.{ℕ, ◌≤◌, ◌≢◌, List, length, All, IsUtf8}
 use Rattle.col_table.specs.declared.name.TheConstants.{MAX_NAME_BYTES}
 
--- a byte that is part of no control character: in UTF-8 a byte below U+0020, and U+007F, stand for themselves alone
+-- a byte that is part of no ASCII control character: in UTF-8 a byte below U+0020, and U+007F, stand for themselves alone
 abbrev pub IsPlain : ℕ → Type 0
 IsPlain byte = (0x20 ≤ byte) × (byte ≢ 0x7f)
 
--- bytes that are a name: text, short, and without control characters
+-- bytes that are a name: text, short, and without ASCII control characters
 pub record IsName (bytes : List ℕ) : Type 0 where
   pub text : IsUtf8 bytes
   pub short : length bytes ≤ MAX_NAME_BYTES

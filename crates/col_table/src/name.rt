@@ -12,7 +12,7 @@ pub const MAX_NAME_BYTES: usize = 64;
 #[derive(Debug, Drop)]
 pub struct BadName(pub String);
 
-/// The name of a column: a text of 0 to 64 bytes without control characters, as `new` has it.
+/// The name of a column: a text of 0 to 64 bytes without ASCII control characters, as `new` has it.
 ///
 /// Two names are equal exactly where their bytes are. The empty name is one too.
 #[derive(Clone, Debug, Drop)]

@@ -76,7 +76,7 @@ pub record IsSumScript (value : Data) (texts : Texts) : Type 0 where
 
 -- ---- what a script may say
 
--- a text that may be the name of a file: 1 to 255 bytes without control characters
+-- a text that may be the name of a file: 1 to 255 bytes without ASCII control characters
 pub record IsFileName (bytes : List ℕ) : Type 0 where
   pub text : IsUtf8 bytes
   pub some : 1 ≤ length bytes

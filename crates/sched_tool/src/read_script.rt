@@ -55,8 +55,8 @@ impl From<AllocError> for ScriptRefusal {
 /// and `queries` one query with just `scan`, which is the table's name, and `output`, which has just `totals`: one
 /// aggregate with just `fn`, which is `sum`, and `col`. Where a key comes twice, its later value stays.
 ///
-/// Names are those of `Name::new`, and a file is 1 to 255 bytes without control characters. The query arrives at
-/// once and has the usual weight of 10 and the usual cost of 100 nanoseconds a tuple.
+/// Names are those of `Name::new`, and a file is 1 to 255 bytes without ASCII control characters. The query
+/// arrives at once and has the usual weight of 10 and the usual cost of 100 nanoseconds a tuple.
 pub fn read_script(alloc: Global, bytes: &[u8]) -> Result<Script, ScriptRefusal>
     ensures accepted { IfOk result (ReadsScript bytes.now) }
     ensures refused { IfErr result (RefusesScript bytes.now) }

@@ -4,8 +4,8 @@
 //! sizes double from 16 tuples until a morsel takes a millisecond. Then an estimate of the time per
 //! tuple sets the default size, which aims at 2,000,000 nanoseconds a morsel. Near the end of the task
 //! set, in shutdown, the workers share the tuples that rest, so that they end at about the same time.
-//! The phases are those of Wagner, Kohn and Neumann, "Self-Tuning Query Scheduling for Analytical
-//! Workloads" (SIGMOD 2021); the numbers are this project's own.
+//! All this is after the idea of Wagner, Kohn and Neumann, "Self-Tuning Query Scheduling for Analytical
+//! Workloads" (SIGMOD 2021); the phases and the numbers are this project's own.
 //!
 //! The layer stands on no other. The one fact for the layer above: `next` is `size_of` of the morsels
 //! taken so far, the tuples of the task set, the end of the last range and the number of workers.

@@ -24,7 +24,7 @@ pub trait Fits: Drop {
 }
 
 /// The calls of one worker, whatever the object behind them. No call takes memory. A call that has an entry in the
-/// history makes one atomic step and ticks once, and so does an exchange of a cell, which has no entry.
+/// history makes one atomic step and ticks once; an exchange of a cell has no entry, and ticks once too.
 ///
 /// A call is allowed by the worker's place, which its trail gives, by the fields of its tokens, and by its notes of cells.
 pub trait Station<B: Fits> {

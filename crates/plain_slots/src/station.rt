@@ -32,11 +32,12 @@ pub trait Station<B: Fits> {
     ghost use Rattle.slot_history.specs.declared.shape.TheConstants.{STAGES, PARTS, MOST_SLOTS, MOST_WORKERS, MOST_CLAIM, MOST_TOTAL};
     ghost use Rattle.slot_history.specs.declared.act.Act.TheVariants.{Enter, Arrivals, Finished, Note as NoteDone, Total, Install, Release, Tell, TakeReturn, TakeChange};
     ghost use Rattle.slot_history.specs.declared.act.Entry.{Entry};
-    ghost use Rattle.slot_history.specs.declared.place.Place.TheVariants.{Free, Entered, Inside};
+    ghost use Rattle.slot_history.specs.declared.place.Place.TheVariants.{Free, Entered, Inside, Leading};
     ghost use Rattle.slot_history.specs.States.{id_at, can_leave, next_id};
     ghost use Rattle.slot_history.specs.Allowed.{IsReady};
     ghost use Rattle.plain_slots.specs.declared.note.Note.{Note};
     ghost use Rattle.plain_slots.specs.declared.note.Note.TheVariants.{Empty, Kept, Fresh};
+    ghost use Rattle.plain_slots.specs.declared.reply.Leave.TheVariants.{Left};
     ghost use Rattle.plain_slots.specs.Desks.{Desk, place_at, held_by, ByTrail, Makes, OwnFits, NextFits, FinalisedFits};
     ghost use Rattle.plain_slots.specs.Cells.{has_cell, kept_note, fresh_note, NoteSays};
     ghost use Rattle.plain_slots.specs.Tokens.{IsSpent, IsDebt, IsCoordinator, IsHolder, IsAnnouncer, IsDone, ClaimGives, ShutGives, LeaveGives, SweepGives, PayGives, ReserveGives};
@@ -110,14 +111,15 @@ pub trait Station<B: Fits> {
         ensures origin { origin self.new ≡ origin self.old }
         ensures ticks { steps.new ≡ steps.old + 1 };
 
-    /// The worker is at no slot. Owe exactly where it was marked at this slot. Where it was inside, its own cell has to be in
-    /// the table, with a value that fits its ranges.
+    /// The worker is at no slot. Owe exactly where it was marked at this slot, which whoever shut the task set never was.
+    /// Where it was inside, its own cell has to be in the table, with a value that fits its ranges.
     fn leave<L: Ledger>(&mut self, steps: &mut Steps<L>) -> Leave
         requires place { can_leave (place_at (desk (origin self.old)) (trail self.old)) ≡ true }
         requires cell { has_cell (place_at (desk (origin self.old)) (trail self.old)) ≡ true → notes self.old (desk (origin self.old)).worker ≡ Kept }
         ensures made { Makes B.total (desk (origin self.old)) (leave_act result)
             (trail self.old) (trail self.new) (notes self.old) (notes self.new) }
         ensures task_set { OwesTaskSet (B.total (desk (origin self.old)).subject) result }
+        ensures coordinator { (s id : ℕ) → place_at (desk (origin self.old)) (trail self.old) ≡ Leading s id → result ≡ Left }
         ensures debt { ByTrail LeaveGives (desk (origin self.old)) (trail self.new) result }
         ensures origin { origin self.new ≡ origin self.old }
         ensures ticks { steps.new ≡ steps.old + 1 };

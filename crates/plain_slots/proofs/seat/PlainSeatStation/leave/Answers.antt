@@ -1,12 +1,13 @@
 use Rattle.std.proofs.Common.{◌≡◌, true, subst}
 use Rattle.plain_slots.specs.Replies.{leave_act, OwesTaskSet}
 use Rattle.plain_slots.specs.Tokens.{LeaveGives}
+use Rattle.slot_history.specs.declared.place.Place.TheVariants.{Leading}
 use Rattle.slot_history.specs.States.{can_leave}
 use Rattle.plain_slots.proofs.Seated.{leave-kept}
 use Rattle.slot_history.specs.Histories.{place_of}
 use Rattle.plain_slots.specs.Log.{calls_of, note_in}
 use Rattle.plain_slots.specs.Seats.{trail_in}
-use Rattle.plain_slots.proofs.Seated.{table-after, place-for, table-subject, new-shape, new-below, new-since, token-for, seat-makes, owes-set, leave-allows}
+use Rattle.plain_slots.proofs.Seated.{table-after, place-for, table-subject, new-shape, new-below, new-since, token-for, seat-makes, owes-set, leading-left, leave-allows}
 use Rattle.plain_slots.proofs.seat.PlainSeatStation.leave.Goals as goal
 
 pub leave-requires-clause-place : goal.leave-requires-clause-place
@@ -33,3 +34,7 @@ returns-clause-debt g c = token-for c.table.inside.object c.table.inside.subject
 
 pub returns-clause-task_set : goal.returns-clause-task_set
 returns-clause-task_set g c = subst (λ u. OwesTaskSet (g.B.Fits.total u) c.leave.result) (table-subject c.table.inside.object c.table.inside.subject.value c.args.self.now.start.value c.args.self.now.table.now c.table.view_is c.args.self.now.shape c.args.self.now.subject c.args.self.now.worker) (owes-set (g.B.Fits.total c.table.inside.subject.value) c.table.inside.object c.table.invariant.task_sets c.args.self.now.worker c.leave.result c.leave.new.self c.leave.ensures.made)
+
+pub returns-clause-coordinator : goal.returns-clause-coordinator
+returns-clause-coordinator g c = λ s id at. leading-left (g.B.Fits.total c.table.inside.subject.value) c.table.inside.object c.table.invariant.task_sets c.args.self.now.worker c.leave.result c.leave.new.self c.leave.ensures.made s id
+    (place-for c.table.inside.object c.table.inside.subject.value c.args.self.now.start.value c.args.self.now.table.now c.table.view_is c.args.self.now.shape c.args.self.now.subject c.args.self.now.worker (λ p. p ≡ Leading s id) at)

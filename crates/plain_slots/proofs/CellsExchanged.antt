@@ -49,8 +49,8 @@ module _ (w c : ℕ) (n : Note) (l : List Logged) where
   note-of_else u v other = ap (λ b. cond (eqb u w && b) n (note_in l u v)) (ne_eqb v c other) ∙ ap (λ a. cond a n (note_in l u v)) (and-false (eqb u w))
 
 -- the seat of the worker w, over a table with this log and these cells
-module _ {B Sub : Type 0} (total : Sub → ℕ → Option ℕ) (fits : Sub → ℕ → ℕ → List (ℕ × ℕ) → B → Type 0) (d : Shape) (subject : Sub) (log : List Logged) (cells : List (Option B)) (w : ℕ)
-    (low : w < d.workers) (legal : IsLegal d (calls_of log)) (ok : IsPlain total fits d subject log cells) where
+module _ {B Sub : Type 0} (queries : Sub → ℕ) (total : Sub → ℕ → Option ℕ) (fits : Sub → ℕ → ℕ → List (ℕ × ℕ) → B → Type 0) (d : Shape) (subject : Sub) (log : List Logged) (cells : List (Option B)) (w : ℕ)
+    (low : w < d.workers) (legal : IsLegal d (calls_of log)) (ok : IsPlain queries total fits d subject log cells) where
   abbrev h : List Entry
   h = calls_of log
 
@@ -69,9 +69,10 @@ module _ {B Sub : Type 0} (total : Sub → ℕ → Option ℕ) (fits : Sub → �
 
   -- the worker has cells of the slot s alone, and exchanges that of c there
   exchanged : (s c : ℕ) (n : Note) → c < d.workers → ((t : ℕ) → t ≢ s → has_own_cell (S.places w) t ≡ false) → ((t : ℕ) (k : Held) → IsHeldBy w k (S.slots t) → t ≡ s)
-      → (new : Option B) → Cell (longer w c n log) s c new → IsPlain total fits d subject (longer w c n log) (set cells (s * d.workers + c) new)
+      → (new : Option B) → Cell (longer w c n log) s c new → IsPlain queries total fits d subject (longer w c n log) (set cells (s * d.workers + c) new)
   exchanged s c n in_c out one new mine =
       let after : List Logged = longer w c n log in record {
+        queries_are = ok.queries_are;
         of_subject = ok.of_subject;
         task_sets = ok.task_sets;
         count = length-set cells (s * d.workers + c) new ∙ ok.count;
@@ -107,7 +108,7 @@ module _ {B Sub : Type 0} (total : Sub → ℕ → Option ℕ) (fits : Sub → �
     own-cell-says x at = transport (own-is log x) (ok.cells_are (slot_of p) w x (has-within d p has-cell ((within d h legal).places w)) low at)
 
     pub plain-own-cell : (new : Option B) (n : Note) → n ≡ kept_note new → IfSome new (OwnFits fits desk trail)
-        → IsPlain total fits d subject (Exchanged (record { worker = w; cell = w; note = n }) ∷ log) (set cells (slot_of p * d.workers + w) new)
+        → IsPlain queries total fits d subject (Exchanged (record { worker = w; cell = w; note = n }) ∷ log) (set cells (slot_of p * d.workers + w) new)
     plain-own-cell new n is fit = exchanged (slot_of p) w n low (inside-only d h w low legal has-cell) (inside-holds d h w low legal has-cell) new
         (transport (sym (own-is (longer w w n log) new)) (subst (λ m. NoteSays (OwnFits fits desk trail) (λ b. ⊥) m new) (sym (note-exchanged w w n log ∙ is)) (says-kept (OwnFits fits desk trail) (λ b. ⊥) new fit)))
 
@@ -136,7 +137,7 @@ module _ {B Sub : Type 0} (total : Sub → ℕ → Option ℕ) (fits : Sub → �
         (ok.cells_are s v x (subst (IsPlaceWithin d) place-is ((within d h legal).places w)) in_v at))
 
     pub plain-cell : (new : Option B) (n : Note) → n ≡ fresh_note new → IfSome new (NextFits fits desk trail v)
-        → IsPlain total fits d subject (Exchanged (record { worker = w; cell = v; note = n }) ∷ log) (set cells (s * d.workers + v) new)
+        → IsPlain queries total fits d subject (Exchanged (record { worker = w; cell = v; note = n }) ∷ log) (set cells (s * d.workers + v) new)
     plain-cell new n is fit = exchanged s v n in_v
         (λ t other. ap (λ q. has_own_cell q t) place-is)
         (λ t j other. let r : Holding t j ≡ Holding s k = sym (holder-place d S (table d h legal) t w j other) ∙ place-is in cc)

@@ -90,10 +90,11 @@ module _ {B : Type 0} (fits : ℕ → List (ℕ × ℕ) → B → Type 0) (total
       (λ is. subst (λ t. At fits d h N w s v in_v x a (slot_after d w a (S.slots t))) is (slot-cell fits d h N w s v in_v x totals a legal allow is own))
       (λ other. own)
 
-module _ {B Sub : Type 0} (total : Sub → ℕ → Option ℕ) (fits : Sub → ℕ → ℕ → List (ℕ × ℕ) → B → Type 0) (d : Shape) (subject : Sub) where
+module _ {B Sub : Type 0} (queries : Sub → ℕ) (total : Sub → ℕ → Option ℕ) (fits : Sub → ℕ → ℕ → List (ℕ × ℕ) → B → Type 0) (d : Shape) (subject : Sub) where
   -- every cell is empty where nothing was done
-  pub plain-opening : (cells : List (Option B)) → length cells ≡ d.slots * d.workers → ((i : ℕ) (x : Option B) → slice_get cells i ≡ Some x → x ≡ None) → IsPlain total fits d subject [] cells
-  plain-opening cells count none = record {
+  pub plain-opening : d.queries ≡ queries subject → (cells : List (Option B)) → length cells ≡ d.slots * d.workers → ((i : ℕ) (x : Option B) → slice_get cells i ≡ Some x → x ≡ None) → IsPlain queries total fits d subject [] cells
+  plain-opening asks cells count none = record {
+    queries_are = asks;
     of_subject = tt;
     task_sets = λ s low. tt;
     count = count;
@@ -103,12 +104,13 @@ module _ {B Sub : Type 0} (total : Sub → ℕ → Option ℕ) (fits : Sub → �
   -- a call whose worker's notes allow it, by its place that its trail gives
   pub plain-call : (log : List Logged) (cells : List (Option B)) (w : ℕ) (a : Act) → IsLegal d (calls_of (call w a ∷ log))
       → NotesAllow (total subject) d w (place_of d (trail_in w (calls_of log)) w) (note_in log w) a
-      → IsPlain total fits d subject log cells → IsPlain total fits d subject (call w a ∷ log) cells
+      → IsPlain queries total fits d subject log cells → IsPlain queries total fits d subject (call w a ∷ log) cells
   plain-call log cells w a legal allow ok =
       let h : List Entry = calls_of log in
       let S : ObjectState = state_after d h in
       let totals : ℕ → Option ℕ = total subject in
       let may : NotesAllow totals d w (place_of d h w) (note_in log w) a = subst (λ p. NotesAllow totals d w p (note_in log w) a) (place-trail d w h) allow in record {
+        queries_are = ok.queries_are;
         of_subject = (installs-of totals d w (place_of d h w) (note_in log w) a may, ok.of_subject);
         task_sets = λ s in_s. upd-cases S.slots (site a (S.places w)) (slot_after d w a (S.slots (site a (S.places w)))) s (HoldsTaskSet totals)
             (λ is. set-after totals d S w (note_in log w) a (table d h legal.2) legal.0 legal.1 may (subst (λ t. HoldsTaskSet totals (S.slots t)) is (ok.task_sets s in_s)))

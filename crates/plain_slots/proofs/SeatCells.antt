@@ -23,8 +23,8 @@ use Rattle.plain_slots.proofs.Lists.{pair-within}
 use Rattle.plain_slots.proofs.Trails.{place-trail}
 use Rattle.plain_slots.proofs.Seated.{to-object, to-seat, own-below, shape-for}
 
-module _ {B Sub : Type 0} (total : Sub → ℕ → Option ℕ) (fits : Sub → ℕ → ℕ → List (ℕ × ℕ) → B → Type 0) (o : Story) (subject : Sub) (start now : Plain Sub) (view : record { shape = o.shape; subject = subject; log = o.log } ≡ now)
-    (shape : now.shape ≡ start.shape) (same : now.subject ≡ start.subject) (w : ℕ) (low : w < now.shape.workers) (legal : IsLegal o.shape (calls_of o.log)) (cells : List (Option B)) (ok : IsPlain total fits o.shape subject o.log cells) where
+module _ {B Sub : Type 0} (queries : Sub → ℕ) (total : Sub → ℕ → Option ℕ) (fits : Sub → ℕ → ℕ → List (ℕ × ℕ) → B → Type 0) (o : Story) (subject : Sub) (start now : Plain Sub) (view : record { shape = o.shape; subject = subject; log = o.log } ≡ now)
+    (shape : now.shape ≡ start.shape) (same : now.subject ≡ start.subject) (w : ℕ) (low : w < now.shape.workers) (legal : IsLegal o.shape (calls_of o.log)) (cells : List (Option B)) (ok : IsPlain queries total fits o.shape subject o.log cells) where
   abbrev desk : Desk Sub
   desk = record { worker = w; shape = o.shape; subject = subject }
 
@@ -57,16 +57,16 @@ module _ {B Sub : Type 0} (total : Sub → ℕ → Option ℕ) (fits : Sub → �
         → NoteSays (FinalisedFits fits (desk_over start w) (trail_in w (calls_of now.log)) v) (NextFits fits (desk_over start w) (trail_in w (calls_of now.log)) v) (note_in now.log w v) r
     seat-cell-says r read =
         to-seat o subject start now view shape same w (λ D l. NoteSays (FinalisedFits fits D (trail_in D.worker (calls_of l)) v) (NextFits fits D (trail_in D.worker (calls_of l)) v) (note_in l D.worker v) r)
-        (cell-says total fits o.shape subject o.log cells w below legal ok x.slot held holds v in-workers r (element x.slot v i in-slots in-workers at r read))
+        (cell-says queries total fits o.shape subject o.log cells w below legal ok x.slot held holds v in-workers r (element x.slot v i in-slots in-workers at r read))
 
     pub seat-cell : (new dest : Option B) → dest ≡ new → (n : Note) → n ≡ fresh_note new → IfSome new (NextFits fits (desk_over start w) (trail_in w (calls_of now.log)) v)
-        → (o' : Story) → o' ≡ record o { log = Exchanged (record { worker = w; cell = v; note = n }) ∷ o.log } → IsPlain total fits o'.shape subject o'.log (set cells i dest)
+        → (o' : Story) → o' ≡ record o { log = Exchanged (record { worker = w; cell = v; note = n }) ∷ o.log } → IsPlain queries total fits o'.shape subject o'.log (set cells i dest)
     seat-cell new dest puts n notes fit o' grows =
         let f = to-object o subject start now view shape same w (λ D l. IfSome new (NextFits fits D (trail_in D.worker (calls_of l)) v)) fit in
-        let p = plain-cell total fits o.shape subject o.log cells w below legal ok x.slot held holds v in-workers new n notes f in
-        subst (λ (y : Story). IsPlain total fits y.shape subject y.log (set cells i dest)) (sym grows)
-        (subst (λ j. IsPlain total fits o.shape subject (Exchanged (record { worker = w; cell = v; note = n }) ∷ o.log) (set cells j dest)) (sym at)
-        (subst (λ y. IsPlain total fits o.shape subject (Exchanged (record { worker = w; cell = v; note = n }) ∷ o.log) (set cells (x.slot * o.shape.workers + v) y)) (sym puts) p))
+        let p = plain-cell queries total fits o.shape subject o.log cells w below legal ok x.slot held holds v in-workers new n notes f in
+        subst (λ (y : Story). IsPlain queries total fits y.shape subject y.log (set cells i dest)) (sym grows)
+        (subst (λ j. IsPlain queries total fits o.shape subject (Exchanged (record { worker = w; cell = v; note = n }) ∷ o.log) (set cells j dest)) (sym at)
+        (subst (λ y. IsPlain queries total fits o.shape subject (Exchanged (record { worker = w; cell = v; note = n }) ∷ o.log) (set cells (x.slot * o.shape.workers + v) y)) (sym puts) p))
 
   -- ---- the own cell
 
@@ -83,13 +83,13 @@ module _ {B Sub : Type 0} (total : Sub → ℕ → Option ℕ) (fits : Sub → �
     pub seat-own_says : (r : Option B) → r ≡ get_or cells i r → NoteSays (OwnFits fits (desk_over start w) (trail_in w (calls_of now.log))) (λ b. ⊥) (note_in now.log w w) r
     seat-own_says r read =
         to-seat o subject start now view shape same w (λ D l. NoteSays (OwnFits fits D (trail_in D.worker (calls_of l))) (λ b. ⊥) (note_in l D.worker D.worker) r)
-        (own-cell-says total fits o.shape subject o.log cells w below legal ok own-has r (element (slot_of (place_in o w)) w i own-slots below at r read))
+        (own-cell-says queries total fits o.shape subject o.log cells w below legal ok own-has r (element (slot_of (place_in o w)) w i own-slots below at r read))
 
     pub seat-own : (new dest : Option B) → dest ≡ new → (n : Note) → n ≡ kept_note new → IfSome new (OwnFits fits (desk_over start w) (trail_in w (calls_of now.log)))
-        → (o' : Story) → o' ≡ record o { log = Exchanged (record { worker = w; cell = w; note = n }) ∷ o.log } → IsPlain total fits o'.shape subject o'.log (set cells i dest)
+        → (o' : Story) → o' ≡ record o { log = Exchanged (record { worker = w; cell = w; note = n }) ∷ o.log } → IsPlain queries total fits o'.shape subject o'.log (set cells i dest)
     seat-own new dest puts n notes fit o' grows =
         let f = to-object o subject start now view shape same w (λ D l. IfSome new (OwnFits fits D (trail_in D.worker (calls_of l)))) fit in
-        let p = plain-own-cell total fits o.shape subject o.log cells w below legal ok own-has new n notes f in
-        subst (λ (y : Story). IsPlain total fits y.shape subject y.log (set cells i dest)) (sym grows)
-        (subst (λ j. IsPlain total fits o.shape subject (Exchanged (record { worker = w; cell = w; note = n }) ∷ o.log) (set cells j dest)) (sym at)
-        (subst (λ y. IsPlain total fits o.shape subject (Exchanged (record { worker = w; cell = w; note = n }) ∷ o.log) (set cells (slot_of (place_in o w) * o.shape.workers + w) y)) (sym puts) p))
+        let p = plain-own-cell queries total fits o.shape subject o.log cells w below legal ok own-has new n notes f in
+        subst (λ (y : Story). IsPlain queries total fits y.shape subject y.log (set cells i dest)) (sym grows)
+        (subst (λ j. IsPlain queries total fits o.shape subject (Exchanged (record { worker = w; cell = w; note = n }) ∷ o.log) (set cells j dest)) (sym at)
+        (subst (λ y. IsPlain queries total fits o.shape subject (Exchanged (record { worker = w; cell = w; note = n }) ∷ o.log) (set cells (slot_of (place_in o w) * o.shape.workers + w) y)) (sym puts) p))

@@ -109,14 +109,14 @@ of-totals totals d (e ∷ es) all id total h = of-totals-step totals e.act (held
 
 -- ---- what a call makes of the table and of the seat
 
-module _ {B Sub : Type 0} (total : Sub → ℕ → Option ℕ) (fits : Sub → ℕ → ℕ → List (ℕ × ℕ) → B → Type 0) where
+module _ {B Sub : Type 0} (queries : Sub → ℕ) (total : Sub → ℕ → Option ℕ) (fits : Sub → ℕ → ℕ → List (ℕ × ℕ) → B → Type 0) where
   -- the table after a call that its worker's notes allow
   pub table-after : (o new : Story) (subject : Sub) (cells : List (Option B)) (w : ℕ) (a : Act) → MakesCall o w a new → NotesAllow (total subject) o.shape w (place_of o.shape (trail_in w (calls_of o.log)) w) (note_in o.log w) a
-      → IsPlain total fits o.shape subject o.log cells → IsPlain total fits new.shape subject new.log cells
+      → IsPlain queries total fits o.shape subject o.log cells → IsPlain queries total fits new.shape subject new.log cells
   table-after o new subject cells w a m allow ok =
-      let P : Story → Type 0 = λ x. IsPlain total fits x.shape subject x.log cells in
+      let P : Story → Type 0 = λ x. IsPlain queries total fits x.shape subject x.log cells in
       let legal : IsLegal o.shape (calls_of (call w a ∷ o.log)) = subst (λ (x : Story). IsLegal x.shape (calls_of x.log)) m.story m.legal in
-      subst P (sym m.story) (plain-call total fits o.shape subject o.log cells w a legal allow ok)
+      subst P (sym m.story) (plain-call queries total fits o.shape subject o.log cells w a legal allow ok)
 
 -- what is in a table of this object and subject is this, of a seat that was made when it was `start`
 module _ {Sub : Type 0} (o : Story) (subject : Sub) (start now : Plain Sub) (view : record { shape = o.shape; subject = subject; log = o.log } ≡ now) (shape : now.shape ≡ start.shape) (same : now.subject ≡ start.subject) (w : ℕ) where
@@ -208,9 +208,9 @@ module _ {Sub : Type 0} (o : Story) (subject : Sub) (start now : Plain Sub) (vie
     token-for X h = subst (X start.shape) (ap (λ d. place_of d (calls_of new.log) w) new-shape ∙ sym (place-trail start.shape w (calls_of new.log))) (subst (λ d. X d (place_in new w)) object-shape h)
 
     -- what the call makes of trail and notes
-    pub seat-makes : {B : Type 0} (total : Sub → ℕ → Option ℕ) (fits : Sub → ℕ → ℕ → List (ℕ × ℕ) → B → Type 0) (cells : List (Option B)) → IsPlain total fits new.shape subject new.log cells
+    pub seat-makes : {B : Type 0} (queries : Sub → ℕ) (total : Sub → ℕ → Option ℕ) (fits : Sub → ℕ → ℕ → List (ℕ × ℕ) → B → Type 0) (cells : List (Option B)) → IsPlain queries total fits new.shape subject new.log cells
         → Makes total (desk_over start w) a (trail_in w (calls_of now.log)) (trail_in w (calls_of new.log)) (note_in now.log w) (note_in new.log w)
-    seat-makes total fits cells ok =
+    seat-makes queries total fits cells ok =
         let d = start.shape in
         let grows : new.log ≡ call w a ∷ now.log = ap (λ (x : Story). x.log) m.story ∙ ap (λ (t : Plain Sub). call w a ∷ t.log) view in
         let legal : IsLegal d (calls_of (call w a ∷ now.log)) = subst (λ l. IsLegal d (calls_of l)) grows (subst (λ e. IsLegal e (calls_of new.log)) new-shape m.legal) in

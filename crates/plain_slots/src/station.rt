@@ -66,10 +66,11 @@ pub trait Station<B: Fits> {
         ensures workers { result ≡ (desk (origin self.now)).shape.workers }
         ensures range { (0 < result) × (result ≤ MOST_WORKERS) };
 
-    /// How many slots it has: 1 to 128.
+    /// How many slots it has: 1 to 128. Its number of queries is the subject's.
     fn slots(&self) -> u32
         ensures slots { result ≡ (desk (origin self.now)).shape.slots }
-        ensures range { (0 < result) × (result ≤ MOST_SLOTS) };
+        ensures range { (0 < result) × (result ≤ MOST_SLOTS) }
+        ensures queries { (desk (origin self.now)).shape.queries ≡ B.queries (desk (origin self.now)).subject };
 
     /// The worker is at slot s, and has not looked at it.
     fn enter<L: Ledger>(&mut self, s: u32, steps: &mut Steps<L>)

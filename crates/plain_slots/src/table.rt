@@ -31,7 +31,7 @@ impl<B: Fits> Model for PlainTable<B> {
 
     ghost view = { λ t. record { shape = t.object.shape; subject = t.subject.value; log = t.object.log } };
 
-    ghost invariant = { λ t. IsPlain B.total B.fits t.object.shape t.subject.value t.object.log t.cells.items };
+    ghost invariant = { λ t. IsPlain B.queries B.total B.fits t.object.shape t.subject.value t.object.log t.cells.items };
 }
 
 /// The shape of an object of so many slots, workers and queries.

@@ -18,7 +18,7 @@ pub admit-admit-requires-clause-query : goal.admit-admit-requires-clause-query
 admit-admit-requires-clause-query g c = shape-for c.table.inside.object c.table.inside.subject.value c.args.self.now.start.value c.args.self.now.table.now c.table.view_is c.args.self.now.shape c.args.self.now.subject c.args.self.now.worker (λ (d : Shape). c.args.q < d.queries) c.requires.query
 
 pub invariant_of-table : goal.invariant_of-table
-invariant_of-table g c = table-after g.B.Fits.total g.B.Fits.fits c.table.inside.object c.admit-admit.new.self c.table.inside.subject.value c.table.inside.cells.items c.args.self.now.worker (admit_act c.args.q c.admit-admit.result) c.admit-admit.ensures (admit-allows (g.B.Fits.total c.table.inside.subject.value) c.table.inside.object.shape c.args.self.now.worker (place_of c.table.inside.object.shape (trail_in c.args.self.now.worker (calls_of c.table.inside.object.log)) c.args.self.now.worker) (note_in c.table.inside.object.log c.args.self.now.worker) c.args.q c.admit-admit.result) c.table.invariant
+invariant_of-table g c = table-after g.B.Fits.queries g.B.Fits.total g.B.Fits.fits c.table.inside.object c.admit-admit.new.self c.table.inside.subject.value c.table.inside.cells.items c.args.self.now.worker (admit_act c.args.q c.admit-admit.result) c.admit-admit.ensures (admit-allows (g.B.Fits.total c.table.inside.subject.value) c.table.inside.object.shape c.args.self.now.worker (place_of c.table.inside.object.shape (trail_in c.args.self.now.worker (calls_of c.table.inside.object.log)) c.args.self.now.worker) (note_in c.table.inside.object.log c.args.self.now.worker) c.args.q c.admit-admit.result) c.table.invariant
 
 pub invariant_of-self : goal.invariant_of-self
 invariant_of-self g c =
@@ -31,7 +31,7 @@ invariant_of-self g c =
     }
 
 pub returns-clause-made : goal.returns-clause-made
-returns-clause-made g c = seat-makes c.table.inside.object c.table.inside.subject.value c.args.self.now.start.value c.args.self.now.table.now c.table.view_is c.args.self.now.shape c.args.self.now.subject c.args.self.now.worker (admit_act c.args.q c.admit-admit.result) c.admit-admit.new.self c.admit-admit.ensures g.B.Fits.total g.B.Fits.fits c.table.inside.cells.items (table-after g.B.Fits.total g.B.Fits.fits c.table.inside.object c.admit-admit.new.self c.table.inside.subject.value c.table.inside.cells.items c.args.self.now.worker (admit_act c.args.q c.admit-admit.result) c.admit-admit.ensures (admit-allows (g.B.Fits.total c.table.inside.subject.value) c.table.inside.object.shape c.args.self.now.worker (place_of c.table.inside.object.shape (trail_in c.args.self.now.worker (calls_of c.table.inside.object.log)) c.args.self.now.worker) (note_in c.table.inside.object.log c.args.self.now.worker) c.args.q c.admit-admit.result) c.table.invariant)
+returns-clause-made g c = seat-makes c.table.inside.object c.table.inside.subject.value c.args.self.now.start.value c.args.self.now.table.now c.table.view_is c.args.self.now.shape c.args.self.now.subject c.args.self.now.worker (admit_act c.args.q c.admit-admit.result) c.admit-admit.new.self c.admit-admit.ensures g.B.Fits.queries g.B.Fits.total g.B.Fits.fits c.table.inside.cells.items (table-after g.B.Fits.queries g.B.Fits.total g.B.Fits.fits c.table.inside.object c.admit-admit.new.self c.table.inside.subject.value c.table.inside.cells.items c.args.self.now.worker (admit_act c.args.q c.admit-admit.result) c.admit-admit.ensures (admit-allows (g.B.Fits.total c.table.inside.subject.value) c.table.inside.object.shape c.args.self.now.worker (place_of c.table.inside.object.shape (trail_in c.args.self.now.worker (calls_of c.table.inside.object.log)) c.args.self.now.worker) (note_in c.table.inside.object.log c.args.self.now.worker) c.args.q c.admit-admit.result) c.table.invariant)
 
 pub returns-clause-holder : goal.returns-clause-holder
 returns-clause-holder g c = token-for c.table.inside.object c.table.inside.subject.value c.args.self.now.start.value c.args.self.now.table.now c.table.view_is c.args.self.now.shape c.args.self.now.subject c.args.self.now.worker (admit_act c.args.q c.admit-admit.result) c.admit-admit.new.self c.admit-admit.ensures (λ d p. IsHolder d c.args.self.now.worker p c.admit.new.self)

@@ -11,7 +11,7 @@ pub announce-requires-clause-place : goal.announce-requires-clause-place
 announce-requires-clause-place g c = place-for c.table.inside.object c.table.inside.subject.value c.args.self.now.start.value c.args.self.now.table.now c.table.view_is c.args.self.now.shape c.args.self.now.subject c.args.self.now.worker (λ p. (s : ℕ) × (again : Bool) × (told : ℕ) × (p ≡ Announcing s again told)) (c.args.announcer.now.slot, c.args.announcer.now.again, c.args.announcer.now.told, c.requires.announcer.place)
 
 pub invariant_of-table : goal.invariant_of-table
-invariant_of-table g c = table-after g.B.Fits.total g.B.Fits.fits c.table.inside.object c.announce.new.self c.table.inside.subject.value c.table.inside.cells.items c.args.self.now.worker (Tell) c.announce.ensures.made (tt) c.table.invariant
+invariant_of-table g c = table-after g.B.Fits.queries g.B.Fits.total g.B.Fits.fits c.table.inside.object c.announce.new.self c.table.inside.subject.value c.table.inside.cells.items c.args.self.now.worker (Tell) c.announce.ensures.made (tt) c.table.invariant
 
 pub invariant_of-self : goal.invariant_of-self
 invariant_of-self g c =
@@ -24,7 +24,7 @@ invariant_of-self g c =
     }
 
 pub returns-clause-made : goal.returns-clause-made
-returns-clause-made g c = seat-makes c.table.inside.object c.table.inside.subject.value c.args.self.now.start.value c.args.self.now.table.now c.table.view_is c.args.self.now.shape c.args.self.now.subject c.args.self.now.worker (Tell) c.announce.new.self c.announce.ensures.made g.B.Fits.total g.B.Fits.fits c.table.inside.cells.items (table-after g.B.Fits.total g.B.Fits.fits c.table.inside.object c.announce.new.self c.table.inside.subject.value c.table.inside.cells.items c.args.self.now.worker (Tell) c.announce.ensures.made (tt) c.table.invariant)
+returns-clause-made g c = seat-makes c.table.inside.object c.table.inside.subject.value c.args.self.now.start.value c.args.self.now.table.now c.table.view_is c.args.self.now.shape c.args.self.now.subject c.args.self.now.worker (Tell) c.announce.new.self c.announce.ensures.made g.B.Fits.queries g.B.Fits.total g.B.Fits.fits c.table.inside.cells.items (table-after g.B.Fits.queries g.B.Fits.total g.B.Fits.fits c.table.inside.object c.announce.new.self c.table.inside.subject.value c.table.inside.cells.items c.args.self.now.worker (Tell) c.announce.ensures.made (tt) c.table.invariant)
 
 pub returns-clause-announcer : goal.returns-clause-announcer
 returns-clause-announcer g c more = token-for c.table.inside.object c.table.inside.subject.value c.args.self.now.start.value c.args.self.now.table.now c.table.view_is c.args.self.now.shape c.args.self.now.subject c.args.self.now.worker Tell c.announce.new.self c.announce.ensures.made (λ d p. IsAnnouncer d c.args.self.now.worker p (record c.args.announcer.now { told = c.args.announcer.now.told + 1 }))

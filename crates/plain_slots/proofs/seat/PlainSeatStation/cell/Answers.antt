@@ -8,10 +8,10 @@ use Rattle.plain_slots.proofs.SeatCells.{cell-index, seat-cell-says, seat-cell}
 use Rattle.plain_slots.proofs.seat.PlainSeatStation.cell.Goals as goal
 
 pub index_mut-requires : goal.index_mut-requires
-index_mut-requires g c = let l = c.table.inside.cells.ok.0 in let i : c.cell_index-at.result < length c.table.inside.cells.items = cell-index g.B.Fits.total g.B.Fits.fits c.table.inside.object c.table.inside.subject.value c.args.self.now.start.value c.args.self.now.table.now c.table.view_is c.args.self.now.shape c.args.self.now.subject c.args.self.now.worker c.args.self.now.below c.shape.ensures.legal c.table.inside.cells.items c.table.invariant c.args.holder.now c.requires.holder c.args.worker c.requires.worker c.cell_index-at.result (c.cell_index-at.ensures ∙ ap (λ (d : Shape). c.args.holder.now.slot * d.workers + c.args.worker) c.shape.ensures.shape) in omega arith
+index_mut-requires g c = let l = c.table.inside.cells.ok.0 in let i : c.cell_index-at.result < length c.table.inside.cells.items = cell-index g.B.Fits.queries g.B.Fits.total g.B.Fits.fits c.table.inside.object c.table.inside.subject.value c.args.self.now.start.value c.args.self.now.table.now c.table.view_is c.args.self.now.shape c.args.self.now.subject c.args.self.now.worker c.args.self.now.below c.shape.ensures.legal c.table.inside.cells.items c.table.invariant c.args.holder.now c.requires.holder c.args.worker c.requires.worker c.cell_index-at.result (c.cell_index-at.ensures ∙ ap (λ (d : Shape). c.args.holder.now.slot * d.workers + c.args.worker) c.shape.ensures.shape) in omega arith
 
 pub invariant_of-table : goal.invariant_of-table
-invariant_of-table g c = seat-cell g.B.Fits.total g.B.Fits.fits c.table.inside.object c.table.inside.subject.value c.args.self.now.start.value c.args.self.now.table.now c.table.view_is c.args.self.now.shape c.args.self.now.subject c.args.self.now.worker c.args.self.now.below c.shape.ensures.legal c.table.inside.cells.items c.table.invariant c.args.holder.now c.requires.holder c.args.worker c.requires.worker c.cell_index-at.result (c.cell_index-at.ensures ∙ ap (λ (d : Shape). c.args.holder.now.slot * d.workers + c.args.worker) c.shape.ensures.shape) c.args.new c.replace-old.new.dest c.replace-old.ensures.after c.fresh_for-note.result c.fresh_for-note.ensures c.requires.fits c.exchanged.new.self c.exchanged.ensures
+invariant_of-table g c = seat-cell g.B.Fits.queries g.B.Fits.total g.B.Fits.fits c.table.inside.object c.table.inside.subject.value c.args.self.now.start.value c.args.self.now.table.now c.table.view_is c.args.self.now.shape c.args.self.now.subject c.args.self.now.worker c.args.self.now.below c.shape.ensures.legal c.table.inside.cells.items c.table.invariant c.args.holder.now c.requires.holder c.args.worker c.requires.worker c.cell_index-at.result (c.cell_index-at.ensures ∙ ap (λ (d : Shape). c.args.holder.now.slot * d.workers + c.args.worker) c.shape.ensures.shape) c.args.new c.replace-old.new.dest c.replace-old.ensures.after c.fresh_for-note.result c.fresh_for-note.ensures c.requires.fits c.exchanged.new.self c.exchanged.ensures
 
 pub invariant_of-self : goal.invariant_of-self
 invariant_of-self g c =
@@ -25,4 +25,4 @@ invariant_of-self g c =
     }
 
 pub returns-clause-says : goal.returns-clause-says
-returns-clause-says g c = seat-cell-says g.B.Fits.total g.B.Fits.fits c.table.inside.object c.table.inside.subject.value c.args.self.now.start.value c.args.self.now.table.now c.table.view_is c.args.self.now.shape c.args.self.now.subject c.args.self.now.worker c.args.self.now.below c.shape.ensures.legal c.table.inside.cells.items c.table.invariant c.args.holder.now c.requires.holder c.args.worker c.requires.worker c.cell_index-at.result (c.cell_index-at.ensures ∙ ap (λ (d : Shape). c.args.holder.now.slot * d.workers + c.args.worker) c.shape.ensures.shape) c.replace-old.result (rw c.replace-old.ensures.value c.index_mut.ensures.value)
+returns-clause-says g c = seat-cell-says g.B.Fits.queries g.B.Fits.total g.B.Fits.fits c.table.inside.object c.table.inside.subject.value c.args.self.now.start.value c.args.self.now.table.now c.table.view_is c.args.self.now.shape c.args.self.now.subject c.args.self.now.worker c.args.self.now.below c.shape.ensures.legal c.table.inside.cells.items c.table.invariant c.args.holder.now c.requires.holder c.args.worker c.requires.worker c.cell_index-at.result (c.cell_index-at.ensures ∙ ap (λ (d : Shape). c.args.holder.now.slot * d.workers + c.args.worker) c.shape.ensures.shape) c.replace-old.result (rw c.replace-old.ensures.value c.index_mut.ensures.value)

@@ -12,7 +12,7 @@ pub enter-requires-clause-slot : goal.enter-requires-clause-slot
 enter-requires-clause-slot g c = shape-for c.table.inside.object c.table.inside.subject.value c.args.self.now.start.value c.args.self.now.table.now c.table.view_is c.args.self.now.shape c.args.self.now.subject c.args.self.now.worker (λ (d : Shape). c.args.s < d.slots) c.requires.slot
 
 pub invariant_of-table : goal.invariant_of-table
-invariant_of-table g c = table-after g.B.Fits.total g.B.Fits.fits c.table.inside.object c.enter.new.self c.table.inside.subject.value c.table.inside.cells.items c.args.self.now.worker (Enter c.args.s) c.enter.ensures (tt) c.table.invariant
+invariant_of-table g c = table-after g.B.Fits.queries g.B.Fits.total g.B.Fits.fits c.table.inside.object c.enter.new.self c.table.inside.subject.value c.table.inside.cells.items c.args.self.now.worker (Enter c.args.s) c.enter.ensures (tt) c.table.invariant
 
 pub invariant_of-self : goal.invariant_of-self
 invariant_of-self g c =
@@ -25,4 +25,4 @@ invariant_of-self g c =
     }
 
 pub returns-clause-made : goal.returns-clause-made
-returns-clause-made g c = seat-makes c.table.inside.object c.table.inside.subject.value c.args.self.now.start.value c.args.self.now.table.now c.table.view_is c.args.self.now.shape c.args.self.now.subject c.args.self.now.worker (Enter c.args.s) c.enter.new.self c.enter.ensures g.B.Fits.total g.B.Fits.fits c.table.inside.cells.items (table-after g.B.Fits.total g.B.Fits.fits c.table.inside.object c.enter.new.self c.table.inside.subject.value c.table.inside.cells.items c.args.self.now.worker (Enter c.args.s) c.enter.ensures (tt) c.table.invariant)
+returns-clause-made g c = seat-makes c.table.inside.object c.table.inside.subject.value c.args.self.now.start.value c.args.self.now.table.now c.table.view_is c.args.self.now.shape c.args.self.now.subject c.args.self.now.worker (Enter c.args.s) c.enter.new.self c.enter.ensures g.B.Fits.queries g.B.Fits.total g.B.Fits.fits c.table.inside.cells.items (table-after g.B.Fits.queries g.B.Fits.total g.B.Fits.fits c.table.inside.object c.enter.new.self c.table.inside.subject.value c.table.inside.cells.items c.args.self.now.worker (Enter c.args.s) c.enter.ensures (tt) c.table.invariant)

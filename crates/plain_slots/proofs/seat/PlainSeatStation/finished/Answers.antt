@@ -3,7 +3,7 @@ use Rattle.plain_slots.proofs.Seated.{table-after, table-subject, new-shape, new
 use Rattle.plain_slots.proofs.seat.PlainSeatStation.finished.Goals as goal
 
 pub invariant_of-table : goal.invariant_of-table
-invariant_of-table g c = table-after g.B.Fits.total g.B.Fits.fits c.table.inside.object c.finished.new.self c.table.inside.subject.value c.table.inside.cells.items c.args.self.now.worker (Finished c.finished.result) c.finished.ensures (tt) c.table.invariant
+invariant_of-table g c = table-after g.B.Fits.queries g.B.Fits.total g.B.Fits.fits c.table.inside.object c.finished.new.self c.table.inside.subject.value c.table.inside.cells.items c.args.self.now.worker (Finished c.finished.result) c.finished.ensures (tt) c.table.invariant
 
 pub invariant_of-self : goal.invariant_of-self
 invariant_of-self g c =
@@ -16,4 +16,4 @@ invariant_of-self g c =
     }
 
 pub returns-clause-made : goal.returns-clause-made
-returns-clause-made g c = seat-makes c.table.inside.object c.table.inside.subject.value c.args.self.now.start.value c.args.self.now.table.now c.table.view_is c.args.self.now.shape c.args.self.now.subject c.args.self.now.worker (Finished c.finished.result) c.finished.new.self c.finished.ensures g.B.Fits.total g.B.Fits.fits c.table.inside.cells.items (table-after g.B.Fits.total g.B.Fits.fits c.table.inside.object c.finished.new.self c.table.inside.subject.value c.table.inside.cells.items c.args.self.now.worker (Finished c.finished.result) c.finished.ensures (tt) c.table.invariant)
+returns-clause-made g c = seat-makes c.table.inside.object c.table.inside.subject.value c.args.self.now.start.value c.args.self.now.table.now c.table.view_is c.args.self.now.shape c.args.self.now.subject c.args.self.now.worker (Finished c.finished.result) c.finished.new.self c.finished.ensures g.B.Fits.queries g.B.Fits.total g.B.Fits.fits c.table.inside.cells.items (table-after g.B.Fits.queries g.B.Fits.total g.B.Fits.fits c.table.inside.object c.finished.new.self c.table.inside.subject.value c.table.inside.cells.items c.args.self.now.worker (Finished c.finished.result) c.finished.ensures (tt) c.table.invariant)

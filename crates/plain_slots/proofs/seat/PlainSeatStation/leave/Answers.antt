@@ -14,7 +14,7 @@ pub leave-requires-clause-place : goal.leave-requires-clause-place
 leave-requires-clause-place g c = place-for c.table.inside.object c.table.inside.subject.value c.args.self.now.start.value c.args.self.now.table.now c.table.view_is c.args.self.now.shape c.args.self.now.subject c.args.self.now.worker (λ p. can_leave p ≡ true) c.requires.place
 
 pub invariant_of-table : goal.invariant_of-table
-invariant_of-table g c = table-after g.B.Fits.total g.B.Fits.fits c.table.inside.object c.leave.new.self c.table.inside.subject.value c.table.inside.cells.items c.args.self.now.worker (leave_act c.leave.result) c.leave.ensures.made (leave-allows (g.B.Fits.total c.table.inside.subject.value) c.table.inside.object.shape c.args.self.now.worker (place_of c.table.inside.object.shape (trail_in c.args.self.now.worker (calls_of c.table.inside.object.log)) c.args.self.now.worker) (note_in c.table.inside.object.log c.args.self.now.worker) c.leave.result (leave-kept c.table.inside.object c.table.inside.subject.value c.args.self.now.start.value c.args.self.now.table.now c.table.view_is c.args.self.now.shape c.args.self.now.subject c.args.self.now.worker c.requires.cell)) c.table.invariant
+invariant_of-table g c = table-after g.B.Fits.queries g.B.Fits.total g.B.Fits.fits c.table.inside.object c.leave.new.self c.table.inside.subject.value c.table.inside.cells.items c.args.self.now.worker (leave_act c.leave.result) c.leave.ensures.made (leave-allows (g.B.Fits.total c.table.inside.subject.value) c.table.inside.object.shape c.args.self.now.worker (place_of c.table.inside.object.shape (trail_in c.args.self.now.worker (calls_of c.table.inside.object.log)) c.args.self.now.worker) (note_in c.table.inside.object.log c.args.self.now.worker) c.leave.result (leave-kept c.table.inside.object c.table.inside.subject.value c.args.self.now.start.value c.args.self.now.table.now c.table.view_is c.args.self.now.shape c.args.self.now.subject c.args.self.now.worker c.requires.cell)) c.table.invariant
 
 pub invariant_of-self : goal.invariant_of-self
 invariant_of-self g c =
@@ -27,7 +27,7 @@ invariant_of-self g c =
     }
 
 pub returns-clause-made : goal.returns-clause-made
-returns-clause-made g c = seat-makes c.table.inside.object c.table.inside.subject.value c.args.self.now.start.value c.args.self.now.table.now c.table.view_is c.args.self.now.shape c.args.self.now.subject c.args.self.now.worker (leave_act c.leave.result) c.leave.new.self c.leave.ensures.made g.B.Fits.total g.B.Fits.fits c.table.inside.cells.items (table-after g.B.Fits.total g.B.Fits.fits c.table.inside.object c.leave.new.self c.table.inside.subject.value c.table.inside.cells.items c.args.self.now.worker (leave_act c.leave.result) c.leave.ensures.made (leave-allows (g.B.Fits.total c.table.inside.subject.value) c.table.inside.object.shape c.args.self.now.worker (place_of c.table.inside.object.shape (trail_in c.args.self.now.worker (calls_of c.table.inside.object.log)) c.args.self.now.worker) (note_in c.table.inside.object.log c.args.self.now.worker) c.leave.result (leave-kept c.table.inside.object c.table.inside.subject.value c.args.self.now.start.value c.args.self.now.table.now c.table.view_is c.args.self.now.shape c.args.self.now.subject c.args.self.now.worker c.requires.cell)) c.table.invariant)
+returns-clause-made g c = seat-makes c.table.inside.object c.table.inside.subject.value c.args.self.now.start.value c.args.self.now.table.now c.table.view_is c.args.self.now.shape c.args.self.now.subject c.args.self.now.worker (leave_act c.leave.result) c.leave.new.self c.leave.ensures.made g.B.Fits.queries g.B.Fits.total g.B.Fits.fits c.table.inside.cells.items (table-after g.B.Fits.queries g.B.Fits.total g.B.Fits.fits c.table.inside.object c.leave.new.self c.table.inside.subject.value c.table.inside.cells.items c.args.self.now.worker (leave_act c.leave.result) c.leave.ensures.made (leave-allows (g.B.Fits.total c.table.inside.subject.value) c.table.inside.object.shape c.args.self.now.worker (place_of c.table.inside.object.shape (trail_in c.args.self.now.worker (calls_of c.table.inside.object.log)) c.args.self.now.worker) (note_in c.table.inside.object.log c.args.self.now.worker) c.leave.result (leave-kept c.table.inside.object c.table.inside.subject.value c.args.self.now.start.value c.args.self.now.table.now c.table.view_is c.args.self.now.shape c.args.self.now.subject c.args.self.now.worker c.requires.cell)) c.table.invariant)
 
 pub returns-clause-debt : goal.returns-clause-debt
 returns-clause-debt g c = token-for c.table.inside.object c.table.inside.subject.value c.args.self.now.start.value c.args.self.now.table.now c.table.view_is c.args.self.now.shape c.args.self.now.subject c.args.self.now.worker (leave_act c.leave.result) c.leave.new.self c.leave.ensures.made (λ d p. LeaveGives d c.args.self.now.worker p c.leave.result) c.leave.ensures.debt

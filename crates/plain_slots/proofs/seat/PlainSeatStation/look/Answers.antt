@@ -12,7 +12,7 @@ pub look-requires-clause-place : goal.look-requires-clause-place
 look-requires-clause-place g c = place-for c.table.inside.object c.table.inside.subject.value c.args.self.now.start.value c.args.self.now.table.now c.table.view_is c.args.self.now.shape c.args.self.now.subject c.args.self.now.worker (λ p. (s : ℕ) × (p ≡ Entered s)) c.requires.place
 
 pub invariant_of-table : goal.invariant_of-table
-invariant_of-table g c = table-after g.B.Fits.total g.B.Fits.fits c.table.inside.object c.look.new.self c.table.inside.subject.value c.table.inside.cells.items c.args.self.now.worker (look_act c.look.result) c.look.ensures (look-allows (g.B.Fits.total c.table.inside.subject.value) c.table.inside.object.shape c.args.self.now.worker (place_of c.table.inside.object.shape (trail_in c.args.self.now.worker (calls_of c.table.inside.object.log)) c.args.self.now.worker) (note_in c.table.inside.object.log c.args.self.now.worker) c.look.result) c.table.invariant
+invariant_of-table g c = table-after g.B.Fits.queries g.B.Fits.total g.B.Fits.fits c.table.inside.object c.look.new.self c.table.inside.subject.value c.table.inside.cells.items c.args.self.now.worker (look_act c.look.result) c.look.ensures (look-allows (g.B.Fits.total c.table.inside.subject.value) c.table.inside.object.shape c.args.self.now.worker (place_of c.table.inside.object.shape (trail_in c.args.self.now.worker (calls_of c.table.inside.object.log)) c.args.self.now.worker) (note_in c.table.inside.object.log c.args.self.now.worker) c.look.result) c.table.invariant
 
 pub invariant_of-self : goal.invariant_of-self
 invariant_of-self g c =
@@ -25,7 +25,7 @@ invariant_of-self g c =
     }
 
 pub returns-clause-made : goal.returns-clause-made
-returns-clause-made g c = seat-makes c.table.inside.object c.table.inside.subject.value c.args.self.now.start.value c.args.self.now.table.now c.table.view_is c.args.self.now.shape c.args.self.now.subject c.args.self.now.worker (look_act c.look.result) c.look.new.self c.look.ensures g.B.Fits.total g.B.Fits.fits c.table.inside.cells.items (table-after g.B.Fits.total g.B.Fits.fits c.table.inside.object c.look.new.self c.table.inside.subject.value c.table.inside.cells.items c.args.self.now.worker (look_act c.look.result) c.look.ensures (look-allows (g.B.Fits.total c.table.inside.subject.value) c.table.inside.object.shape c.args.self.now.worker (place_of c.table.inside.object.shape (trail_in c.args.self.now.worker (calls_of c.table.inside.object.log)) c.args.self.now.worker) (note_in c.table.inside.object.log c.args.self.now.worker) c.look.result) c.table.invariant)
+returns-clause-made g c = seat-makes c.table.inside.object c.table.inside.subject.value c.args.self.now.start.value c.args.self.now.table.now c.table.view_is c.args.self.now.shape c.args.self.now.subject c.args.self.now.worker (look_act c.look.result) c.look.new.self c.look.ensures g.B.Fits.queries g.B.Fits.total g.B.Fits.fits c.table.inside.cells.items (table-after g.B.Fits.queries g.B.Fits.total g.B.Fits.fits c.table.inside.object c.look.new.self c.table.inside.subject.value c.table.inside.cells.items c.args.self.now.worker (look_act c.look.result) c.look.ensures (look-allows (g.B.Fits.total c.table.inside.subject.value) c.table.inside.object.shape c.args.self.now.worker (place_of c.table.inside.object.shape (trail_in c.args.self.now.worker (calls_of c.table.inside.object.log)) c.args.self.now.worker) (note_in c.table.inside.object.log c.args.self.now.worker) c.look.result) c.table.invariant)
 
 pub returns-clause-task_set : goal.returns-clause-task_set
 returns-clause-task_set g c = subst (λ u. SeesTaskSet (g.B.Fits.total u) c.look.result) (table-subject c.table.inside.object c.table.inside.subject.value c.args.self.now.start.value c.args.self.now.table.now c.table.view_is c.args.self.now.shape c.args.self.now.subject c.args.self.now.worker) (sees (g.B.Fits.total c.table.inside.subject.value) c.table.inside.object c.table.invariant.task_sets c.args.self.now.worker c.look.result c.look.new.self c.look.ensures)

@@ -15,7 +15,7 @@ pub mark_next-mark-requires-clause-place : goal.mark_next-mark-requires-clause-p
 mark_next-mark-requires-clause-place g c = place-for c.table.inside.object c.table.inside.subject.value c.args.self.now.start.value c.args.self.now.table.now c.table.view_is c.args.self.now.shape c.args.self.now.subject c.args.self.now.worker (λ p. (s id n m : ℕ) × (p ≡ Asking s id n m) × (n + 1 < c.table.inside.object.shape.workers)) (c.args.coordinator.now.slot, c.args.coordinator.now.id, c.args.coordinator.now.asked, c.args.coordinator.now.marked, c.requires.coordinator.place, shape-for c.table.inside.object c.table.inside.subject.value c.args.self.now.start.value c.args.self.now.table.now c.table.view_is c.args.self.now.shape c.args.self.now.subject c.args.self.now.worker (λ (d : Shape). c.args.coordinator.now.asked + 1 < d.workers) c.requires.unasked)
 
 pub invariant_of-table : goal.invariant_of-table
-invariant_of-table g c = table-after g.B.Fits.total g.B.Fits.fits c.table.inside.object c.mark_next-mark.new.self c.table.inside.subject.value c.table.inside.cells.items c.args.self.now.worker (mark_act c.mark_next-mark.result) c.mark_next-mark.ensures.made (mark-allows (g.B.Fits.total c.table.inside.subject.value) c.table.inside.object.shape c.args.self.now.worker (place_of c.table.inside.object.shape (trail_in c.args.self.now.worker (calls_of c.table.inside.object.log)) c.args.self.now.worker) (note_in c.table.inside.object.log c.args.self.now.worker) c.mark_next-mark.result) c.table.invariant
+invariant_of-table g c = table-after g.B.Fits.queries g.B.Fits.total g.B.Fits.fits c.table.inside.object c.mark_next-mark.new.self c.table.inside.subject.value c.table.inside.cells.items c.args.self.now.worker (mark_act c.mark_next-mark.result) c.mark_next-mark.ensures.made (mark-allows (g.B.Fits.total c.table.inside.subject.value) c.table.inside.object.shape c.args.self.now.worker (place_of c.table.inside.object.shape (trail_in c.args.self.now.worker (calls_of c.table.inside.object.log)) c.args.self.now.worker) (note_in c.table.inside.object.log c.args.self.now.worker) c.mark_next-mark.result) c.table.invariant
 
 pub invariant_of-self : goal.invariant_of-self
 invariant_of-self g c =
@@ -28,7 +28,7 @@ invariant_of-self g c =
     }
 
 pub returns-clause-made : goal.returns-clause-made
-returns-clause-made g c = seat-makes c.table.inside.object c.table.inside.subject.value c.args.self.now.start.value c.args.self.now.table.now c.table.view_is c.args.self.now.shape c.args.self.now.subject c.args.self.now.worker (mark_act c.mark_next-mark.result) c.mark_next-mark.new.self c.mark_next-mark.ensures.made g.B.Fits.total g.B.Fits.fits c.table.inside.cells.items (table-after g.B.Fits.total g.B.Fits.fits c.table.inside.object c.mark_next-mark.new.self c.table.inside.subject.value c.table.inside.cells.items c.args.self.now.worker (mark_act c.mark_next-mark.result) c.mark_next-mark.ensures.made (mark-allows (g.B.Fits.total c.table.inside.subject.value) c.table.inside.object.shape c.args.self.now.worker (place_of c.table.inside.object.shape (trail_in c.args.self.now.worker (calls_of c.table.inside.object.log)) c.args.self.now.worker) (note_in c.table.inside.object.log c.args.self.now.worker) c.mark_next-mark.result) c.table.invariant)
+returns-clause-made g c = seat-makes c.table.inside.object c.table.inside.subject.value c.args.self.now.start.value c.args.self.now.table.now c.table.view_is c.args.self.now.shape c.args.self.now.subject c.args.self.now.worker (mark_act c.mark_next-mark.result) c.mark_next-mark.new.self c.mark_next-mark.ensures.made g.B.Fits.queries g.B.Fits.total g.B.Fits.fits c.table.inside.cells.items (table-after g.B.Fits.queries g.B.Fits.total g.B.Fits.fits c.table.inside.object c.mark_next-mark.new.self c.table.inside.subject.value c.table.inside.cells.items c.args.self.now.worker (mark_act c.mark_next-mark.result) c.mark_next-mark.ensures.made (mark-allows (g.B.Fits.total c.table.inside.subject.value) c.table.inside.object.shape c.args.self.now.worker (place_of c.table.inside.object.shape (trail_in c.args.self.now.worker (calls_of c.table.inside.object.log)) c.args.self.now.worker) (note_in c.table.inside.object.log c.args.self.now.worker) c.mark_next-mark.result) c.table.invariant)
 
 pub count-requires : goal.count-requires
 count-requires g c = let k : IsCounted (Asking c.args.coordinator.now.slot c.args.coordinator.now.id c.args.coordinator.now.asked c.args.coordinator.now.marked) = subst IsCounted (place-of c.table.inside.object c.table.inside.subject.value c.args.self.now.start.value c.args.self.now.table.now c.table.view_is c.args.self.now.shape c.args.self.now.subject c.args.self.now.worker ∙ c.requires.coordinator.place) c.mark_next-mark.ensures.counted in let a = k.0 in let b = k.1 in (omega arith, omega arith)

@@ -13,7 +13,7 @@ pub note_done-requires-clause-place : goal.note_done-requires-clause-place
 note_done-requires-clause-place g c = place-for c.table.inside.object c.table.inside.subject.value c.args.self.now.start.value c.args.self.now.table.now c.table.view_is c.args.self.now.shape c.args.self.now.subject c.args.self.now.worker (λ p. (s : ℕ) × (h : Held) × (p ≡ Holding s h) × IsSome h.query × (h.noted ≡ 0) × (h.stage + c.args.k ≤ STAGES)) (c.args._holder.now.slot, _, c.requires.holder.place, c.requires.query, sym (ap (λ p. (held_at p).noted) c.requires.holder.place) ∙ c.requires.once, c.requires.number.1)
 
 pub invariant_of-table : goal.invariant_of-table
-invariant_of-table g c = table-after g.B.Fits.total g.B.Fits.fits c.table.inside.object c.note_done.new.self c.table.inside.subject.value c.table.inside.cells.items c.args.self.now.worker (NoteDone c.args.k) c.note_done.ensures (tt) c.table.invariant
+invariant_of-table g c = table-after g.B.Fits.queries g.B.Fits.total g.B.Fits.fits c.table.inside.object c.note_done.new.self c.table.inside.subject.value c.table.inside.cells.items c.args.self.now.worker (NoteDone c.args.k) c.note_done.ensures (tt) c.table.invariant
 
 pub invariant_of-self : goal.invariant_of-self
 invariant_of-self g c =
@@ -26,7 +26,7 @@ invariant_of-self g c =
     }
 
 pub returns-clause-made : goal.returns-clause-made
-returns-clause-made g c = seat-makes c.table.inside.object c.table.inside.subject.value c.args.self.now.start.value c.args.self.now.table.now c.table.view_is c.args.self.now.shape c.args.self.now.subject c.args.self.now.worker (NoteDone c.args.k) c.note_done.new.self c.note_done.ensures g.B.Fits.total g.B.Fits.fits c.table.inside.cells.items (table-after g.B.Fits.total g.B.Fits.fits c.table.inside.object c.note_done.new.self c.table.inside.subject.value c.table.inside.cells.items c.args.self.now.worker (NoteDone c.args.k) c.note_done.ensures (tt) c.table.invariant)
+returns-clause-made g c = seat-makes c.table.inside.object c.table.inside.subject.value c.args.self.now.start.value c.args.self.now.table.now c.table.view_is c.args.self.now.shape c.args.self.now.subject c.args.self.now.worker (NoteDone c.args.k) c.note_done.new.self c.note_done.ensures g.B.Fits.queries g.B.Fits.total g.B.Fits.fits c.table.inside.cells.items (table-after g.B.Fits.queries g.B.Fits.total g.B.Fits.fits c.table.inside.object c.note_done.new.self c.table.inside.subject.value c.table.inside.cells.items c.args.self.now.worker (NoteDone c.args.k) c.note_done.ensures (tt) c.table.invariant)
 
 pub returns-clause-holder : goal.returns-clause-holder
 returns-clause-holder g c = token-for c.table.inside.object c.table.inside.subject.value c.args.self.now.start.value c.args.self.now.table.now c.table.view_is c.args.self.now.shape c.args.self.now.subject c.args.self.now.worker (NoteDone c.args.k) c.note_done.new.self c.note_done.ensures (λ d p. IsHolder d c.args.self.now.worker p c.args._holder.now)

@@ -12,7 +12,7 @@ pub release-requires-clause-place : goal.release-requires-clause-place
 release-requires-clause-place g c = place-for c.table.inside.object c.table.inside.subject.value c.args.self.now.start.value c.args.self.now.table.now c.table.view_is c.args.self.now.shape c.args.self.now.subject c.args.self.now.worker (λ p. (s : ℕ) × (h : Held) × (p ≡ Holding s h) × ((h.query ≡ None) ⊎ (0 < h.noted))) (c.args._holder.slot, _, c.requires.holder.place, ⊎_elim (λ h. inl h) (λ h. inr (subst (λ p. 0 < (held_at p).noted) c.requires.holder.place h)) c.requires.noted)
 
 pub invariant_of-table : goal.invariant_of-table
-invariant_of-table g c = table-after g.B.Fits.total g.B.Fits.fits c.table.inside.object c.release.new.self c.table.inside.subject.value c.table.inside.cells.items c.args.self.now.worker (Release) c.release.ensures (release-allows c.table.inside.object c.table.inside.subject.value c.args.self.now.start.value c.args.self.now.table.now c.table.view_is c.args.self.now.shape c.args.self.now.subject c.args.self.now.worker g.B.Fits.total c.requires.cells) c.table.invariant
+invariant_of-table g c = table-after g.B.Fits.queries g.B.Fits.total g.B.Fits.fits c.table.inside.object c.release.new.self c.table.inside.subject.value c.table.inside.cells.items c.args.self.now.worker (Release) c.release.ensures (release-allows c.table.inside.object c.table.inside.subject.value c.args.self.now.start.value c.args.self.now.table.now c.table.view_is c.args.self.now.shape c.args.self.now.subject c.args.self.now.worker g.B.Fits.total c.requires.cells) c.table.invariant
 
 pub invariant_of-self : goal.invariant_of-self
 invariant_of-self g c =
@@ -25,4 +25,4 @@ invariant_of-self g c =
     }
 
 pub returns-clause-made : goal.returns-clause-made
-returns-clause-made g c = seat-makes c.table.inside.object c.table.inside.subject.value c.args.self.now.start.value c.args.self.now.table.now c.table.view_is c.args.self.now.shape c.args.self.now.subject c.args.self.now.worker (Release) c.release.new.self c.release.ensures g.B.Fits.total g.B.Fits.fits c.table.inside.cells.items (table-after g.B.Fits.total g.B.Fits.fits c.table.inside.object c.release.new.self c.table.inside.subject.value c.table.inside.cells.items c.args.self.now.worker (Release) c.release.ensures (release-allows c.table.inside.object c.table.inside.subject.value c.args.self.now.start.value c.args.self.now.table.now c.table.view_is c.args.self.now.shape c.args.self.now.subject c.args.self.now.worker g.B.Fits.total c.requires.cells) c.table.invariant)
+returns-clause-made g c = seat-makes c.table.inside.object c.table.inside.subject.value c.args.self.now.start.value c.args.self.now.table.now c.table.view_is c.args.self.now.shape c.args.self.now.subject c.args.self.now.worker (Release) c.release.new.self c.release.ensures g.B.Fits.queries g.B.Fits.total g.B.Fits.fits c.table.inside.cells.items (table-after g.B.Fits.queries g.B.Fits.total g.B.Fits.fits c.table.inside.object c.release.new.self c.table.inside.subject.value c.table.inside.cells.items c.args.self.now.worker (Release) c.release.ensures (release-allows c.table.inside.object c.table.inside.subject.value c.args.self.now.start.value c.args.self.now.table.now c.table.view_is c.args.self.now.shape c.args.self.now.subject c.args.self.now.worker g.B.Fits.total c.requires.cells) c.table.invariant)

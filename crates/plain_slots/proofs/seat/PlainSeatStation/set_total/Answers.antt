@@ -11,7 +11,7 @@ pub set_total-requires-clause-place : goal.set_total-requires-clause-place
 set_total-requires-clause-place g c = place-for c.table.inside.object c.table.inside.subject.value c.args.self.now.start.value c.args.self.now.table.now c.table.view_is c.args.self.now.shape c.args.self.now.subject c.args.self.now.worker (λ p. (s : ℕ) × (h : Held) × (p ≡ Holding s h) × IsSome h.query) (c.args._holder.now.slot, _, c.requires.holder.place, c.requires.query)
 
 pub invariant_of-table : goal.invariant_of-table
-invariant_of-table g c = table-after g.B.Fits.total g.B.Fits.fits c.table.inside.object c.set_total.new.self c.table.inside.subject.value c.table.inside.cells.items c.args.self.now.worker (Total c.args.total) c.set_total.ensures (tt) c.table.invariant
+invariant_of-table g c = table-after g.B.Fits.queries g.B.Fits.total g.B.Fits.fits c.table.inside.object c.set_total.new.self c.table.inside.subject.value c.table.inside.cells.items c.args.self.now.worker (Total c.args.total) c.set_total.ensures (tt) c.table.invariant
 
 pub invariant_of-self : goal.invariant_of-self
 invariant_of-self g c =
@@ -24,7 +24,7 @@ invariant_of-self g c =
     }
 
 pub returns-clause-made : goal.returns-clause-made
-returns-clause-made g c = seat-makes c.table.inside.object c.table.inside.subject.value c.args.self.now.start.value c.args.self.now.table.now c.table.view_is c.args.self.now.shape c.args.self.now.subject c.args.self.now.worker (Total c.args.total) c.set_total.new.self c.set_total.ensures g.B.Fits.total g.B.Fits.fits c.table.inside.cells.items (table-after g.B.Fits.total g.B.Fits.fits c.table.inside.object c.set_total.new.self c.table.inside.subject.value c.table.inside.cells.items c.args.self.now.worker (Total c.args.total) c.set_total.ensures (tt) c.table.invariant)
+returns-clause-made g c = seat-makes c.table.inside.object c.table.inside.subject.value c.args.self.now.start.value c.args.self.now.table.now c.table.view_is c.args.self.now.shape c.args.self.now.subject c.args.self.now.worker (Total c.args.total) c.set_total.new.self c.set_total.ensures g.B.Fits.queries g.B.Fits.total g.B.Fits.fits c.table.inside.cells.items (table-after g.B.Fits.queries g.B.Fits.total g.B.Fits.fits c.table.inside.object c.set_total.new.self c.table.inside.subject.value c.table.inside.cells.items c.args.self.now.worker (Total c.args.total) c.set_total.ensures (tt) c.table.invariant)
 
 pub returns-clause-holder : goal.returns-clause-holder
 returns-clause-holder g c = token-for c.table.inside.object c.table.inside.subject.value c.args.self.now.start.value c.args.self.now.table.now c.table.view_is c.args.self.now.shape c.args.self.now.subject c.args.self.now.worker (Total c.args.total) c.set_total.new.self c.set_total.ensures (λ d p. IsHolder d c.args.self.now.worker p c.args._holder.now)

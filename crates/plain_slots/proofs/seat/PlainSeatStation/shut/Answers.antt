@@ -13,7 +13,7 @@ pub shut-requires-clause-place : goal.shut-requires-clause-place
 shut-requires-clause-place g c = place-for c.table.inside.object c.table.inside.subject.value c.args.self.now.start.value c.args.self.now.table.now c.table.view_is c.args.self.now.shape c.args.self.now.subject c.args.self.now.worker (λ p. (s id : ℕ) × (p ≡ Used s id)) (c.args._spent.slot, c.args._spent.id, c.requires.spent.place)
 
 pub invariant_of-table : goal.invariant_of-table
-invariant_of-table g c = table-after g.B.Fits.total g.B.Fits.fits c.table.inside.object c.shut.new.self c.table.inside.subject.value c.table.inside.cells.items c.args.self.now.worker (shut_act c.shut.result) c.shut.ensures.made (shut-allows (g.B.Fits.total c.table.inside.subject.value) c.table.inside.object.shape c.args.self.now.worker (place_of c.table.inside.object.shape (trail_in c.args.self.now.worker (calls_of c.table.inside.object.log)) c.args.self.now.worker) (note_in c.table.inside.object.log c.args.self.now.worker) c.shut.result) c.table.invariant
+invariant_of-table g c = table-after g.B.Fits.queries g.B.Fits.total g.B.Fits.fits c.table.inside.object c.shut.new.self c.table.inside.subject.value c.table.inside.cells.items c.args.self.now.worker (shut_act c.shut.result) c.shut.ensures.made (shut-allows (g.B.Fits.total c.table.inside.subject.value) c.table.inside.object.shape c.args.self.now.worker (place_of c.table.inside.object.shape (trail_in c.args.self.now.worker (calls_of c.table.inside.object.log)) c.args.self.now.worker) (note_in c.table.inside.object.log c.args.self.now.worker) c.shut.result) c.table.invariant
 
 pub invariant_of-self : goal.invariant_of-self
 invariant_of-self g c =
@@ -26,7 +26,7 @@ invariant_of-self g c =
     }
 
 pub returns-clause-made : goal.returns-clause-made
-returns-clause-made g c = seat-makes c.table.inside.object c.table.inside.subject.value c.args.self.now.start.value c.args.self.now.table.now c.table.view_is c.args.self.now.shape c.args.self.now.subject c.args.self.now.worker (shut_act c.shut.result) c.shut.new.self c.shut.ensures.made g.B.Fits.total g.B.Fits.fits c.table.inside.cells.items (table-after g.B.Fits.total g.B.Fits.fits c.table.inside.object c.shut.new.self c.table.inside.subject.value c.table.inside.cells.items c.args.self.now.worker (shut_act c.shut.result) c.shut.ensures.made (shut-allows (g.B.Fits.total c.table.inside.subject.value) c.table.inside.object.shape c.args.self.now.worker (place_of c.table.inside.object.shape (trail_in c.args.self.now.worker (calls_of c.table.inside.object.log)) c.args.self.now.worker) (note_in c.table.inside.object.log c.args.self.now.worker) c.shut.result) c.table.invariant)
+returns-clause-made g c = seat-makes c.table.inside.object c.table.inside.subject.value c.args.self.now.start.value c.args.self.now.table.now c.table.view_is c.args.self.now.shape c.args.self.now.subject c.args.self.now.worker (shut_act c.shut.result) c.shut.new.self c.shut.ensures.made g.B.Fits.queries g.B.Fits.total g.B.Fits.fits c.table.inside.cells.items (table-after g.B.Fits.queries g.B.Fits.total g.B.Fits.fits c.table.inside.object c.shut.new.self c.table.inside.subject.value c.table.inside.cells.items c.args.self.now.worker (shut_act c.shut.result) c.shut.ensures.made (shut-allows (g.B.Fits.total c.table.inside.subject.value) c.table.inside.object.shape c.args.self.now.worker (place_of c.table.inside.object.shape (trail_in c.args.self.now.worker (calls_of c.table.inside.object.log)) c.args.self.now.worker) (note_in c.table.inside.object.log c.args.self.now.worker) c.shut.result) c.table.invariant)
 
 pub returns-clause-first : goal.returns-clause-first
 returns-clause-first g c = token-for c.table.inside.object c.table.inside.subject.value c.args.self.now.start.value c.args.self.now.table.now c.table.view_is c.args.self.now.shape c.args.self.now.subject c.args.self.now.worker (shut_act c.shut.result) c.shut.new.self c.shut.ensures.made (λ d p. ShutGives d c.args.self.now.worker p c.shut.result) c.shut.ensures.first

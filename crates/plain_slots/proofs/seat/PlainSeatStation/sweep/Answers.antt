@@ -14,7 +14,7 @@ pub sweep-requires-clause-place : goal.sweep-requires-clause-place
 sweep-requires-clause-place g c = place-for c.table.inside.object c.table.inside.subject.value c.args.self.now.start.value c.args.self.now.table.now c.table.view_is c.args.self.now.shape c.args.self.now.subject c.args.self.now.worker (λ p. (s id n m : ℕ) × (p ≡ Asking s id n m) × (n + 1 ≡ c.table.inside.object.shape.workers)) (c.args._coordinator.slot, c.args._coordinator.id, c.args._coordinator.asked, c.args._coordinator.marked, c.requires.coordinator.place, c.requires.asked ∙ sym (ap (λ (d : Shape). d.workers) (object-shape c.table.inside.object c.table.inside.subject.value c.args.self.now.start.value c.args.self.now.table.now c.table.view_is c.args.self.now.shape c.args.self.now.subject c.args.self.now.worker)))
 
 pub invariant_of-table : goal.invariant_of-table
-invariant_of-table g c = table-after g.B.Fits.total g.B.Fits.fits c.table.inside.object c.sweep.new.self c.table.inside.subject.value c.table.inside.cells.items c.args.self.now.worker (sweep_act c.sweep.result) c.sweep.ensures.made (sweep-allows (g.B.Fits.total c.table.inside.subject.value) c.table.inside.object.shape c.args.self.now.worker (place_of c.table.inside.object.shape (trail_in c.args.self.now.worker (calls_of c.table.inside.object.log)) c.args.self.now.worker) (note_in c.table.inside.object.log c.args.self.now.worker) c.sweep.result) c.table.invariant
+invariant_of-table g c = table-after g.B.Fits.queries g.B.Fits.total g.B.Fits.fits c.table.inside.object c.sweep.new.self c.table.inside.subject.value c.table.inside.cells.items c.args.self.now.worker (sweep_act c.sweep.result) c.sweep.ensures.made (sweep-allows (g.B.Fits.total c.table.inside.subject.value) c.table.inside.object.shape c.args.self.now.worker (place_of c.table.inside.object.shape (trail_in c.args.self.now.worker (calls_of c.table.inside.object.log)) c.args.self.now.worker) (note_in c.table.inside.object.log c.args.self.now.worker) c.sweep.result) c.table.invariant
 
 pub invariant_of-self : goal.invariant_of-self
 invariant_of-self g c =
@@ -27,7 +27,7 @@ invariant_of-self g c =
     }
 
 pub returns-clause-made : goal.returns-clause-made
-returns-clause-made g c = seat-makes c.table.inside.object c.table.inside.subject.value c.args.self.now.start.value c.args.self.now.table.now c.table.view_is c.args.self.now.shape c.args.self.now.subject c.args.self.now.worker (sweep_act c.sweep.result) c.sweep.new.self c.sweep.ensures.made g.B.Fits.total g.B.Fits.fits c.table.inside.cells.items (table-after g.B.Fits.total g.B.Fits.fits c.table.inside.object c.sweep.new.self c.table.inside.subject.value c.table.inside.cells.items c.args.self.now.worker (sweep_act c.sweep.result) c.sweep.ensures.made (sweep-allows (g.B.Fits.total c.table.inside.subject.value) c.table.inside.object.shape c.args.self.now.worker (place_of c.table.inside.object.shape (trail_in c.args.self.now.worker (calls_of c.table.inside.object.log)) c.args.self.now.worker) (note_in c.table.inside.object.log c.args.self.now.worker) c.sweep.result) c.table.invariant)
+returns-clause-made g c = seat-makes c.table.inside.object c.table.inside.subject.value c.args.self.now.start.value c.args.self.now.table.now c.table.view_is c.args.self.now.shape c.args.self.now.subject c.args.self.now.worker (sweep_act c.sweep.result) c.sweep.new.self c.sweep.ensures.made g.B.Fits.queries g.B.Fits.total g.B.Fits.fits c.table.inside.cells.items (table-after g.B.Fits.queries g.B.Fits.total g.B.Fits.fits c.table.inside.object c.sweep.new.self c.table.inside.subject.value c.table.inside.cells.items c.args.self.now.worker (sweep_act c.sweep.result) c.sweep.ensures.made (sweep-allows (g.B.Fits.total c.table.inside.subject.value) c.table.inside.object.shape c.args.self.now.worker (place_of c.table.inside.object.shape (trail_in c.args.self.now.worker (calls_of c.table.inside.object.log)) c.args.self.now.worker) (note_in c.table.inside.object.log c.args.self.now.worker) c.sweep.result) c.table.invariant)
 
 pub returns-clause-holder : goal.returns-clause-holder
 returns-clause-holder g c = token-for c.table.inside.object c.table.inside.subject.value c.args.self.now.start.value c.args.self.now.table.now c.table.view_is c.args.self.now.shape c.args.self.now.subject c.args.self.now.worker (sweep_act c.sweep.result) c.sweep.new.self c.sweep.ensures.made (λ d p. SweepGives d c.args.self.now.worker p c.sweep.result) c.sweep.ensures.holder

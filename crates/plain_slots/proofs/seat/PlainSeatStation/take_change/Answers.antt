@@ -6,7 +6,7 @@ use Rattle.plain_slots.proofs.Seated.{table-after, object-shape, table-subject, 
 use Rattle.plain_slots.proofs.seat.PlainSeatStation.take_change.Goals as goal
 
 pub invariant_of-table : goal.invariant_of-table
-invariant_of-table g c = table-after g.B.Fits.total g.B.Fits.fits c.table.inside.object c.take_change.new.self c.table.inside.subject.value c.table.inside.cells.items c.args.self.now.worker (TakeChange c.args.part c.take_change.result) c.take_change.ensures.made (tt) c.table.invariant
+invariant_of-table g c = table-after g.B.Fits.queries g.B.Fits.total g.B.Fits.fits c.table.inside.object c.take_change.new.self c.table.inside.subject.value c.table.inside.cells.items c.args.self.now.worker (TakeChange c.args.part c.take_change.result) c.take_change.ensures.made (tt) c.table.invariant
 
 pub invariant_of-self : goal.invariant_of-self
 invariant_of-self g c =
@@ -19,7 +19,7 @@ invariant_of-self g c =
     }
 
 pub returns-clause-made : goal.returns-clause-made
-returns-clause-made g c = seat-makes c.table.inside.object c.table.inside.subject.value c.args.self.now.start.value c.args.self.now.table.now c.table.view_is c.args.self.now.shape c.args.self.now.subject c.args.self.now.worker (TakeChange c.args.part c.take_change.result) c.take_change.new.self c.take_change.ensures.made g.B.Fits.total g.B.Fits.fits c.table.inside.cells.items (table-after g.B.Fits.total g.B.Fits.fits c.table.inside.object c.take_change.new.self c.table.inside.subject.value c.table.inside.cells.items c.args.self.now.worker (TakeChange c.args.part c.take_change.result) c.take_change.ensures.made (tt) c.table.invariant)
+returns-clause-made g c = seat-makes c.table.inside.object c.table.inside.subject.value c.args.self.now.start.value c.args.self.now.table.now c.table.view_is c.args.self.now.shape c.args.self.now.subject c.args.self.now.worker (TakeChange c.args.part c.take_change.result) c.take_change.new.self c.take_change.ensures.made g.B.Fits.queries g.B.Fits.total g.B.Fits.fits c.table.inside.cells.items (table-after g.B.Fits.queries g.B.Fits.total g.B.Fits.fits c.table.inside.object c.take_change.new.self c.table.inside.subject.value c.table.inside.cells.items c.args.self.now.worker (TakeChange c.args.part c.take_change.result) c.take_change.ensures.made (tt) c.table.invariant)
 
 pub returns-clause-slots : goal.returns-clause-slots
 returns-clause-slots g c = subst (λ (d : Shape). NamesSlots d.slots c.args.part c.take_change.result) (object-shape c.table.inside.object c.table.inside.subject.value c.args.self.now.start.value c.args.self.now.table.now c.table.view_is c.args.self.now.shape c.args.self.now.subject c.args.self.now.worker) c.take_change.ensures.slots

@@ -25,7 +25,6 @@ pub(crate) struct Player {
     sets: Sets,
     hands: Vec<Hand>,
     ghost subject: { table.subject ≡ sets },
-    ghost queries: { table.shape.queries ≡ sets.queries },
 }
 
 impl Player {
@@ -104,7 +103,6 @@ fn call<S: Station<Piece>, L: Ledger>(
 ) -> (Act, Hand)
     requires place { place.now ≡ place_at (S.desk (S.origin station.old)) (S.trail station.old) }
     requires subject { sets.now ≡ (S.desk (S.origin station.old)).subject }
-    requires queries { sets.now.queries ≡ (S.desk (S.origin station.old)).shape.queries }
     ensures { S.origin station.new ≡ S.origin station.old }
 {
     match *act {

@@ -366,13 +366,15 @@ pub(crate) fn admit<S: Station<Piece>, L: Ledger>(
     steps: &mut Steps<L>,
 ) -> (Act, Hand)
     requires place { place.now ≡ place_at (S.desk (S.origin station.old)) (S.trail station.old) }
-    requires queries { sets.now.queries ≡ (S.desk (S.origin station.old)).shape.queries }
+    requires subject { sets.now ≡ (S.desk (S.origin station.old)).subject }
     ensures { S.origin station.new ≡ S.origin station.old }
 {
     let (_, mut holder) = held_as(rt, station, place, hand);
     let None = holder.query else {
         panic!(rt; "a query was admitted");
     };
+    // it says that the object has the subject's queries
+    let _slots = station.slots();
     assert!(rt; q < sets.queries);
     let admit = station.admit(&mut holder, q, steps);
     (admit.act(q), Hand::Holder(holder))

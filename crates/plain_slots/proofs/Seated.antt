@@ -18,13 +18,12 @@ use Rattle.slot_history.specs.Steps.{moved, left, asked_one, holding_after, told
 use Rattle.slot_history.specs.Allowed.{IsReady}
 use Rattle.slot_history.specs.Bounds.{IsPlaceWithin}
 use Rattle.slot_history.specs.Histories.{IsLegal, IsOfTotals, Begins, Called, entry, place_of, total_of, is_install}
-use Rattle.slot_history.specs.Table.{Owes, stays, Meets}
 use Rattle.slot_history.proofs.Sets.{pick, upd-same}
 use Rattle.slot_history.proofs.Own.{place-mine, place-other}
 use Rattle.slot_history.proofs.Table.{table}
-use Rattle.slot_history.proofs.Duties.{owes-duty}
 use Rattle.slot_history.proofs.Within.{within, within-slots}
 use Rattle.slot_history.proofs.Places.{inside-slots}
+use Rattle.slot_history.proofs.Stations.{coordinator-leaves}
 use Rattle.slot_history.proofs.Growth.{open-shut-cases}
 use Rattle.plain_slots.specs.declared.note.Note.{Note}
 use Rattle.plain_slots.specs.declared.note.Note.TheVariants.{Kept, Fresh}
@@ -263,16 +262,6 @@ module _ (totals : ℕ → Option ℕ) (o : Story) (sets : (s : ℕ) → s < o.s
       subst (λ i. IsSome (totals i)) (sym r.2) (owed-set (S.slots s) w (sets s (in-slots (LeaveOwe x.id) new m (S.places w) refl (leaves (S.places w) r.0))) r.1)
   owes-set leave.Left new m = tt
 
-  -- whoever shut the task set leaves without a debt: a worker that owes is never at that place
-  pub leading-left : (l : Leave) (new : Story) → MakesCall o w (leave_act l) new → (s id : ℕ) → S.places w ≡ Leading s id → l ≡ leave.Left
-  leading-left leave.Left new m s id at = refl
-  leading-left (leave.Owe x) new m s id at =
-      let (low, allowed, legal) = found (LeaveOwe x.id) new m in
-      let t = slot_of (S.places w) in
-      let ok = table o.shape (calls_of o.log) legal in
-      let meets : Meets o.shape t (Owes (id_of (S.slots t))) (S.places w) = subst (λ D. Meets o.shape t D (S.places w)) (owes-duty o.shape (S.slots t) w (ok.chain t) allowed.1) (ok.duty t w low) in
-      absurd (true≢false (sym meets.1 ∙ ap stays at))
-
   work-set : (x : SlotState) → HoldsTaskSet totals x → (is_open x ≡ true) ⊎ (is_shut x ≡ true) → totals (id_of x) ≡ Some (task_of x).total
   work-set x has k = open-shut-cases x (λ y. HoldsTaskSet totals y → totals (id_of y) ≡ Some (task_of y).total) (λ t has. has) (λ t e has. has) k has
 
@@ -285,6 +274,11 @@ module _ (totals : ℕ → Option ℕ) (o : Story) (sets : (s : ℕ) → s < o.s
       let same : id_at (S.places w) ≡ id_of x = ap id_at at ∙ sym was.1 in
       subst (λ t. IsSomeAnd t (λ u. (from < u) × (to ≡ min u (from + n)))) (sym (ap totals same ∙ has)) (below, ends)
   cuts n (claim.Exhausted x) new low m = tt
+
+-- whoever shut the task set leaves without a debt
+pub leading-left : (d : Shape) (w : ℕ) (l : Leave) (old new : List Entry) → Called d w (leave_act l) old new → (s id : ℕ) → place_of d old w ≡ Leading s id → l ≡ leave.Left
+leading-left d w leave.Left old new called s id at = refl
+leading-left d w (leave.Owe x) old new called s id at = absurd (coordinator-leaves d w s id x.id old new called at)
 
 -- ---- what a call asks of notes
 

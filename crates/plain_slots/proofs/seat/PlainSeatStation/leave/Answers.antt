@@ -1,7 +1,6 @@
 use Rattle.std.proofs.Common.{◌≡◌, true, subst}
 use Rattle.plain_slots.specs.Replies.{leave_act, OwesTaskSet}
 use Rattle.plain_slots.specs.Tokens.{LeaveGives}
-use Rattle.slot_history.specs.declared.place.Place.TheVariants.{Leading}
 use Rattle.slot_history.specs.States.{can_leave}
 use Rattle.plain_slots.proofs.Seated.{leave-kept}
 use Rattle.slot_history.specs.Histories.{place_of}
@@ -36,5 +35,4 @@ pub returns-clause-task_set : goal.returns-clause-task_set
 returns-clause-task_set g c = subst (λ u. OwesTaskSet (g.B.Fits.total u) c.leave.result) (table-subject c.table.inside.object c.table.inside.subject.value c.args.self.now.start.value c.args.self.now.table.now c.table.view_is c.args.self.now.shape c.args.self.now.subject c.args.self.now.worker) (owes-set (g.B.Fits.total c.table.inside.subject.value) c.table.inside.object c.table.invariant.task_sets c.args.self.now.worker c.leave.result c.leave.new.self c.leave.ensures.made)
 
 pub returns-clause-coordinator : goal.returns-clause-coordinator
-returns-clause-coordinator g c = λ s id at. leading-left (g.B.Fits.total c.table.inside.subject.value) c.table.inside.object c.table.invariant.task_sets c.args.self.now.worker c.leave.result c.leave.new.self c.leave.ensures.made s id
-    (place-for c.table.inside.object c.table.inside.subject.value c.args.self.now.start.value c.args.self.now.table.now c.table.view_is c.args.self.now.shape c.args.self.now.subject c.args.self.now.worker (λ p. p ≡ Leading s id) at)
+returns-clause-coordinator g c = let m = returns-clause-made g c in leading-left c.args.self.now.start.value.shape c.args.self.now.worker c.leave.result (trail_in c.args.self.now.worker (calls_of c.args.self.now.table.now.log)) (trail_in c.args.self.now.worker (calls_of c.leave.new.self.log)) m.called

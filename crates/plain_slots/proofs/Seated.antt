@@ -17,12 +17,13 @@ use Rattle.slot_history.specs.States.{SlotState, Empty, Reserved, Open, Shut, Fi
 use Rattle.slot_history.specs.Steps.{moved, left, asked_one, holding_after, told_one}
 use Rattle.slot_history.specs.Allowed.{IsReady}
 use Rattle.slot_history.specs.Bounds.{IsPlaceWithin}
-use Rattle.slot_history.specs.Histories.{IsLegal, IsOfTotals, Begins, Called, entry, place_of, total_of, is_install}
+use Rattle.slot_history.specs.Histories.{IsLegal, IsOfTotals, Begins, Called, entry, place_of, ranges_of, total_of, is_install}
 use Rattle.slot_history.proofs.Sets.{pick, upd-same}
 use Rattle.slot_history.proofs.Own.{place-mine, place-other}
 use Rattle.slot_history.proofs.Table.{table}
 use Rattle.slot_history.proofs.Within.{within, within-slots}
 use Rattle.slot_history.proofs.Places.{inside-slots}
+use Rattle.slot_history.proofs.Ranges.{ranges-go-on}
 use Rattle.slot_history.proofs.Stations.{coordinator-leaves}
 use Rattle.slot_history.proofs.Growth.{open-shut-cases}
 use Rattle.plain_slots.specs.declared.note.Note.{Note}
@@ -51,7 +52,7 @@ use Rattle.plain_slots.specs.declared.reply.Admit.{Admit}
 use Rattle.plain_slots.specs.declared.reply.Admit.TheVariants as admit
 use Rattle.plain_slots.specs.declared.log.Logged.{Logged}
 use Rattle.plain_slots.specs.Cells.{has_cell, noted}
-use Rattle.plain_slots.specs.Replies.{look_act, leave_act, claim_act, shut_act, mark_act, sweep_act, pay_act, reserve_act, admit_act, admitted_holder, marked_more, SeesTaskSet, OwesTaskSet, IsCutRange}
+use Rattle.plain_slots.specs.Replies.{look_act, leave_act, claim_act, shut_act, mark_act, sweep_act, pay_act, reserve_act, admit_act, admitted_holder, marked_more, SeesTaskSet, OwesTaskSet, IsCutRange, LiesPast}
 use Rattle.plain_slots.specs.Desks.{Desk, place_at, held_by, Makes}
 use Rattle.plain_slots.specs.Log.{calls_of, note_in, call, who}
 use Rattle.plain_slots.specs.Plain.{Plain, IsPlain, InstallsOf, AllOfTotals, HoldsTaskSet}
@@ -279,6 +280,12 @@ module _ (totals : ℕ → Option ℕ) (o : Story) (sets : (s : ℕ) → s < o.s
 pub leading-left : (d : Shape) (w : ℕ) (l : Leave) (old new : List Entry) → Called d w (leave_act l) old new → (s id : ℕ) → place_of d old w ≡ Leading s id → l ≡ leave.Left
 leading-left d w leave.Left old new called s id at = refl
 leading-left d w (leave.Owe x) old new called s id at = absurd (coordinator-leaves d w s id x.id old new called at)
+
+-- a range lies past the worker's earlier ones of its task set
+pub range-past : (d : Shape) (w n : ℕ) (c : Claim) (old new : List Entry) → Called d w (claim_act n c) old new → (s id : ℕ) × (place_of d old w ≡ At s id) → LiesPast (ranges_of d w (id_at (place_of d old w)) old) c
+range-past d w n (claim.Range from to) old new called (s, id, at) =
+    subst (λ p. LiesPast (ranges_of d w (id_at p) old) (claim.Range from to)) (sym at) (ranges-go-on d w n from to s id old new called at)
+range-past d w n (claim.Exhausted x) old new called inside = tt
 
 -- ---- what a call asks of notes
 

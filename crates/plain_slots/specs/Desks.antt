@@ -24,6 +24,10 @@ place_at D t = place_of D.shape t D.worker
 abbrev pub held_by : {Sub : Type 0} → Desk Sub → List Entry → Held
 held_by D t = held_at (place_at D t)
 
+-- the ranges that the worker claimed of the task set with which it is inside, the newest first
+abbrev pub ranges_at : {Sub : Type 0} → Desk Sub → List Entry → List (ℕ × ℕ)
+ranges_at D t = ranges_of D.shape D.worker (id_at (place_at D t)) t
+
 -- a fact of a token, or of the tokens that a reply brings, by the place that the trail gives
 abbrev pub ByTrail : {Sub X : Type 0} → (Shape → ℕ → Place → X → Type 0) → Desk Sub → List Entry → X → Type 0
 ByTrail Holds D t x = Holds D.shape D.worker (place_at D t) x
@@ -39,7 +43,7 @@ pub record Makes {Sub : Type 0} (total : Sub → ℕ → Option ℕ) (D : Desk S
 module _ {B Sub : Type 0} (fits : Sub → ℕ → ℕ → List (ℕ × ℕ) → B → Type 0) (D : Desk Sub) (t : List Entry) where
   -- the ranges that the worker claimed of the task set with which it is inside
   abbrev pub OwnFits : B → Type 0
-  OwnFits b = let id = id_at (place_at D t) in fits D.subject D.worker id (ranges_of D.shape D.worker id t) b
+  OwnFits b = fits D.subject D.worker (id_at (place_at D t)) (ranges_at D t) b
 
   -- of the cell of v at the slot that is held: the task set that may be installed next, and no ranges
   abbrev pub NextFits : ℕ → B → Type 0

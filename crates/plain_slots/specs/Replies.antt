@@ -1,5 +1,5 @@
 -- The entry that a call with its reply makes, and what a caller needs of a reply's numbers.
-use Rattle.std.specs.Prelude.{◌≡◌, ℕ, ◌+◌, ◌*◌, ◌<◌, min, Option, Some, IsSome, IsSomeAnd}
+use Rattle.std.specs.Prelude.{◌≡◌, ℕ, ◌+◌, ◌*◌, ◌<◌, ◌≤◌, min, List, All, Option, Some, IsSome, IsSomeAnd}
 use Rattle.std.specs.Int.{bit_at}
 use Rattle.slot_history.specs.declared.act.Act.{Act}
 use Rattle.slot_history.specs.declared.act.Act.TheVariants as act
@@ -76,6 +76,11 @@ SeesTaskSet total _ = Unit {0}
 abbrev pub IsCutRange : Option ℕ → ℕ → Claim → Type 0
 IsCutRange total n (claim.Range from to) = IsSomeAnd total (λ t. (from < t) × (to ≡ min t (from + n)))
 IsCutRange total n (claim.Exhausted x) = Unit {0}
+
+-- a range begins where each of these ended, or later
+abbrev pub LiesPast : List (ℕ × ℕ) → Claim → Type 0
+LiesPast ranges (claim.Range from to) = All (λ (r : ℕ × ℕ). r.1 ≤ from) ranges
+LiesPast ranges (claim.Exhausted x) = Unit {0}
 
 -- a debt is for a task set of the subject
 abbrev pub OwesTaskSet : (ℕ → Option ℕ) → Leave → Type 0

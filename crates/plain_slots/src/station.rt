@@ -38,10 +38,10 @@ pub trait Station<B: Fits> {
     ghost use Rattle.plain_slots.specs.declared.note.Note.{Note};
     ghost use Rattle.plain_slots.specs.declared.note.Note.TheVariants.{Empty, Kept, Fresh};
     ghost use Rattle.plain_slots.specs.declared.reply.Leave.TheVariants.{Left};
-    ghost use Rattle.plain_slots.specs.Desks.{Desk, place_at, held_by, ByTrail, Makes, OwnFits, NextFits, FinalisedFits};
+    ghost use Rattle.plain_slots.specs.Desks.{Desk, place_at, held_by, ranges_at, ByTrail, Makes, OwnFits, NextFits, FinalisedFits};
     ghost use Rattle.plain_slots.specs.Cells.{has_cell, kept_note, fresh_note, NoteSays};
     ghost use Rattle.plain_slots.specs.Tokens.{IsSpent, IsDebt, IsCoordinator, IsHolder, IsAnnouncer, IsDone, ClaimGives, ShutGives, LeaveGives, SweepGives, PayGives, ReserveGives};
-    ghost use Rattle.plain_slots.specs.Replies.{look_act, claim_act, shut_act, leave_act, mark_act, sweep_act, pay_act, reserve_act, admit_act, SeesTaskSet, IsCutRange, OwesTaskSet, marked_more, admitted_holder, NamesSlots};
+    ghost use Rattle.plain_slots.specs.Replies.{look_act, claim_act, shut_act, leave_act, mark_act, sweep_act, pay_act, reserve_act, admit_act, SeesTaskSet, IsCutRange, LiesPast, OwesTaskSet, marked_more, admitted_holder, NamesSlots};
 
     // What no call changes, and what of it every station has.
     ghost Origin: { Type 0 };
@@ -92,13 +92,15 @@ pub trait Station<B: Fits> {
         ensures ticks { steps.new ≡ steps.old + 1 };
 
     /// Claims up to n tuples of the task set with which the worker is inside. Exhausted exactly where every tuple was
-    /// claimed before; a range is cut at the total. The cursor is at most `total + (workers + 1) * 65536`.
+    /// claimed before; a range is cut at the total, and lies past all that this worker claimed of the task set before. The
+    /// cursor is at most `total + (workers + 1) * 65536`.
     fn claim<L: Ledger>(&mut self, n: u32, steps: &mut Steps<L>) -> Claim
         requires place { (s id : ℕ) × (place_at (desk (origin self.old)) (trail self.old) ≡ Inside s id) }
         requires number { (0 < n) × (n ≤ MOST_CLAIM) }
         ensures made { Makes B.total (desk (origin self.old)) (claim_act n result)
             (trail self.old) (trail self.new) (notes self.old) (notes self.new) }
         ensures range { IsCutRange (B.total (desk (origin self.old)).subject (id_at (place_at (desk (origin self.old)) (trail self.old)))) n result }
+        ensures past { LiesPast (ranges_at (desk (origin self.old)) (trail self.old)) result }
         ensures spent { ByTrail ClaimGives (desk (origin self.old)) (trail self.new) result }
         ensures origin { origin self.new ≡ origin self.old }
         ensures ticks { steps.new ≡ steps.old + 1 };

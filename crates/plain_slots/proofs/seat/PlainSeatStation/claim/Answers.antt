@@ -8,7 +8,7 @@ use Rattle.plain_slots.proofs.Seated.{claim-allows, place-of}
 use Rattle.slot_history.specs.Histories.{place_of}
 use Rattle.plain_slots.specs.Log.{calls_of, note_in}
 use Rattle.plain_slots.specs.Seats.{trail_in}
-use Rattle.plain_slots.proofs.Seated.{table-after, place-for, own-below, table-subject, new-shape, new-below, new-since, token-for, seat-makes, cuts}
+use Rattle.plain_slots.proofs.Seated.{table-after, place-for, own-below, table-subject, new-shape, new-below, new-since, token-for, seat-makes, cuts, range-past}
 use Rattle.plain_slots.proofs.seat.PlainSeatStation.claim.Goals as goal
 
 pub claim-requires-clause-place : goal.claim-requires-clause-place
@@ -38,3 +38,6 @@ returns-clause-range g c =
     let cut = cuts (g.B.Fits.total c.table.inside.subject.value) c.table.inside.object c.table.invariant.task_sets c.args.self.now.worker c.args.n c.claim.result c.claim.new.self (own-below c.table.inside.object c.table.inside.subject.value c.args.self.now.start.value c.args.self.now.table.now c.table.view_is c.args.self.now.shape c.args.self.now.subject c.args.self.now.worker c.args.self.now.below) c.claim.ensures.made in
     subst (λ p. IsCutRange (g.B.Fits.total c.args.self.now.start.value.subject (id_at p)) c.args.n c.claim.result) (place-of c.table.inside.object c.table.inside.subject.value c.args.self.now.start.value c.args.self.now.table.now c.table.view_is c.args.self.now.shape c.args.self.now.subject c.args.self.now.worker)
     (subst (λ u. IsCutRange (g.B.Fits.total u (id_at (place_in c.table.inside.object c.args.self.now.worker))) c.args.n c.claim.result) (table-subject c.table.inside.object c.table.inside.subject.value c.args.self.now.start.value c.args.self.now.table.now c.table.view_is c.args.self.now.shape c.args.self.now.subject c.args.self.now.worker) cut)
+
+pub returns-clause-past : goal.returns-clause-past
+returns-clause-past g c = let m = returns-clause-made g c in range-past c.args.self.now.start.value.shape c.args.self.now.worker c.args.n c.claim.result (trail_in c.args.self.now.worker (calls_of c.args.self.now.table.now.log)) (trail_in c.args.self.now.worker (calls_of c.claim.new.self.log)) m.called c.requires.place

@@ -1,7 +1,7 @@
 //! The laws of legal histories: what holds whatever the interleaving of the workers was.
 //!
-//! Each function does nothing; its contract is a law, and the lemma of its name in `proofs/` is what crates above cite.
-//! Each says which fault of the protocol it rules out.
+//! Each function does nothing, and its contract is a law. Crates above cite the lemmas in `proofs/` that it stands on. Most
+//! laws say which fault of the protocol they rule out.
 
 ghost use Rattle.slot_history.specs.Laws.{Always, AfterAll, QuietSlots, InsideSlots, OneDebt, ShutInside, CoordinatorOwesNothing, CoordinatorLeaves, OneOwner, OwnEntries, OwnRecords, CallsGoOn, OnlyOnce, RangesOfClaims, ClaimsGoOn, RangesGoOn, AreApart, NoEarlyClaims, TilesCursor, TilesTotal, FinishingLast, OnceInPlace};
 ghost use Rattle.slot_history.specs.Lives.{IsBookOf};
@@ -44,14 +44,14 @@ pub fn inside_slots()
 
 /// A marked worker that has not paid is so at one slot.
 ///
-/// Ruled out: a mark that carries no id, whose debt could be for either of two slots.
+/// Ruled out: a leave that forgets the debt, after which its worker could be marked at a second slot.
 pub fn one_debt()
     ensures { Always OneDebt }
 {}
 
 /// A worker that is inside a shut slot is marked and has not paid, or was not asked yet, or is the coordinator.
 ///
-/// Ruled out: a sweep before the last worker was asked.
+/// Ruled out: a state word that is published after the look, by which a worker that was asked could still come inside.
 pub fn shut_inside()
     ensures { Always ShutInside }
 {}
@@ -78,8 +78,9 @@ pub fn one_owner()
     ensures { Always OneOwner }
 {}
 
-/// A worker that found all tuples of a slot claimed is right for as long as it is there, a task set is shut only then, and
-/// no cursor goes further past its total than one claim, and one for each worker that found all tuples claimed.
+/// A worker that found all tuples of a slot claimed is right for as long as it is there, and a task set is shut only then. No
+/// cursor goes further past its total than one claim, and one more for each worker that found all tuples claimed; once the
+/// slot is shut, for each that claims no more.
 ///
 /// Ruled out: a claim that answers a range past the total, and a cursor that wraps.
 pub fn cursors()
@@ -183,7 +184,7 @@ pub fn tiles_total()
     ensures { AfterAll TilesTotal }
 {}
 
-/// A slot that is being finalised is so after the last call of its task set.
+/// A slot that is being finalised is so after the call of its task set that answered Last.
 ///
 /// Ruled out: a holder that was not told that it finalises.
 pub fn finishing_last()
@@ -194,7 +195,7 @@ pub fn finishing_last()
 /// it, and its slot was given to no other task set before.
 ///
 /// Ruled out: a shut that two workers win, a sweep before the last worker was asked, a state word that is published after
-/// the look, a leave that forgets the debt.
+/// the look.
 pub fn once_in_place()
     ensures { AfterAll OnceInPlace }
 {}
@@ -209,7 +210,7 @@ pub fn cursor_limit()
 /// Of a shut slot, those that paid and those that still owe are the marked workers, which are fewer than the workers; so a
 /// counter of debts never reaches the number of workers on either side of 0.
 ///
-/// Ruled out: a coordinator that marks itself, and a worker that pays twice.
+/// Ruled out: a coordinator that marks itself.
 pub fn debts_within()
     ensures { Always AreDebtsWithin }
 {}

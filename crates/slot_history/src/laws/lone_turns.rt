@@ -6,7 +6,7 @@ ghost use Rattle.slot_history.specs.LoneTurns.{StaysLone, EndsQuiet, MeetsNobody
 /// From a quiet state on, while only one worker calls, the others stay free and it is marked nowhere. Once it is free
 /// too, the state is quiet again.
 ///
-/// Ruled out: a mark that is left behind when its task set is finalised.
+/// Ruled out: a call that moves another worker than its own.
 pub fn stays_lone()
     ensures lone { StaysLone }
     ensures quiet { EndsQuiet }
@@ -31,7 +31,7 @@ pub fn look_is_known()
 {}
 
 /// In a quiet state each worker has, of every open slot, an active record that lets it in, or a pending notice that will
-/// make it so. No announcement is left to be made.
+/// make it so.
 ///
 /// Ruled out: an announcer that is free before all are told.
 pub fn quiet_is_known()

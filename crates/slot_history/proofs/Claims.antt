@@ -1,7 +1,7 @@
 -- The claims of a task set tile what was claimed of it, and its total in the end. It rules out a claim that is not cut at
 -- the total, and a claim after the last call.
 use Rattle.std.proofs.Common.{◌≡◌, ℕ, ◌<◌, Bool, true, false, cond, eqb, ◌&&◌, min, List, [], ◌∷◌, Option, Some, refl, sym, ap, ◌∙◌, subst, inr, ⊎_elim, arith, eq-eqb, ne_eqb, eqb-true}
-use Rattle.std.specs.Prelude.{unwrap_or}
+use Rattle.std.specs.Prelude.{unwrap_or, IsSome}
 use Rattle.std.proofs.lemmas.Bool.{cond_both, cases_Bool, and_parts}
 use Rattle.slot_history.specs.declared.shape.Shape.{Shape}
 use Rattle.slot_history.specs.declared.act.Act.{Act}
@@ -12,7 +12,7 @@ use Rattle.slot_history.specs.States.{TaskSet, SlotState, Empty, Reserved, Open,
 use Rattle.slot_history.specs.Steps.{state_after}
 use Rattle.slot_history.specs.Allowed.{IsAllowed}
 use Rattle.slot_history.specs.Histories.{IsLegal, Morsel, Tiles, claims_of, claims_after, ranges_of, ranges_after, ranges_by, place_of, is_install, installs_of, is_last, lasts_of, total_of, slot_with}
-use Rattle.slot_history.specs.Lives.{Life, Never, Runs, Done, done, life_of, has_task, IsSlotBook}
+use Rattle.slot_history.specs.Lives.{Life, Never, Runs, Done, done, life_of, Counts, has_task, IsSlotBook}
 use Rattle.slot_history.specs.Laws.{NoEarlyClaims, TilesCursor, TilesTotal, FinishingLast}
 use Rattle.slot_history.proofs.Sets.{pick}
 use Rattle.slot_history.proofs.Table.{table}
@@ -21,7 +21,7 @@ use Rattle.slot_history.proofs.Cursors.{cursors}
 use Rattle.slot_history.proofs.Growth.{open-or-shut}
 use Rattle.slot_history.proofs.BookSteps.{tiles-spent}
 use Rattle.slot_history.proofs.Book.{book, inside-task}
-use Rattle.slot_history.proofs.Counts.{slot-runs, last-runs, Counts, counts, counts-never, counts-done}
+use Rattle.slot_history.proofs.Counts.{slot-runs, last-runs, counts, counts-never, counts-done}
 
 -- ---- claims
 
@@ -105,12 +105,12 @@ pub tiles-total : (d : Shape) (h : List Entry) → IsLegal d h → TilesTotal d 
 tiles-total d h legal = (
   λ s shut_. let x : SlotState = (state_after d h).slots s in let t : TaskSet = task_of x in
       tiles-spent (claims_of d t.id h) t.cursor t.total t.total ((cursors d h legal).shut s shut_) refl (tiles-cursor d h legal s (open-or-shut x (inr shut_))).1,
-  λ id total some_last is. let k = counts-done (life_of d id h) (installs_of id h) (lasts_of d id h) (total_of d id h) (slot_with d id h) (counts d id h legal) some_last in
-      tiles-done d id h legal total (k.1 ∙ ap Done (let e : Some k.0 ≡ Some total = sym k.2 ∙ is in cc)),
+  λ id some_last. let k = counts-done (life_of d id h) (installs_of id h) (lasts_of d id h) (total_of d id h) (slot_with d id h) (counts d id h legal) some_last in
+      (k.0, k.2, tiles-done d id h legal k.0 k.1),
 )
 
 lasts-done : (l : Life) (installs lasts n : ℕ) (total slot : Option ℕ) → l ≡ Done n → Counts l installs lasts total slot → 0 < lasts
-lasts-done l installs lasts n total slot over k = let r : (installs ≡ 1) × (lasts ≡ 1) × (total ≡ Some n) = subst (λ z. Counts z installs lasts total slot) over k in let e : lasts ≡ 1 = r.1 in omega arith
+lasts-done l installs lasts n total slot over k = let r : (installs ≡ 1) × (lasts ≡ 1) × (total ≡ Some n) × IsSome slot = subst (λ z. Counts z installs lasts total slot) over k in let e : lasts ≡ 1 = r.1 in omega arith
 
 pub finishing-last : (d : Shape) (h : List Entry) → IsLegal d h → FinishingLast d h
 finishing-last d h legal s id w held is =

@@ -12,7 +12,7 @@ use Rattle.slot_history.specs.Steps.{admitted_after, state_after}
 use Rattle.slot_history.specs.Allowed.{IsAllowed}
 use Rattle.slot_history.specs.Histories.{IsLegal, Tiles, claims_of, place_of, is_install, installs_of, is_admit, admits_of, is_last, lasts_of, total_of, slot_with}
 use Rattle.slot_history.specs.Table.{IsTable}
-use Rattle.slot_history.specs.Lives.{Life, Never, Runs, Done, done, life_of, has_task, IsRunning, IsSlotBook}
+use Rattle.slot_history.specs.Lives.{Life, Never, Runs, Done, done, life_of, Counts, has_task, IsRunning, IsSlotBook}
 use Rattle.slot_history.specs.Laws.{OnlyOnce}
 use Rattle.slot_history.proofs.Sets.{pick, some-unwrapped}
 use Rattle.slot_history.proofs.Table.{table}
@@ -70,12 +70,6 @@ last-runs d h w a id legal low ok this at =
 
 -- ---- counts
 
--- what the life of a task set says of its installs, its last calls, its total and its slot
-abbrev pub Counts : Life → ℕ → ℕ → Option ℕ → Option ℕ → Type 0
-Counts Never installs lasts total slot = (installs ≡ 0) × (lasts ≡ 0) × (total ≡ None) × (slot ≡ None)
-Counts (Runs s n) installs lasts total slot = (installs ≡ 1) × (lasts ≡ 0) × (total ≡ Some n) × (slot ≡ Some s)
-Counts (Done n) installs lasts total slot = (installs ≡ 1) × (lasts ≡ 1) × (total ≡ Some n)
-
 counts-installed : (l : Life) (installs lasts s : ℕ) (total slot o : Option ℕ) → l ≡ Never → IsSome o → Counts l installs lasts total slot → Counts (Runs s (unwrap_or o 0)) (1 + installs) lasts o (Some s)
 counts-installed l installs lasts s total slot o new some_total k =
     let r : (installs ≡ 0) × (lasts ≡ 0) × (total ≡ None) × (slot ≡ None) = subst (λ z. Counts z installs lasts total slot) new k in
@@ -84,10 +78,7 @@ counts-installed l installs lasts s total slot o new some_total k =
 counts-last : (l : Life) (installs lasts s n : ℕ) (total slot : Option ℕ) → l ≡ Runs s n → Counts l installs lasts total slot → Counts (done l) installs (1 + lasts) total slot
 counts-last l installs lasts s n total slot runs k =
     let r : (installs ≡ 1) × (lasts ≡ 0) × (total ≡ Some n) × (slot ≡ Some s) = subst (λ z. Counts z installs lasts total slot) runs k in
-    subst (λ z. Counts (done z) installs (1 + lasts) total slot) (sym runs) (r.0, let e : lasts ≡ 0 = r.1 in omega arith, r.2)
-
-abbrev CountsOf : Shape → ℕ → List Entry → Type 0
-CountsOf d id h = Counts (life_of d id h) (installs_of id h) (lasts_of d id h) (total_of d id h) (slot_with d id h)
+    subst (λ z. Counts (done z) installs (1 + lasts) total slot) (sym runs) (r.0, let e : lasts ≡ 0 = r.1 in omega arith, r.2, subst IsSome (sym r.3) refl)
 
 -- after one more call, by whether it installs the id and whether it finalises it
 abbrev CountsAfter : Act → Place → ℕ → Life → ℕ → ℕ → Option ℕ → Option ℕ → Bool → Bool → Type 0
@@ -115,7 +106,7 @@ counts-next a p id l installs lasts total slot new runs k = ⊎_elim
     (cases_Bool (is_last a && eqb (id_at p) id))))
     (cases_Bool (is_install a id))
 
-pub counts : (d : Shape) (id : ℕ) (h : List Entry) → IsLegal d h → CountsOf d id h
+pub counts : (d : Shape) (id : ℕ) (h : List Entry) → IsLegal d h → Counts (life_of d id h) (installs_of id h) (lasts_of d id h) (total_of d id h) (slot_with d id h)
 counts d id [] legal = (refl, refl, refl, refl)
 counts d id (e ∷ es) legal = counts-next e.act (place_of d es e.worker) id (life_of d id es) (installs_of id es) (lasts_of d id es) (total_of d id es) (slot_with d id es)
     (λ this. install-never d es e.worker e.act id legal.2 legal.0 legal.1 this)
@@ -134,10 +125,10 @@ counts-never Never installs lasts total slot k none = refl
 counts-never (Runs s n) installs lasts total slot k none = absurd (let e : installs ≡ 1 = k.0 in let z : installs ≡ 0 = none in omega arith)
 counts-never (Done n) installs lasts total slot k none = absurd (let e : installs ≡ 1 = k.0 in let z : installs ≡ 0 = none in omega arith)
 
-pub counts-done : (l : Life) (installs lasts : ℕ) (total slot : Option ℕ) → Counts l installs lasts total slot → 0 < lasts → (n : ℕ) × (l ≡ Done n) × (total ≡ Some n)
+pub counts-done : (l : Life) (installs lasts : ℕ) (total slot : Option ℕ) → Counts l installs lasts total slot → 0 < lasts → (n : ℕ) × (l ≡ Done n) × (total ≡ Some n) × IsSome slot
 counts-done Never installs lasts total slot k some_last = absurd (let e : lasts ≡ 0 = k.1 in omega arith)
 counts-done (Runs s n) installs lasts total slot k some_last = absurd (let e : lasts ≡ 0 = k.1 in omega arith)
-counts-done (Done n) installs lasts total slot k some_last = (n, refl, k.2)
+counts-done (Done n) installs lasts total slot k some_last = (n, refl, k.2, k.3)
 
 pub counts-runs : (l : Life) (installs lasts s : ℕ) (total slot : Option ℕ) → Counts l installs lasts total slot → lasts ≡ 0 → slot ≡ Some s → (n : ℕ) × (l ≡ Runs s n)
 counts-runs Never installs lasts s total slot k none at = absurd (let e : None ≡ Some s = sym k.3 ∙ at in cc)

@@ -102,6 +102,7 @@ in-place d h w a id legal low ok at this = ⊎_elim
 pub once-in-place : (d : Shape) (h : List Entry) → IsLegal d h → OnceInPlace d h
 once-in-place d h legal id some_last = record {
   once = let most : lasts_of d id h ≤ 1 = (counts-most (life_of d id h) (installs_of id h) (lasts_of d id h) (total_of d id h) (slot_with d id h) (counts d id h legal)).1 in omega arith;
+  slot = (counts-done (life_of d id h) (installs_of id h) (lasts_of d id h) (total_of d id h) (slot_with d id h) (counts d id h legal) some_last).3;
   none_inside = λ early b past v. none-inside d id early (begins-legal d h early legal b) past v;
   untouched = λ e early b past. let k : IsLegal d (e ∷ early) = begins-legal d h (e ∷ early) legal b in untouched d early e.worker e.act id k.2 k.0 k.1 past;
   in_place = λ e early b at this. let k : IsLegal d (e ∷ early) = begins-legal d h (e ∷ early) legal b in in-place d early e.worker e.act id k.2 k.0 k.1 at this;

@@ -1,5 +1,5 @@
 -- Legal histories, what a trail knows of them, and what they did with each task set. Newest entries come first.
-use Rattle.std.specs.Prelude.{◌≡◌, ℕ, ◌+◌, ◌/◌, ◌%◌, ◌<◌, Bool, true, false, cond, eqb, ◌&&◌, List, [], ◌∷◌, ◌++◌, Option, Some, None}
+use Rattle.std.specs.Prelude.{◌≡◌, ℕ, ◌+◌, ◌/◌, ◌%◌, ◌<◌, Bool, true, false, cond, eqb, ◌&&◌, List, [], ◌∷◌, ◌++◌, Option, Some, None, IsSome}
 use Rattle.std.specs.Int.{bit_at}
 use Rattle.slot_history.specs.declared.shape.Shape.{Shape}
 use Rattle.slot_history.specs.declared.shape.TheConstants.{STAGES}
@@ -161,10 +161,11 @@ renews (Install id) = true
 renews Release = true
 renews _ = false
 
--- A task set that was finalised was so once, and in place: at every moment from then on nobody is inside with it and no
--- call touches it, and no call gives its slot away between its install and then.
+-- A task set that was finalised was so once, and in place: it was installed in a slot, at every moment from then on nobody
+-- is inside with it and no call touches it, and no call gives its slot away between its install and then.
 pub record FinalisedOnce (d : Shape) (id : ℕ) (h : List Entry) : Type 0 where
   pub once : lasts_of d id h ≡ 1
+  pub slot : IsSome (slot_with d id h)
   pub none_inside : (early : List Entry) → Begins h early → 0 < lasts_of d id early → (v : ℕ)
       → is_inside (place_of d early v) id ≡ false
   pub untouched : (e : Entry) (early : List Entry) → Begins h (e ∷ early) → 0 < lasts_of d id early

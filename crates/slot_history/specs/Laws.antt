@@ -114,11 +114,12 @@ TilesCursor d h = (s : ℕ) → has_task ((state_after d h).slots s) ≡ true
     → let t = task_of ((state_after d h).slots s) in
     (total_of d t.id h ≡ Some t.total) × Tiles (claims_of d t.id h) (min t.cursor t.total)
 
--- the claims of a task set that is shut or was finalised tile the total with which it was installed
+-- the claims of a task set that is shut tile its total; and one that was finalised was installed with a total, which its
+-- claims tile
 abbrev pub TilesTotal : Shape → List Entry → Type 0
 TilesTotal d h = ((s : ℕ) → is_shut ((state_after d h).slots s) ≡ true
     → let t = task_of ((state_after d h).slots s) in Tiles (claims_of d t.id h) t.total)
-    × ((id total : ℕ) → 0 < lasts_of d id h → total_of d id h ≡ Some total → Tiles (claims_of d id h) total)
+    × ((id : ℕ) → 0 < lasts_of d id h → (total : ℕ) × (total_of d id h ≡ Some total) × Tiles (claims_of d id h) total)
 
 -- a slot that is being finalised was so finalised for its id
 abbrev pub FinishingLast : Shape → List Entry → Type 0

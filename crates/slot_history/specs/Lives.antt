@@ -1,5 +1,5 @@
 -- What became of each task set, and what each slot knows of it.
-use Rattle.std.specs.Prelude.{◌≡◌, ℕ, ◌/◌, ◌<◌, ◌≤◌, Bool, true, false, cond, eqb, ◌&&◌, min, List, [], ◌∷◌, Option, Some, None, unwrap_or}
+use Rattle.std.specs.Prelude.{◌≡◌, ℕ, ◌/◌, ◌<◌, ◌≤◌, Bool, true, false, cond, eqb, ◌&&◌, min, List, [], ◌∷◌, Option, Some, None, IsSome, unwrap_or}
 use Rattle.slot_history.specs.declared.shape.Shape.{Shape}
 use Rattle.slot_history.specs.declared.shape.TheConstants.{STAGES}
 use Rattle.slot_history.specs.declared.act.Act.{Act}
@@ -7,7 +7,7 @@ use Rattle.slot_history.specs.declared.act.Entry.{Entry}
 use Rattle.slot_history.specs.declared.place.Place.{Place}
 use Rattle.slot_history.specs.States.{TaskSet, SlotState, Empty, Reserved, Open, Shut, Finishing, slot_of, id_at, held_at, task_of}
 use Rattle.slot_history.specs.Steps.{state_after}
-use Rattle.slot_history.specs.Histories.{Morsel, Tiles, claims_of, is_install, is_last, place_of}
+use Rattle.slot_history.specs.Histories.{Morsel, Tiles, claims_of, is_install, is_last, place_of, installs_of, lasts_of, total_of, slot_with}
 
 -- a task set was never installed, or runs in a slot with a total, or was finalised, with the total that it had
 pub data Life : Type 0 where
@@ -27,6 +27,16 @@ life_after a p id l = cond (is_install a id) (Runs (slot_of p) (unwrap_or (held_
 abbrev pub life_of : Shape → ℕ → List Entry → Life
 life_of d id [] = Never
 life_of d id (e ∷ es) = life_after e.act (place_of d es e.worker) id (life_of d id es)
+
+-- what the life of a task set says of the numbers of its installs and of its last calls, of its total and of its slot
+abbrev pub Counts : Life → ℕ → ℕ → Option ℕ → Option ℕ → Type 0
+Counts Never installs lasts total slot = (installs ≡ 0) × (lasts ≡ 0) × (total ≡ None) × (slot ≡ None)
+Counts (Runs s n) installs lasts total slot = (installs ≡ 1) × (lasts ≡ 0) × (total ≡ Some n) × (slot ≡ Some s)
+Counts (Done n) installs lasts total slot = (installs ≡ 1) × (lasts ≡ 1) × (total ≡ Some n) × IsSome slot
+
+-- and so of each task set of a history
+abbrev pub CountsOf : Shape → List Entry → Type 0
+CountsOf d h = (id : ℕ) → Counts (life_of d id h) (installs_of id h) (lasts_of d id h) (total_of d id h) (slot_with d id h)
 
 -- a slot has a task set to claim of while it is open or shut
 abbrev pub has_task : SlotState → Bool

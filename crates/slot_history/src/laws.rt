@@ -4,7 +4,7 @@
 //! laws say which fault of the protocol they rule out.
 
 ghost use Rattle.slot_history.specs.Laws.{Always, AfterAll, QuietSlots, InsideSlots, OneDebt, ShutInside, CoordinatorOwesNothing, CoordinatorLeaves, OneOwner, OwnEntries, OwnRecords, CallsGoOn, OnlyOnce, RangesOfClaims, ClaimsGoOn, RangesGoOn, AreApart, NoEarlyClaims, TilesCursor, TilesTotal, FinishingLast, OnceInPlace};
-ghost use Rattle.slot_history.specs.Lives.{IsBookOf};
+ghost use Rattle.slot_history.specs.Lives.{IsBookOf, CountsOf};
 ghost use Rattle.slot_history.specs.Table.{IsTable};
 ghost use Rattle.slot_history.specs.Bounds.{IsWithin, AreCursors, IsCursorLimit, AreDebtsWithin, AreSlotsSound, IsFinishedBound};
 ghost use Rattle.slot_history.specs.Calls.{IsAnswered};
@@ -138,6 +138,14 @@ pub fn only_once()
     ensures { AfterAll OnlyOnce }
 {}
 
+/// A task set was neither installed nor finalised; or it was installed once, with a total, and runs in the slot of its
+/// install; or it was finalised once too.
+///
+/// Ruled out: an install without a total, and a last call of a task set that was never installed.
+pub fn counts()
+    ensures { AfterAll CountsOf }
+{}
+
 /// The ranges of a worker are those of its claims.
 ///
 /// Ruled out: a claim that is another worker's.
@@ -177,9 +185,11 @@ pub fn tiles_cursor()
     ensures { AfterAll TilesCursor }
 {}
 
-/// The claims of a task set that is shut or was finalised tile the total with which it was installed.
+/// The claims of a task set that is shut or was finalised tile the total with which it was installed; and one that was
+/// finalised was installed, with a total.
 ///
-/// Ruled out: a shut before all tuples were claimed, and a claim after the last call of the task set.
+/// Ruled out: a shut before all tuples were claimed, a claim after the last call of the task set, and a last call of one
+/// that was never installed.
 pub fn tiles_total()
     ensures { AfterAll TilesTotal }
 {}
@@ -191,8 +201,8 @@ pub fn finishing_last()
     ensures { AfterAll FinishingLast }
 {}
 
-/// Each task set that was finalised was so once, and in place: from then on nobody is inside with it and no call touches
-/// it, and its slot was given to no other task set before.
+/// Each task set that was finalised was so once, and in place: it was installed in a slot, which was given to no other task
+/// set before, and from then on nobody is inside with it and no call touches it.
 ///
 /// Ruled out: a shut that two workers win, a sweep before the last worker was asked, a state word that is published after
 /// the look.

@@ -11,7 +11,7 @@ use Rattle.slot_history.specs.States.{SlotState, Empty, Reserved, Open, Shut, Fi
 use Rattle.slot_history.specs.Steps.{ended}
 use Rattle.slot_history.specs.Allowed.{IsAllowed, debts, next_is_at}
 use Rattle.slot_history.specs.Table.{IsTable}
-use Rattle.slot_history.specs.Calls.{Call, Entering, Looking, Claiming, Shutting, Leaving, Paying, Marking, Sweeping, Reserving, Admitting, AskingArrivals, AskingFinished, Noting, Totalling, Installing, Releasing, Telling, TakingReturn, TakingChange, call_of, MayCall, looked_at, answer_at, reply_of, IsAnswered}
+use Rattle.slot_history.specs.Calls.{Call, Entering, Looking, Claiming, Shutting, Leaving, Paying, Marking, Sweeping, Reserving, Admitting, AskingArrivals, AskingFinished, Noting, Totalling, Installing, Releasing, Telling, TakingReturn, TakingChange, call_of, MayCall, looked_at, answer_at, call_site, reply_of, IsAnswered}
 use Rattle.slot_history.proofs.Records.{shut-closed}
 use Rattle.slot_history.proofs.Masks.{mask-is, mask-only}
 use Rattle.slot_history.proofs.Places.{inside-slots}
@@ -147,5 +147,62 @@ only-answer d S w (TakeReturn part bits) ok = ap (TakeReturn part) (mask-only pa
 only-answer d S w (TakeChange part bits) ok = ap (TakeChange part) (mask-only part (S.changes w) bits ok.1)
 only-answer d S w _ ok = refl
 
+-- ---- an answer of the call
+
+call-of-look : (x : SlotState) → call_of (looked_at x) ≡ Looking
+call-of-look Empty = refl
+call-of-look (Reserved w h) = refl
+call-of-look (Open t) = refl
+call-of-look (Shut t e) = refl
+call-of-look (Finishing id w h) = refl
+
+call-of-either : (b : Bool) (x y : Act) (c : Call) → call_of x ≡ c → call_of y ≡ c → call_of (cond b x y) ≡ c
+call-of-either b x y c of_x of_y = cond_both b x y (λ a. call_of a ≡ c) (λ k. of_x) (λ k. of_y)
+
+call-of-answer : (d : Shape) (S : ObjectState) (w : ℕ) (c : Call) (x : SlotState) → call_of (answer_at d S w c x) ≡ c
+call-of-answer d S w Looking x = call-of-look x
+call-of-answer d S w (Claiming n) x = let t = task_of x in call-of-either (ltb t.cursor t.total) (ClaimRange n t.cursor (min t.total (t.cursor + n))) (ClaimUsed n) (Claiming n) refl refl
+call-of-answer d S w Shutting x = call-of-either (is_open x) ShutWon ShutLost Shutting refl refl
+call-of-answer d S w Leaving x = call-of-either (owes x w) (LeaveOwe (id_of x)) LeaveLeft Leaving refl refl
+call-of-answer d S w Paying x = call-of-either (is_swept x && eqb (debts d (ended d w PayDone x)) 0) PayLast PayDone Paying refl refl
+call-of-answer d S w Marking x = call-of-either (next_is_at d S (slot_of (S.places w)) x) MarkMarked MarkMissed Marking refl refl
+call-of-answer d S w Sweeping x = call-of-either (eqb (debts d x) 0) SweepLast (SweepOthers (debts d x)) Sweeping refl refl
+call-of-answer d S w (Reserving s) x = call-of-either (is_empty x) (ReserveGot s) (ReserveTaken s (slot_word x)) (Reserving s) refl refl
+call-of-answer d S w (Admitting q) x = call-of-either (eqb S.admitted q) (AdmitGot q) (AdmitLost q S.admitted) (Admitting q) refl refl
+call-of-answer d S w _ x = refl
+
+-- ---- a call that has an allowed answer
+
+may-call : (d : Shape) (S : ObjectState) (w : ℕ) (a : Act) → IsAllowed d S w a → MayCall d S w (call_of a)
+may-call d S w (LookOpen id) ok = (ok.0, ok.1)
+may-call d S w LookInvalid ok = (ok.0, ok.1)
+may-call d S w LookVacant ok = (ok.0, ok.1)
+may-call d S w (ClaimRange n from to) ok = (ok.0, ok.1, ok.2, ok.3, ok.4)
+may-call d S w (ClaimUsed n) ok = (ok.0, ok.1, ok.2, ok.3, ok.4)
+may-call d S w ShutWon ok = (ok.0, ok.1, ok.2)
+may-call d S w ShutLost ok = (ok.0, ok.1, ok.2)
+may-call d S w LeaveLeft ok = ok.0
+may-call d S w (LeaveOwe id) ok = ok.0
+may-call d S w PayLast ok = (ok.0, ok.1, ok.2)
+may-call d S w PayDone ok = (ok.0, ok.1, ok.2)
+may-call d S w MarkMarked ok = (ok.0, ok.1, ok.2, ok.3, ok.4, ok.5)
+may-call d S w MarkMissed ok = (ok.0, ok.1, ok.2, ok.3, ok.4, ok.5)
+may-call d S w SweepLast ok = (ok.0, ok.1, ok.2, ok.3, ok.4, ok.5)
+may-call d S w (SweepOthers n) ok = (ok.0, ok.1, ok.2, ok.3, ok.4, ok.5)
+may-call d S w (ReserveGot s) ok = (ok.0, ok.1)
+may-call d S w (ReserveTaken s word) ok = (ok.0, ok.1)
+may-call d S w (AdmitGot q) ok = (ok.0, ok.1, ok.2, ok.3, ok.4)
+may-call d S w (AdmitLost q now) ok = (ok.0, ok.1, ok.2, ok.3, ok.4)
+may-call d S w (Arrivals n) ok = tt
+may-call d S w (Finished n) ok = tt
+may-call d S w (TakeReturn part bits) ok = ok.0
+may-call d S w (TakeChange part bits) ok = ok.0
+may-call d S w _ ok = ok
+
 pub is-answered : (d : Shape) (S : ObjectState) → IsTable d S → IsAnswered d S
-is-answered d S tab = record { always = answered d S tab; only = only-answer d S }
+is-answered d S tab = record {
+  always = answered d S tab;
+  only = only-answer d S;
+  of_call = λ w c. call-of-answer d S w c (S.slots (call_site c (S.places w)));
+  may = may-call d S;
+}

@@ -132,7 +132,10 @@ call_site _ p = slot_of p
 abbrev pub reply_of : Shape → ObjectState → ℕ → Call → Act
 reply_of d S w c = answer_at d S w c (S.slots (call_site c (S.places w)))
 
--- an allowed call has one answer: that of `reply_of`
+-- an allowed call has one answer, that of `reply_of`, which is an answer of this call; and the calls that have an allowed
+-- answer are allowed
 pub record IsAnswered (d : Shape) (S : ObjectState) : Type 0 where
   pub always : (w : ℕ) (c : Call) → w < d.workers → MayCall d S w c → IsAllowed d S w (reply_of d S w c)
   pub only : (w : ℕ) (a : Act) → IsAllowed d S w a → a ≡ reply_of d S w (call_of a)
+  pub of_call : (w : ℕ) (c : Call) → call_of (reply_of d S w c) ≡ c
+  pub may : (w : ℕ) (a : Act) → IsAllowed d S w a → MayCall d S w (call_of a)

@@ -225,10 +225,11 @@ pub fn debts_within()
     ensures { Always AreDebtsWithin }
 {}
 
-/// A call that is allowed has an answer, and no other than the state gives.
+/// A call that is allowed has an answer, one of this call, and no other than the state gives; and only a call that is
+/// allowed has an answer.
 ///
 /// Ruled out: a shut that two workers win, a leave that forgets the debt, a pay that is answered Last at any counter at or
-/// below 0.
+/// below 0, and an answer that a call gets at a place where it is not allowed.
 pub fn is_answered()
     ensures { Always IsAnswered }
 {}

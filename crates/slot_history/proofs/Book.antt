@@ -1,5 +1,5 @@
--- The book of task sets holds after every legal history. It rules out an id that is installed twice, and a finisher that
--- installs a stage past the next.
+-- The book of task sets holds after every legal history. It rules out an id that is installed twice, and a query that two
+-- slots serve.
 use Rattle.std.proofs.Common.{◌≡◌, ℕ, ◌+◌, ◌/◌, ◌<◌, ◌≤◌, true, cond, eqb, List, [], ◌∷◌, Some, None, refl, sym, ap, ◌∙◌, subst, ⊎_elim, eq-eqb}
 use Rattle.std.specs.Prelude.{unwrap_or}
 use Rattle.slot_history.specs.declared.shape.Shape.{Shape}

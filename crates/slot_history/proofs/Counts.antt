@@ -32,7 +32,7 @@ install-not-last (Install jd) id h = refl
 install-not-last _ id h = absurd (cc)
 
 -- where an id is installed, it never was before, and the total is set
-install-never : (d : Shape) (h : List Entry) (w : ℕ) (a : Act) (id : ℕ) → IsLegal d h → w < d.workers → IsAllowed d (state_after d h) w a → is_install a id ≡ true
+pub install-never : (d : Shape) (h : List Entry) (w : ℕ) (a : Act) (id : ℕ) → IsLegal d h → w < d.workers → IsAllowed d (state_after d h) w a → is_install a id ≡ true
     → (life_of d id h ≡ Never) × IsSome (held_at (place_of d h w)).total
 install-never d h w a id legal low ok this = let S : ObjectState = state_after d h in
     subst (λ b. IsAllowed d S w b → (life_of d id h ≡ Never) × IsSome (held_at (S.places w)).total) (sym (install-is a id this))

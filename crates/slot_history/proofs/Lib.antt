@@ -20,6 +20,7 @@ pub mod Counts
 pub mod Claims
 pub mod Ranges
 pub mod TaskSets
+pub mod Stages
 pub mod Masks
 pub mod OneAnswer
 pub mod Announcements

@@ -161,6 +161,16 @@ renews (Install id) = true
 renews Release = true
 renews _ = false
 
+-- the task set to which such a call gives its slot
+abbrev pub task_given : Act → Option ℕ
+task_given (Install id) = Some id
+task_given _ = None
+
+-- the task set that a slot serves: that of its newest install, if it was not released or reserved since
+abbrev pub task_in : Shape → ℕ → List Entry → Option ℕ
+task_in d s [] = None
+task_in d s (e ∷ es) = cond (renews e.act && eqb (site e.act (place_of d es e.worker)) s) (task_given e.act) (task_in d s es)
+
 -- A task set that was finalised was so once, and in place: it was installed in a slot, at every moment from then on nobody
 -- is inside with it and no call touches it, and no call gives its slot away between its install and then.
 pub record FinalisedOnce (d : Shape) (id : ℕ) (h : List Entry) : Type 0 where

@@ -1,13 +1,14 @@
 -- The laws of legal histories, as the functions of module `laws` state them.
-use Rattle.std.specs.Prelude.{◌≡◌, ◌≢◌, ℕ, ◌<◌, ◌≤◌, ◌⊎◌, true, false, List, [], ◌∷◌, min, Some, All, AllPairs}
+use Rattle.std.specs.Prelude.{◌≡◌, ◌≢◌, ℕ, ◌+◌, ◌%◌, ◌<◌, ◌≤◌, ◌⊎◌, true, false, List, [], ◌∷◌, min, Some, All, AllPairs}
 use Rattle.slot_history.specs.declared.shape.Shape.{Shape}
+use Rattle.slot_history.specs.declared.shape.TheConstants.{STAGES}
 use Rattle.slot_history.specs.declared.act.Act.{Act}
-use Rattle.slot_history.specs.declared.act.Act.TheVariants.{ClaimRange, LeaveOwe}
+use Rattle.slot_history.specs.declared.act.Act.TheVariants.{ClaimRange, LeaveOwe, Install}
 use Rattle.slot_history.specs.declared.act.Entry.{Entry}
-use Rattle.slot_history.specs.States.{TaskSet, Ending, Shut, Finishing, task_of, ObjectState, id_of, is_empty, is_open, is_shut, owes, is_inside, has_own_cell, HasCell}
+use Rattle.slot_history.specs.States.{TaskSet, Ending, Shut, Finishing, task_of, ObjectState, slot_of, id_of, is_empty, is_open, is_shut, owes, is_inside, has_own_cell, HasCell}
 use Rattle.slot_history.specs.Steps.{moved, state_after}
 use Rattle.slot_history.specs.Allowed.{IsAllowed}
-use Rattle.slot_history.specs.Histories.{IsLegal, Called, entry, own_calls, place_of, ranges_of, ranges_after, ranges_by, own_record, own_record_after, Morsel, claims_of, Tiles, installs_of, admits_of, lasts_of, total_of, FinalisedOnce}
+use Rattle.slot_history.specs.Histories.{IsLegal, Called, entry, own_calls, place_of, ranges_of, ranges_after, ranges_by, own_record, own_record_after, Morsel, claims_of, Tiles, installs_of, admits_of, lasts_of, total_of, FinalisedOnce, slot_with, task_in}
 use Rattle.slot_history.specs.declared.place.Held.{Held}
 use Rattle.slot_history.specs.declared.place.Place.TheVariants.{Inside, Leading}
 use Rattle.slot_history.specs.Lives.{has_task}
@@ -128,3 +129,10 @@ FinishingLast d h = (s id w : ℕ) (held : Held) → (state_after d h).slots s �
 -- each task set that was finalised was so once, and in place
 abbrev pub OnceInPlace : Shape → List Entry → Type 0
 OnceInPlace d h = (id : ℕ) → 0 < lasts_of d id h → FinalisedOnce d id h
+
+-- Where a task set other than the first of its query is installed, the one before it was finalised once, in the slot of
+-- this install, and no call gave this slot away since.
+abbrev pub StagesInOrder : Type 0
+StagesInOrder = (d : Shape) (w id : ℕ) (h : List Entry) → IsLegal d (entry w (Install (id + 1)) ∷ h)
+    → (id + 1) % STAGES ≢ 0 → let s = slot_of (place_of d h w) in
+    (lasts_of d id h ≡ 1) × (slot_with d id h ≡ Some s) × (task_in d s h ≡ Some id)

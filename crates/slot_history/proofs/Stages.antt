@@ -1,7 +1,9 @@
 -- Stages come in order, and a query keeps its slot. It rules out a finisher that installs a stage past the next, or in
 -- another slot.
-use Rattle.std.proofs.Common.{◌≡◌, ◌≢◌, ℕ, ◌+◌, ◌*◌, ◌/◌, ◌%◌, ◌<◌, ◌≤◌, Bool, true, false, cond, eqb, ◌&&◌, List, [], ◌∷◌, Option, Some, None, refl, sym, ap, ap₂, ◌∙◌, subst, ⊎_elim, arith, eq-eqb, ne_eqb, eqb-true}
+use Rattle.std.proofs.Common.{◌≡◌, ◌≢◌, ℕ, ◌+◌, ◌-◌, ◌*◌, ◌/◌, ◌%◌, ◌<◌, ◌≤◌, ◌⊎◌, Bool, true, false, cond, eqb, ◌&&◌, List, [], ◌∷◌, ◌++◌, Option, Some, None, refl, sym, ap, ap₂, ◌∙◌, subst, inl, inr, ⊎_elim, arith, eq-eqb, ne_eqb, eqb-true}
 use Rattle.std.specs.Prelude.{unwrap_or}
+use mathlib.Core.Logic.{dite}
+use native.Mathlib.Decide.{ℕ_discrete}
 use Rattle.std.proofs.lemmas.Bool.{cases_Bool, and_parts}
 use Rattle.slot_history.specs.declared.shape.Shape.{Shape}
 use Rattle.slot_history.specs.declared.shape.TheConstants.{STAGES}
@@ -13,15 +15,16 @@ use Rattle.slot_history.specs.declared.place.Place.{Place}
 use Rattle.slot_history.specs.States.{SlotState, Empty, Reserved, Open, Shut, Finishing, ObjectState, slot_of, is_empty, next_id}
 use Rattle.slot_history.specs.Steps.{site, slot_after, claimed, shut_by, ended, finalised_by, held_on, opened, state_after}
 use Rattle.slot_history.specs.Allowed.{IsAllowed}
-use Rattle.slot_history.specs.Histories.{IsLegal, place_of, is_install, installs_of, lasts_of, total_of, slot_with, renews, task_given, task_in}
+use Rattle.slot_history.specs.Histories.{IsLegal, Begins, place_of, claims_of, is_install, installs_of, lasts_of, total_of, slot_with, renews, task_given, task_in}
 use Rattle.slot_history.specs.Table.{IsTable}
 use Rattle.slot_history.specs.Bounds.{IsReservation, IsFinalisation, IsSlotSound, AreSlotsSound}
 use Rattle.slot_history.specs.Lives.{Never, life_of, Counts}
-use Rattle.slot_history.specs.Laws.{StagesInOrder}
+use Rattle.slot_history.specs.Laws.{StagesInOrder, QueryKeepsSlot}
 use Rattle.slot_history.proofs.Sets.{upd-cases}
 use Rattle.slot_history.proofs.Duties.{IsHeldBy}
 use Rattle.slot_history.proofs.Table.{table}
 use Rattle.slot_history.proofs.Holdings.{holder-slot, slots-sound}
+use Rattle.slot_history.proofs.Book.{book, install-fresh}
 use Rattle.slot_history.proofs.Counts.{install-never, counts, counts-most}
 use Rattle.slot_history.proofs.Claims.{finishing-last}
 
@@ -164,3 +167,51 @@ stages-in-order d w id h legal later =
     let most : lasts_of d id h ≤ 1 = (counts-most (life_of d id h) (installs_of id h) (lasts_of d id h) (total_of d id h) (slot_with d id h) (counts d id h legal.2)).1 in
     subst (λ p. (lasts_of d id h ≡ 1) × (slot_with d id h ≡ Some (slot_of p)) × (task_in d (slot_of p) h ≡ Some id)) (sym ok.2)
     (omega arith, serving-slot d h legal.2 ok.0 id at, at)
+
+-- ---- a query keeps its slot
+
+installs-grow : (id : ℕ) (more early : List Entry) → installs_of id early ≤ installs_of id (more ++ early)
+installs-grow id [] early = omega arith
+installs-grow id (e ∷ more) early = let r : installs_of id early ≤ installs_of id (more ++ early) = installs-grow id more early in omega arith
+
+begins-cases : (e : Entry) (es early : List Entry) → Begins (e ∷ es) early → (early ≡ e ∷ es) ⊎ Begins es early
+begins-cases e es early ([], is) = inl (sym is)
+begins-cases e es early (m ∷ more, is) = inr (more, let r : e ∷ es ≡ m ∷ (more ++ early) = is in cc)
+
+given-is : (a : Act) (id : ℕ) → task_given a ≡ Some id → a ≡ Install id
+given-is (Install jd) id e = ap Install (cc)
+given-is _ id e = absurd (cc)
+
+-- where the first task set of a query is installed, none of the query was before
+first-new : (d : Shape) (h : List Entry) (w id jd : ℕ) → IsLegal d h → w < d.workers → IsAllowed d (state_after d h) w (Install id) → id % STAGES ≡ 0 → jd / STAGES ≡ id / STAGES → installs_of jd h ≡ 0
+first-new d h w id jd legal low ok first same =
+    let fresh = install-fresh d (state_after d h) w id (λ j. life_of d j h) (λ j. claims_of d j h) low (table d h legal) (slots-sound d h legal) ok (book d h legal) in
+    let never : life_of d jd h ≡ Never = dite (ℕ_discrete jd id) (λ e. ap (λ j. life_of d j h) e ∙ fresh.never) (λ ne. fresh.later jd (omega arith) same) in
+    let k : (installs_of jd h ≡ 0) × (lasts_of d jd h ≡ 0) × (total_of d jd h ≡ None) × (slot_with d jd h ≡ None) =
+    subst (λ l. Counts l (installs_of jd h) (lasts_of d jd h) (total_of d jd h) (slot_with d jd h)) never (counts d jd h legal) in k.0
+
+-- what an install goes on with served the slot
+kept-by-install : (d : Shape) (h early : List Entry) (w s id jd : ℕ) → IsLegal d h → w < d.workers → IsAllowed d (state_after d h) w (Install id) → slot_of (place_of d h w) ≡ s → QueryKeepsSlot d h
+    → Begins h early → jd / STAGES ≡ id / STAGES → 0 < installs_of jd early → (kd : ℕ) × (task_in d s early ≡ Some kd) × (kd / STAGES ≡ id / STAGES)
+kept-by-install d h early w s id jd legal low ok at keeps b same was = dite (ℕ_discrete (id % STAGES) 0)
+    (λ first. absurd (let none : installs_of jd h ≡ 0 = first-new d h w id jd legal low ok first same in
+    let grows : installs_of jd early ≤ installs_of jd h = subst (λ l. installs_of jd early ≤ installs_of jd l) (sym b.1) (installs-grow jd b.0 early) in omega arith))
+    (λ later. let k : ℕ = id - 1 in
+    let is : id ≡ k + 1 = omega arith in
+    let here = stages-in-order d w k h (low, subst (λ j. IsAllowed d (state_after d h) w (Install j)) is ok, legal) (subst (λ j. j % STAGES ≢ 0) is later) in
+    let whole : k / STAGES ≡ id / STAGES = omega arith in
+    let r = keeps s k jd early (subst (λ j. task_in d j h ≡ Some k) at here.2) b (same ∙ sym whole) was in
+    (r.0, r.1, r.2 ∙ whole))
+
+pub query-keeps-slot : (d : Shape) (h : List Entry) → IsLegal d h → QueryKeepsSlot d h
+query-keeps-slot d [] legal s id jd early at b same was = absurd (cc)
+query-keeps-slot d (e ∷ es) legal s id jd early at b same was =
+    let p : Place = place_of d es e.worker in let a : Act = e.act in ⊎_elim
+    (λ all. (id, ap (task_in d s) all ∙ at, refl))
+    (λ before. ⊎_elim
+    (λ this. let given : task_given a ≡ Some id = sym (ap (λ o. cond o (task_given a) (task_in d s es)) this) ∙ at in
+    let there : slot_of p ≡ s = sym (given-site a p id given) ∙ eqb-true (site a p) s (and_parts (renews a) (eqb (site a p) s) this).1 in
+    kept-by-install d es early e.worker s id jd legal.2 legal.0 (subst (IsAllowed d (state_after d es) e.worker) (given-is a id given) legal.1) there (query-keeps-slot d es legal.2) before same was)
+    (λ other. query-keeps-slot d es legal.2 s id jd early (sym (ap (λ o. cond o (task_given a) (task_in d s es)) other) ∙ at) before same was)
+    (cases_Bool (renews a && eqb (site a p) s)))
+    (begins-cases e es early b)

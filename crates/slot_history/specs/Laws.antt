@@ -1,5 +1,5 @@
 -- The laws of legal histories, as the functions of module `laws` state them.
-use Rattle.std.specs.Prelude.{◌≡◌, ◌≢◌, ℕ, ◌+◌, ◌%◌, ◌<◌, ◌≤◌, ◌⊎◌, true, false, List, [], ◌∷◌, min, Some, All, AllPairs}
+use Rattle.std.specs.Prelude.{◌≡◌, ◌≢◌, ℕ, ◌+◌, ◌/◌, ◌%◌, ◌<◌, ◌≤◌, ◌⊎◌, true, false, List, [], ◌∷◌, min, Some, All, AllPairs}
 use Rattle.slot_history.specs.declared.shape.Shape.{Shape}
 use Rattle.slot_history.specs.declared.shape.TheConstants.{STAGES}
 use Rattle.slot_history.specs.declared.act.Act.{Act}
@@ -8,7 +8,7 @@ use Rattle.slot_history.specs.declared.act.Entry.{Entry}
 use Rattle.slot_history.specs.States.{TaskSet, Ending, Shut, Finishing, task_of, ObjectState, slot_of, id_of, is_empty, is_open, is_shut, owes, is_inside, has_own_cell, HasCell}
 use Rattle.slot_history.specs.Steps.{moved, state_after}
 use Rattle.slot_history.specs.Allowed.{IsAllowed}
-use Rattle.slot_history.specs.Histories.{IsLegal, Called, entry, own_calls, place_of, ranges_of, ranges_after, ranges_by, own_record, own_record_after, Morsel, claims_of, Tiles, installs_of, admits_of, lasts_of, total_of, FinalisedOnce, slot_with, task_in}
+use Rattle.slot_history.specs.Histories.{IsLegal, Called, entry, own_calls, place_of, ranges_of, ranges_after, ranges_by, own_record, own_record_after, Morsel, claims_of, Tiles, installs_of, admits_of, lasts_of, total_of, FinalisedOnce, slot_with, task_in, Begins}
 use Rattle.slot_history.specs.declared.place.Held.{Held}
 use Rattle.slot_history.specs.declared.place.Place.TheVariants.{Inside, Leading}
 use Rattle.slot_history.specs.Lives.{has_task}
@@ -136,3 +136,9 @@ abbrev pub StagesInOrder : Type 0
 StagesInOrder = (d : Shape) (w id : ℕ) (h : List Entry) → IsLegal d (entry w (Install (id + 1)) ∷ h)
     → (id + 1) % STAGES ≢ 0 → let s = slot_of (place_of d h w) in
     (lasts_of d id h ≡ 1) × (slot_with d id h ≡ Some s) × (task_in d s h ≡ Some id)
+
+-- A slot that serves a task set served one of the same query at each moment since a task set of this query was installed.
+abbrev pub QueryKeepsSlot : Shape → List Entry → Type 0
+QueryKeepsSlot d h = (s id jd : ℕ) (early : List Entry) → task_in d s h ≡ Some id → Begins h early
+    → jd / STAGES ≡ id / STAGES → 0 < installs_of jd early
+    → (kd : ℕ) × (task_in d s early ≡ Some kd) × (kd / STAGES ≡ id / STAGES)

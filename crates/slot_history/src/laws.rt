@@ -3,7 +3,7 @@
 //! Each function does nothing, and its contract is a law. Crates above cite the lemmas in `proofs/` that it stands on. Most
 //! laws say which fault of the protocol they rule out.
 
-ghost use Rattle.slot_history.specs.Laws.{Always, AfterAll, QuietSlots, InsideSlots, OneDebt, ShutInside, CoordinatorOwesNothing, CoordinatorLeaves, OneOwner, OwnEntries, OwnRecords, CallsGoOn, OnlyOnce, RangesOfClaims, ClaimsGoOn, RangesGoOn, AreApart, NoEarlyClaims, TilesCursor, TilesTotal, FinishingLast, OnceInPlace, StagesInOrder};
+ghost use Rattle.slot_history.specs.Laws.{Always, AfterAll, QuietSlots, InsideSlots, OneDebt, ShutInside, CoordinatorOwesNothing, CoordinatorLeaves, OneOwner, OwnEntries, OwnRecords, CallsGoOn, OnlyOnce, RangesOfClaims, ClaimsGoOn, RangesGoOn, AreApart, NoEarlyClaims, TilesCursor, TilesTotal, FinishingLast, OnceInPlace, StagesInOrder, QueryKeepsSlot};
 ghost use Rattle.slot_history.specs.Lives.{IsBookOf, CountsOf};
 ghost use Rattle.slot_history.specs.Table.{IsTable};
 ghost use Rattle.slot_history.specs.Bounds.{IsWithin, AreCursors, IsCursorLimit, AreDebtsWithin, AreSlotsSound, IsFinishedBound};
@@ -213,13 +213,19 @@ pub fn once_in_place()
 /// Where a task set other than the first of its query is installed, the one before it was finalised once, in the slot of
 /// this install, and this slot was not reserved, released or given to another task set since.
 ///
-/// So a query keeps its slot from its first install to its last; and, with `only_once`, once the slot serves another query
-/// no task set of the former is installed again.
-///
 /// Ruled out: a finisher that installs a stage past the next, one that installs the next stage in another slot, and one
 /// that goes on with its query after it released the slot.
 pub fn stages_in_order()
     ensures { StagesInOrder }
+{}
+
+/// A slot that serves a task set served one of the same query at each moment since a task set of this query was installed.
+/// So once a slot serves another query, no task set of the former is installed there again; nor elsewhere, since by
+/// `stages_in_order` each task set of a query is installed in the slot of the one before.
+///
+/// Ruled out: a slot that serves another query between two stages of one.
+pub fn query_keeps_slot()
+    ensures { AfterAll QueryKeepsSlot }
 {}
 
 /// The cursor of a slot is at most one claim for each worker, and one more, past its total.

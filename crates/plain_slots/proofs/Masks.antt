@@ -4,7 +4,6 @@ use Rattle.std.specs.Int.{bit_at, w64}
 use Rattle.std.proofs.lemmas.Nat.Bits.{bit_at_set_same, bit_at_set_other, bit_at-zero, bit_at_above}
 use lib.Bits.{or_lt}
 use borrow.Author.Tests.{ltb-true, ltb-false}
-use mathlib.Core.Bool.{true≢false}
 use native.Mathlib.Decide.{ℕ_discrete}
 use Rattle.slot_history.specs.declared.shape.Shape.{Shape}
 use Rattle.slot_history.specs.declared.shape.TheConstants.{PARTS}
@@ -55,9 +54,9 @@ word-cases words k q w part x P within in_q in_p same other (yes e) =
 word-cases words k q w part x P within in_q in_p same other (no ne) =
     subst P (sym (get_or-set_other words (k * PARTS + q) (w * PARTS + part) x 0 ne)) (other (λ a b. ne (omega arith)))
 
-pub masks-come : (d : Shape) (pending : ℕ → ℕ → Bool) (words : List ℕ) (k s : ℕ) → HasMasks d pending words → k < d.workers → s < d.slots → s / 64 < PARTS
+pub masks-come : (d : Shape) (pending : ℕ → ℕ → Bool) (words : List ℕ) (k s : ℕ) → HasMasks d pending words → k < d.workers → s / 64 < PARTS
     → HasMasks d (upd pending k (upd (pending k) s true)) (set words (k * PARTS + s / 64) (bit_or (get_or words (k * PARTS + s / 64) 0) (1 * 2 ^ (s % 64) % 2 ^ 64)))
-masks-come d pending words k s has low in_s in_q =
+masks-come d pending words k s has low in_q =
     let n = get_or words (k * PARTS + s / 64) 0 in
     let x = bit_or n (1 * 2 ^ (s % 64) % 2 ^ 64) in
     let at : k * PARTS + s / 64 < length words = let c = has.count in omega arith in record {
@@ -68,8 +67,6 @@ masks-come d pending words k s has low in_s in_q =
           (λ ne. mask-stays (pending k) part (get_or words (w * PARTS + part) 0) s (ne e) (subst (λ v. IsMask part (pending v) (get_or words (w * PARTS + part) 0)) e (has.masks w part in_w in_p)))
           (ℕ_discrete (w * PARTS + part) (k * PARTS + s / 64)))
           (λ ne. subst (λ y. IsMask part (pending w) y) (sym (get_or-set_other words (k * PARTS + s / 64) (w * PARTS + part) x 0 (λ e. ne (omega arith)))) (has.masks w part in_w in_p));
-      slots = λ w t. upd-cases pending k (upd (pending k) s true) w (λ g. g t ≡ true → t < d.slots)
-          (λ e. upd-cases (pending k) s true t (λ b. b ≡ true → t < d.slots) (λ a h. subst (λ j. j < d.slots) (sym a) in_s) (λ ne h. has.slots k t h)) (λ ne h. has.slots w t h);
     }
 
 -- ---- notices that are taken
@@ -92,10 +89,6 @@ mask-left f part q n ne was = record {
   each = λ j low. was.each j low ∙ ap (λ b. cond (cond b false (f (q * 64 + j))) 1 0) (sym (not-in-part part q j low ne));
 }
 
-taken-slots : (f : ℕ → Bool) (part t : ℕ) (b : Bool) → cond b false (f t) ≡ true → f t ≡ true
-taken-slots f part t true h = absurd (true≢false (sym h))
-taken-slots f part t false h = h
-
 pub masks-taken : (d : Shape) (pending : ℕ → ℕ → Bool) (words : List ℕ) (k part : ℕ) → HasMasks d pending words → k < d.workers → part < PARTS → HasMasks d (upd pending k (taken part (pending k))) (set words (k * PARTS + part) 0)
 masks-taken d pending words k part has low in_ =
     let at : k * PARTS + part < length words = let c = has.count in omega arith in record {
@@ -106,7 +99,6 @@ masks-taken d pending words k part has low in_ =
           (λ ne. mask-left (pending k) part q (get_or words (w * PARTS + q) 0) (ne e) (subst (λ v. IsMask q (pending v) (get_or words (w * PARTS + q) 0)) e (has.masks w q in_w in_q)))
           (ℕ_discrete (w * PARTS + q) (k * PARTS + part)))
           (λ ne. subst (λ y. IsMask q (pending w) y) (sym (get_or-set_other words (k * PARTS + part) (w * PARTS + q) 0 0 (λ e. ne (omega arith)))) (has.masks w q in_w in_q));
-      slots = λ w t. upd-cases pending k (taken part (pending k)) w (λ g. g t ≡ true → t < d.slots) (λ e h. has.slots k t (taken-slots (pending k) part t (is_in_part part t) h)) (λ ne h. has.slots w t h);
     }
 
 one-bit : (b : Bool) → ◌≡◌ {A = ℕ} (cond b 1 0) 1 → b ≡ true
@@ -118,5 +110,5 @@ named part f bits k mask is true t = one-bit (f (part * 64 + k)) (sym (mask.each
 named part f bits k mask is false t = absurd (let z = bit_at_above bits 64 k mask.small (ltb-false k 64 t) in omega arith)
 
 -- what a worker takes names slots that there are
-pub names-slots : (d : Shape) (pending : ℕ → ℕ → Bool) (words : List ℕ) (w part bits : ℕ) → HasMasks d pending words → IsMask part (pending w) bits → NamesSlots d.slots part bits
-names-slots d pending words w part bits has mask k is = has.slots w (part * 64 + k) (named part (pending w) bits k mask is (ltb k 64) refl)
+pub names-slots : (slots : ℕ) (pending : ℕ → Bool) (part bits : ℕ) → ((s : ℕ) → pending s ≡ true → s < slots) → IsMask part pending bits → NamesSlots slots part bits
+names-slots slots pending part bits names mask k is = names (part * 64 + k) (named part pending bits k mask is (ltb k 64) refl)

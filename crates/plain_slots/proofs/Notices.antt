@@ -91,7 +91,7 @@ announce-with o ok w low p s k true at is returns changes then_ else_ places log
     follow o ok w low Tell Tell refl (s, true, k, there) places log wrote o.slots.items o.owing.items returns changes o.admitted o.finished (
       slots-kept o.shape o.slots.items S.slots j (S.slots j) ok.slots_are refl,
       debts-kept o.shape o.owing.items S.slots j (S.slots j) ok.debts_are (λ v h. refl),
-      subst (λ q. HasMasks o.shape (told true q S.returns) returns) (sym there) (subst (HasMasks o.shape (upd S.returns k (upd (S.returns k) s true))) (sym e.1) (masks-come o.shape S.returns o.returns.items k s ok.returns_are r.1 r.0 part)),
+      subst (λ q. HasMasks o.shape (told true q S.returns) returns) (sym there) (subst (HasMasks o.shape (upd S.returns k (upd (S.returns k) s true))) (sym e.1) (masks-come o.shape S.returns o.returns.items k s ok.returns_are r.1 part)),
       subst (λ q. HasMasks o.shape (told false q S.changes) changes) (sym there) (subst (HasMasks o.shape S.changes) (sym e.0) ok.changes_are),
       ok.admitted_is,
       ok.finished_is,
@@ -106,7 +106,7 @@ announce-with o ok w low p s k false at is returns changes then_ else_ places lo
       slots-kept o.shape o.slots.items S.slots j (S.slots j) ok.slots_are refl,
       debts-kept o.shape o.owing.items S.slots j (S.slots j) ok.debts_are (λ v h. refl),
       subst (λ q. HasMasks o.shape (told true q S.returns) returns) (sym there) (subst (HasMasks o.shape S.returns) (sym e.0) ok.returns_are),
-      subst (λ q. HasMasks o.shape (told false q S.changes) changes) (sym there) (subst (HasMasks o.shape (upd S.changes k (upd (S.changes k) s true))) (sym e.1) (masks-come o.shape S.changes o.changes.items k s ok.changes_are r.1 r.0 part)),
+      subst (λ q. HasMasks o.shape (told false q S.changes) changes) (sym there) (subst (HasMasks o.shape (upd S.changes k (upd (S.changes k) s true))) (sym e.1) (masks-come o.shape S.changes o.changes.items k s ok.changes_are r.1 part)),
       ok.admitted_is,
       ok.finished_is,
     )

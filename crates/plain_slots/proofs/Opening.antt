@@ -1,9 +1,8 @@
 -- An object begins as a table makes it.
-use Rattle.std.proofs.Common.{◌≡◌, ℕ, ◌+◌, ◌*◌, ◌<◌, Bool, false, List, [], length, replicate, slice_get, Some, refl, sym, ap, ◌∙◌, arith}
+use Rattle.std.proofs.Common.{◌≡◌, ℕ, ◌+◌, ◌*◌, ◌<◌, Bool, false, List, [], length, replicate, slice_get, Some, refl, ap, ◌∙◌, arith}
 use Rattle.std.proofs.lemmas.Nat.Bits.{bit_at-zero}
 use Rattle.std.proofs.lemmas.List.{get_or-replicate, length-replicate}
 use Rattle.std.proofs.lemmas.Option.{slice_get-get_or}
-use mathlib.Core.Bool.{true≢false}
 use Rattle.slot_history.specs.declared.shape.Shape.{Shape}
 use Rattle.slot_history.specs.declared.shape.TheConstants.{PARTS}
 use Rattle.slot_history.specs.declared.place.Place.{Place}
@@ -22,7 +21,6 @@ no-masks : (d : Shape) → HasMasks d (λ w s. false) (replicate {A = ℕ} (d.wo
 no-masks d = record {
   count = length-replicate {A = ℕ} (d.workers * PARTS) 0;
   masks = λ w part in_w in_p. rw (get_or-replicate {A = ℕ} (d.workers * PARTS) (w * PARTS + part) 0 0 (word-within d.workers w part in_w in_p)) (record { small = omega arith; each = λ k low. bit_at-zero k });
-  slots = λ w s h. absurd (true≢false (sym h));
 }
 
 pub opens : (d : Shape) (slots : List Slot) (owing : List Bool) (places : List Place) (returns changes : List ℕ) (log : List Logged) → IsShape d

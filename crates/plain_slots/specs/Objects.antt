@@ -1,5 +1,5 @@
 -- The object on one thread without its cells: what contracts see of it, and what is kept of it at run time.
-use Rattle.std.specs.Prelude.{◌≡◌, ℕ, ◌+◌, ◌*◌, ◌<◌, ◌≤◌, Bool, true, List, ◌∷◌, Some, length, get_or, slice_get}
+use Rattle.std.specs.Prelude.{◌≡◌, ℕ, ◌+◌, ◌*◌, ◌<◌, ◌≤◌, Bool, List, ◌∷◌, Some, length, get_or, slice_get}
 use Rattle.slot_history.specs.declared.shape.Shape.{Shape}
 use Rattle.slot_history.specs.declared.shape.TheConstants.{PARTS, MOST_SLOTS, MOST_WORKERS, MOST_QUERIES}
 use Rattle.slot_history.specs.declared.act.Act.{Act}
@@ -35,11 +35,10 @@ pub record IsShape (d : Shape) : Type 0 where
   pub workers : (0 < d.workers) × (d.workers ≤ MOST_WORKERS)
   pub queries : d.queries ≤ MOST_QUERIES
 
--- the mask words of the workers have the notices that are pending, and those name slots of the object
+-- the mask words of the workers have the notices that are pending
 pub record HasMasks (d : Shape) (pending : ℕ → ℕ → Bool) (words : List ℕ) : Type 0 where
   pub count : length words ≡ d.workers * PARTS
   pub masks : (w part : ℕ) → w < d.workers → part < PARTS → IsMask part (pending w) (get_or words (w * PARTS + part) 0)
-  pub slots : (w s : ℕ) → pending w s ≡ true → s < d.slots
 
 -- the slots, in a list
 pub record HasSlots (d : Shape) (slots : List Slot) (f : ℕ → SlotState) : Type 0 where

@@ -1,4 +1,6 @@
 use Rattle.std.proofs.Common.{◌<◌}
+use Rattle.slot_history.proofs.Within.{within}
+use Rattle.plain_slots.specs.Log.{calls_of}
 use Rattle.plain_slots.specs.Objects.{Story}
 use Rattle.plain_slots.specs.Replies.{NamesSlots}
 use Rattle.plain_slots.proofs.Masks.{names-slots}
@@ -22,4 +24,4 @@ returns-clause-slots c =
     let o = c.self.inside in
     let ok = c.self.invariant in
     let mask = word-read o ok c.args.worker (of-story c.self.inside _ c.self.view_is (λ (x : Story). c.args.worker < x.shape.workers) c.requires.worker) (now_of o).returns o.returns.items c.args.part c.mask_index.result c.replace-bits.result ok.returns_are c.requires.part c.mask_index.ensures (rw c.replace-bits.ensures.value c.index_mut.ensures.value) in
-    of-shape o _ c.self.view_is (λ d. NamesSlots d.slots c.args.part c.replace-bits.result) (names-slots o.shape (now_of o).returns o.returns.items c.args.worker c.args.part c.replace-bits.result ok.returns_are mask)
+    of-shape o _ c.self.view_is (λ d. NamesSlots d.slots c.args.part c.replace-bits.result) (names-slots o.shape.slots ((now_of o).returns c.args.worker) c.args.part c.replace-bits.result ((within o.shape (calls_of o.log) ok.legal).returns c.args.worker) mask)

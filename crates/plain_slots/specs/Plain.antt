@@ -69,8 +69,8 @@ module _ {B : Type 0} (fits : ℕ → List (ℕ × ℕ) → B → Type 0) (range
   CellAt (Shut t e) true own note x = NoteSays (FitsClaims t.id) (λ b. ⊥) own x
   CellAt (Finishing id w h) inside own note x = NoteSays (FitsClaims id) (FitsNext fits h) (note w) x
 
--- the table is as large as the subject asks, the history is of the subject, the task sets in the slots are, and each cell is
--- as the notes say
+-- the number of queries is the subject's, the history is of the subject, the task sets in the slots are, and each cell is as
+-- the notes say
 pub record IsPlain {B Sub : Type 0} (queries : Sub → ℕ) (total : Sub → ℕ → Option ℕ) (fits : Sub → ℕ → ℕ → List (ℕ × ℕ) → B → Type 0) (d : Shape) (subject : Sub) (log : List Logged) (cells : List (Option B)) : Type 0 where
   pub queries_are : d.queries ≡ queries subject
   pub of_subject : AllOfTotals (total subject) d (calls_of log)

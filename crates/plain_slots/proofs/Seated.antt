@@ -51,9 +51,12 @@ use Rattle.plain_slots.specs.declared.reply.Reserve.TheVariants as reserve
 use Rattle.plain_slots.specs.declared.reply.Admit.{Admit}
 use Rattle.plain_slots.specs.declared.reply.Admit.TheVariants as admit
 use Rattle.plain_slots.specs.declared.log.Logged.{Logged}
+use Rattle.plain_slots.specs.declared.station.Fits.{Ghosts}
+use Rattle.plain_slots.specs.declared.seat.PlainSeat.{PlainSeat}
+use Rattle.plain_slots.specs.declared.table.PlainTable.TheInside.{Inside}
 use Rattle.plain_slots.specs.Cells.{has_cell, noted}
 use Rattle.plain_slots.specs.Replies.{look_act, leave_act, claim_act, shut_act, mark_act, sweep_act, pay_act, reserve_act, admit_act, admitted_holder, marked_more, SeesTaskSet, OwesTaskSet, IsCutRange, LiesPast}
-use Rattle.plain_slots.specs.Desks.{Desk, place_at, held_by, Makes}
+use Rattle.plain_slots.specs.Desks.{Desk, place_at, held_by, ranges_at, Makes}
 use Rattle.plain_slots.specs.Log.{calls_of, note_in, call, who}
 use Rattle.plain_slots.specs.Plain.{Plain, IsPlain, InstallsOf, AllOfTotals, HoldsTaskSet}
 use Rattle.plain_slots.specs.Objects.{Story, MakesCall, place_in, state_in}
@@ -80,7 +83,8 @@ pub called : (d : Shape) (w : ℕ) (a : Act) (h : List Entry) → IsLegal d (ent
 called d w a h legal = (h, trail-call w a h, begins w h, sym (own-trail w h), subst (IsLegal d) (sym (trail-call w a h)) legal)
 
 -- what a call makes of the worker's trail and notes
-pub made : {Sub : Type 0} (total : Sub → ℕ → Option ℕ) (D : Desk Sub) (a : Act) (log : List Logged) → IsLegal D.shape (calls_of (call D.worker a ∷ log)) → IsOfTotals (total D.subject) D.shape (calls_of (call D.worker a ∷ log))
+pub made : {Sub : Type 0} (total : Sub → ℕ → Option ℕ) (D : Desk Sub) (a : Act) (log : List Logged)
+    → IsLegal D.shape (calls_of (call D.worker a ∷ log)) → IsOfTotals (total D.subject) D.shape (calls_of (call D.worker a ∷ log))
     → Makes total D a (trail_in D.worker (calls_of log)) (trail_in D.worker (calls_of (call D.worker a ∷ log))) (note_in log D.worker) (note_in (call D.worker a ∷ log) D.worker)
 made total D a log legal of_totals = record {
   called = called D.shape D.worker a (calls_of log) legal;
@@ -98,7 +102,8 @@ since-step {Sub = Sub} start was now w x mine is old = record {
 
 -- ---- of the subject
 
-of-totals-step : (totals : ℕ → Option ℕ) (a : Act) (held rest : Option ℕ) (id total : ℕ) → InstallsOf totals a held → (rest ≡ Some total → totals id ≡ Some total) → cond (is_install a id) held rest ≡ Some total → totals id ≡ Some total
+of-totals-step : (totals : ℕ → Option ℕ) (a : Act) (held rest : Option ℕ) (id total : ℕ) → InstallsOf totals a held
+    → (rest ≡ Some total → totals id ≡ Some total) → cond (is_install a id) held rest ≡ Some total → totals id ≡ Some total
 of-totals-step totals (Install jd) held rest id total inst ih h = pick jd id held rest (λ o. o ≡ Some total → totals id ≡ Some total) (λ e k. ap totals (sym e) ∙ inst.1 ∙ k) (λ ne k. ih k) h
 of-totals-step totals _ held rest id total inst ih h = ih h
 
@@ -107,117 +112,220 @@ pub of-totals : (totals : ℕ → Option ℕ) (d : Shape) (h : List Entry) → A
 of-totals totals d [] all id total h = absurd (cc h)
 of-totals totals d (e ∷ es) all id total h = of-totals-step totals e.act (held_at (place_of d es e.worker)).total (total_of d id es) id total all.0 (of-totals totals d es all.1 id total) h
 
--- ---- what a call makes of the table and of the seat
+-- ---- a seat, and what is in its table
 
-module _ {B Sub : Type 0} (queries : Sub → ℕ) (total : Sub → ℕ → Option ℕ) (fits : Sub → ℕ → ℕ → List (ℕ × ℕ) → B → Type 0) where
-  -- the table after a call that its worker's notes allow
-  pub table-after : (o new : Story) (subject : Sub) (cells : List (Option B)) (w : ℕ) (a : Act) → MakesCall o w a new → NotesAllow (total subject) o.shape w (place_of o.shape (trail_in w (calls_of o.log)) w) (note_in o.log w) a
-      → IsPlain queries total fits o.shape subject o.log cells → IsPlain queries total fits new.shape subject new.log cells
-  table-after o new subject cells w a m allow ok =
-      let P : Story → Type 0 = λ x. IsPlain queries total fits x.shape subject x.log cells in
-      let legal : IsLegal o.shape (calls_of (call w a ∷ o.log)) = subst (λ (x : Story). IsLegal x.shape (calls_of x.log)) m.story m.legal in
-      subst P (sym m.story) (plain-call queries total fits o.shape subject o.log cells w a legal allow ok)
+-- a seat before a call: its table shows what the table holds, which is as a table's invariant says
+pub record Seat {B Sub : Type 0} (b : Ghosts B Sub) : Type 0 where
+  pub seat : PlainSeat B Sub b
+  pub inside : Inside B Sub
+  pub view : record { shape = inside.object.shape; subject = inside.subject.value; log = inside.object.log } ≡ seat.table.now
+  pub plain : IsPlain b.queries b.total b.fits inside.object.shape inside.subject.value inside.object.log inside.cells.items
 
--- what is in a table of this object and subject is this, of a seat that was made when it was `start`
-module _ {Sub : Type 0} (o : Story) (subject : Sub) (start now : Plain Sub) (view : record { shape = o.shape; subject = subject; log = o.log } ≡ now) (shape : now.shape ≡ start.shape) (same : now.subject ≡ start.subject) (w : ℕ) where
-  pub object-shape : o.shape ≡ start.shape
-  object-shape = ap (λ (t : Plain Sub). t.shape) view ∙ shape
+abbrev pub seat : {B Sub : Type 0} {b : Ghosts B Sub} (s : PlainSeat B Sub b) (t : Inside B Sub)
+    → record { shape = t.object.shape; subject = t.subject.value; log = t.object.log } ≡ s.table.now
+    → IsPlain b.queries b.total b.fits t.object.shape t.subject.value t.object.log t.cells.items → Seat b
+seat s t view plain = record { seat = s; inside = t; view = view; plain = plain }
 
-  pub table-subject : subject ≡ start.subject
-  table-subject = ap (λ (t : Plain Sub). t.subject) view ∙ same
+module _ {B Sub : Type 0} {b : Ghosts B Sub} (x : Seat b) where
+  abbrev object : Story
+  object = x.inside.object
+
+  abbrev subject : Sub
+  subject = x.inside.subject.value
+
+  abbrev start : Plain Sub
+  start = x.seat.start.value
+
+  abbrev now : Plain Sub
+  now = x.seat.table.now
+
+  abbrev worker : ℕ
+  worker = x.seat.worker
+
+  -- the desk, trail and place that its contracts speak of
+  abbrev desk : Desk Sub
+  desk = desk_over start worker
+
+  abbrev trail : List Entry
+  trail = trail_in worker (calls_of now.log)
+
+  abbrev place : Place
+  place = place_at desk trail
+
+  pub object-shape : object.shape ≡ start.shape
+  object-shape = ap (λ (t : Plain Sub). t.shape) x.view ∙ x.seat.shape
+
+  table-subject : subject ≡ start.subject
+  table-subject = ap (λ (t : Plain Sub). t.subject) x.view ∙ x.seat.subject
 
   -- a fact of the place that the trail gives, of the object's
-  pub place-for : (P : Place → Type 0) → P (place_at (desk_over start w) (trail_in w (calls_of now.log))) → P (place_in o w)
+  pub place-for : (P : Place → Type 0) → P place → P (place_in object worker)
   place-for P h =
-      let at : P (place_of start.shape (calls_of now.log) w) = subst P (place-trail start.shape w (calls_of now.log)) h in
-      let here : P (place_of now.shape (calls_of now.log) w) = subst (λ d. P (place_of d (calls_of now.log) w)) (sym shape) at in
-      subst (λ (t : Plain Sub). P (place_of t.shape (calls_of t.log) w)) (sym view) here
+      let at : P (place_of start.shape (calls_of now.log) worker) = subst P (place-trail start.shape worker (calls_of now.log)) h in
+      let here : P (place_of now.shape (calls_of now.log) worker) = subst (λ d. P (place_of d (calls_of now.log) worker)) (sym x.seat.shape) at in
+      subst (λ (t : Plain Sub). P (place_of t.shape (calls_of t.log) worker)) (sym x.view) here
 
   -- where the worker is, by the object and by its trail
-  pub place-of : place_in o w ≡ place_at (desk_over start w) (trail_in w (calls_of now.log))
-  place-of = sym (place-for (λ p. place_at (desk_over start w) (trail_in w (calls_of now.log)) ≡ p) refl)
+  pub place-of : place_in object worker ≡ place
+  place-of = sym (place-for (λ p. place ≡ p) refl)
 
-  pub own-below : w < now.shape.workers → w < o.shape.workers
-  own-below low = subst (λ (t : Plain Sub). w < t.shape.workers) (sym view) low
+  pub own-below : worker < object.shape.workers
+  own-below = subst (λ (t : Plain Sub). worker < t.shape.workers) (sym x.view) x.seat.below
 
   -- a fact of the seat's desk, of the object
-  pub shape-for : (P : Shape → Type 0) → P start.shape → P o.shape
+  pub shape-for : (P : Shape → Type 0) → P start.shape → P object.shape
   shape-for P h = subst P (sym object-shape) h
 
   -- of notes
-  pub notes-for : (P : (ℕ → Note) → Type 0) → P (note_in now.log w) → P (note_in o.log w)
-  notes-for P h = subst (λ (t : Plain Sub). P (note_in t.log w)) (sym view) h
+  notes-for : (P : (ℕ → Note) → Type 0) → P (note_in now.log worker) → P (note_in object.log worker)
+  notes-for P h = subst (λ (t : Plain Sub). P (note_in t.log worker)) (sym x.view) h
 
   -- a token, by the place before the call
-  pub token-old : (X : Shape → Place → Type 0) → X start.shape (place_at (desk_over start w) (trail_in w (calls_of now.log))) → X o.shape (place_in o w)
-  token-old X h = place-for (λ p. X o.shape p) (subst (λ d. X d (place_at (desk_over start w) (trail_in w (calls_of now.log)))) (sym object-shape) h)
+  pub token-old : (X : Shape → Place → Type 0) → X start.shape place → X object.shape (place_in object worker)
+  token-old X h = place-for (λ p. X object.shape p) (subst (λ d. X d place) (sym object-shape) h)
 
   -- a fact of desk and log, of the seat and of the object
-  desk-same : desk_over now w ≡ desk_over start w
-  desk-same = ap₂ (λ (d : Shape) (u : Sub). let D : Desk Sub = record { worker = w; shape = d; subject = u } in D) shape same
+  desk-same : desk_over now worker ≡ desk
+  desk-same = ap₂ (λ (d : Shape) (u : Sub). let D : Desk Sub = record { worker = worker; shape = d; subject = u } in D) x.seat.shape x.seat.subject
 
-  pub to-object : (P : Desk Sub → List Logged → Type 0) → P (desk_over start w) now.log → P (record { worker = w; shape = o.shape; subject = subject }) o.log
-  to-object P h = subst (λ (t : Plain Sub). P (desk_over t w) t.log) (sym view) (subst (λ D. P D now.log) (sym desk-same) h)
+  pub to-object : (P : Desk Sub → List Logged → Type 0) → P desk now.log → P (record { worker = worker; shape = object.shape; subject = subject }) object.log
+  to-object P h = subst (λ (t : Plain Sub). P (desk_over t worker) t.log) (sym x.view) (subst (λ D. P D now.log) (sym desk-same) h)
 
-  pub to-seat : (P : Desk Sub → List Logged → Type 0) → P (record { worker = w; shape = o.shape; subject = subject }) o.log → P (desk_over start w) now.log
-  to-seat P h = subst (λ D. P D now.log) desk-same (subst (λ (t : Plain Sub). P (desk_over t w) t.log) view h)
+  pub to-seat : (P : Desk Sub → List Logged → Type 0) → P (record { worker = worker; shape = object.shape; subject = subject }) object.log → P desk now.log
+  to-seat P h = subst (λ D. P D now.log) desk-same (subst (λ (t : Plain Sub). P (desk_over t worker) t.log) x.view h)
 
-  -- the seat's fields after an exchange
-  pub exchanged-since : (x : Logged) → who x ≡ w → ∥ IsSince start now w ∥₁ → ∥ IsSince start (record { shape = o.shape; subject = subject; log = x ∷ o.log }) w ∥₁
-  exchanged-since x mine old =
-      ∥∥₁_map old (since-step start now (record { shape = o.shape; subject = subject; log = x ∷ o.log }) w x mine (ap (λ (t : Plain Sub). record t { log = x ∷ t.log }) view))
+  -- ---- what the notes and the subject allow
 
-  -- what the notes and the subject allow
-  own-trail-place : place_of o.shape (trail_in w (calls_of o.log)) w ≡ place_at (desk_over start w) (trail_in w (calls_of now.log))
-  own-trail-place = place-trail o.shape w (calls_of o.log) ∙ place-of
+  abbrev pub Allows : Act → Type 0
+  Allows a = NotesAllow (b.total subject) object.shape worker (place_of object.shape (trail_in worker (calls_of object.log)) worker) (note_in object.log worker) a
 
-  pub leave-kept : (has_cell (place_at (desk_over start w) (trail_in w (calls_of now.log))) ≡ true → note_in now.log w w ≡ Kept) → has_cell (place_of o.shape (trail_in w (calls_of o.log)) w) ≡ true → note_in o.log w w ≡ Kept
-  leave-kept h k = notes-for (λ n. n w ≡ Kept) (h (subst (λ p. has_cell p ≡ true) own-trail-place k))
+  own-trail-place : place_of object.shape (trail_in worker (calls_of object.log)) worker ≡ place
+  own-trail-place = place-trail object.shape worker (calls_of object.log) ∙ place-of
 
-  all-cells : (n : Note) → ((v : ℕ) → v < start.shape.workers → note_in now.log w v ≡ n) → (v : ℕ) → v < o.shape.workers → note_in o.log w v ≡ n
+  all-cells : (n : Note) → ((v : ℕ) → v < start.shape.workers → note_in now.log worker v ≡ n) → (v : ℕ) → v < object.shape.workers → note_in object.log worker v ≡ n
   all-cells n cells v low = notes-for (λ f. f v ≡ n) (cells v (subst (λ (d : Shape). v < d.workers) object-shape low))
 
-  pub install-allows : (total : Sub → ℕ → Option ℕ) (id : ℕ) → IsReady (held_by (desk_over start w) (trail_in w (calls_of now.log))) → (held_by (desk_over start w) (trail_in w (calls_of now.log))).total ≡ total start.subject id
-      → ((v : ℕ) → v < start.shape.workers → note_in now.log w v ≡ Fresh) → NotesAllow (total subject) o.shape w (place_of o.shape (trail_in w (calls_of o.log)) w) (note_in o.log w) (Install id)
-  install-allows total id ready set cells =
-      (all-cells Fresh cells, subst (λ p. IsSome (held_at p).total × (total subject id ≡ (held_at p).total)) (sym own-trail-place) (ready.has_total, ap (λ u. total u id) table-subject ∙ sym set))
+  -- who leaves has kept its own cell, as a leave asks
+  leave-kept : (has_cell place ≡ true → note_in now.log worker worker ≡ Kept) → has_cell (place_of object.shape (trail_in worker (calls_of object.log)) worker) ≡ true
+      → note_in object.log worker worker ≡ Kept
+  leave-kept h k = notes-for (λ n. n worker ≡ Kept) (h (subst (λ p. has_cell p ≡ true) own-trail-place k))
 
-  pub release-allows : (total : Sub → ℕ → Option ℕ) → ((v : ℕ) → v < start.shape.workers → note_in now.log w v ≡ note.Empty) → NotesAllow (total subject) o.shape w (place_of o.shape (trail_in w (calls_of o.log)) w) (note_in o.log w) Release
-  release-allows total cells = all-cells note.Empty cells
+  pub leave-allows : (l : Leave) → (has_cell place ≡ true → note_in now.log worker worker ≡ Kept) → Allows (leave_act l)
+  leave-allows leave.Left h = leave-kept h
+  leave-allows (leave.Owe y) h = leave-kept h
 
-  module _ (a : Act) (new : Story) (m : MakesCall o w a new) where
+  pub install-allows : (id : ℕ) → IsReady (held_by desk trail) → (held_by desk trail).total ≡ b.total start.subject id
+      → ((v : ℕ) → v < start.shape.workers → note_in now.log worker v ≡ Fresh) → Allows (Install id)
+  install-allows id ready set cells =
+      let totals = ap (λ u. b.total u id) table-subject ∙ sym set in
+      (all-cells Fresh cells, subst (λ p. IsSome (held_at p).total × (b.total subject id ≡ (held_at p).total)) (sym own-trail-place) (ready.has_total, totals))
+
+  pub release-allows : ((v : ℕ) → v < start.shape.workers → note_in now.log worker v ≡ note.Empty) → Allows Release
+  release-allows cells = all-cells note.Empty cells
+
+  pub look-allows : (l : Look) → Allows (look_act l)
+  look-allows (look.Open id) = tt
+  look-allows look.Invalid = tt
+  look-allows look.Vacant = tt
+
+  pub claim-allows : (n : ℕ) (c : Claim) → Allows (claim_act n c)
+  claim-allows n (claim.Range from to) = tt
+  claim-allows n (claim.Exhausted y) = tt
+
+  pub shut-allows : (r : Shutting) → Allows (shut_act r)
+  shut-allows (shut.Won y) = tt
+  shut-allows shut.Lost = tt
+
+  pub mark-allows : (r : Mark) → Allows (mark_act r)
+  mark-allows mark.Marked = tt
+  mark-allows mark.Missed = tt
+
+  pub sweep-allows : (r : Sweep) → Allows (sweep_act r)
+  sweep-allows (sweep.Last y) = tt
+  sweep-allows (sweep.Others n) = tt
+
+  pub pay-allows : (r : Pay) → Allows (pay_act r)
+  pay-allows (pay.Last y) = tt
+  pay-allows pay.Done = tt
+
+  pub reserve-allows : (s : ℕ) (r : Reserve) → Allows (reserve_act s r)
+  reserve-allows s (reserve.Got y) = tt
+  reserve-allows s (reserve.Taken word) = tt
+
+  pub admit-allows : (q : ℕ) (r : Admit) → Allows (admit_act q r)
+  admit-allows q admit.Got = tt
+  admit-allows q (admit.Lost at) = tt
+
+  -- ---- what a step makes of the seat
+
+  -- the seat's fields, over a table that has become this
+  abbrev SeatOver : Plain Sub → Type 0
+  SeatOver t = record {
+    below : worker < t.shape.workers;
+    shape : t.shape ≡ start.shape;
+    subject : t.subject ≡ start.subject;
+    since : ∥ IsSince start t worker ∥₁;
+  }
+
+  -- after an exchange
+  pub exchanged : {e : Logged} {new : Story} → new ≡ record object { log = e ∷ object.log } → who e ≡ worker → SeatOver (record { shape = new.shape; subject = subject; log = new.log })
+  exchanged {e = e} {new = new} grows mine =
+      let P : Story → Type 0 = λ y. SeatOver (record { shape = y.shape; subject = subject; log = y.log }) in
+      let longer : Plain Sub = record { shape = object.shape; subject = subject; log = e ∷ object.log } in
+      let since = ∥∥₁_map x.seat.since (since-step start now longer worker e mine (ap (λ (t : Plain Sub). record t { log = e ∷ t.log }) x.view)) in
+      subst P (sym grows) (record { below = own-below; shape = object-shape; subject = table-subject; since = since })
+
+  module _ {a : Act} {new : Story} (m : MakesCall object worker a new) where
+    abbrev after : Plain Sub
+    after = record { shape = new.shape; subject = subject; log = new.log }
+
+    -- the table after a call that its worker's notes allow
+    pub table-after : Allows a → IsPlain b.queries b.total b.fits new.shape subject new.log x.inside.cells.items
+    table-after allow =
+        let P : Story → Type 0 = λ y. IsPlain b.queries b.total b.fits y.shape subject y.log x.inside.cells.items in
+        let legal : IsLegal object.shape (calls_of (call worker a ∷ object.log)) = subst (λ (y : Story). IsLegal y.shape (calls_of y.log)) m.story m.legal in
+        subst P (sym m.story) (plain-call b.queries b.total b.fits object.shape subject object.log x.inside.cells.items worker a legal allow x.plain)
+
     -- where the worker is after the call
-    pub new-place : place_in new w ≡ moved o.shape a (place_in o w)
-    new-place = ap (λ (x : Story). place_in x w) m.story ∙ upd-same (state_in o.shape o.log).places w (moved o.shape a (place_in o w))
+    pub new-place : place_in new worker ≡ moved object.shape a (place_in object worker)
+    new-place = ap (λ (y : Story). place_in y worker) m.story ∙ upd-same (state_in object.shape object.log).places worker (moved object.shape a (place_in object worker))
 
-    pub new-shape : new.shape ≡ start.shape
-    new-shape = ap (λ (x : Story). x.shape) m.story ∙ object-shape
+    new-shape : new.shape ≡ start.shape
+    new-shape = ap (λ (y : Story). y.shape) m.story ∙ object-shape
 
-    -- the seat's fields after the call
-    pub new-below : w < now.shape.workers → w < new.shape.workers
-    new-below low = subst (λ (d : Shape). w < d.workers) (shape ∙ sym new-shape) low
+    grows : new.log ≡ call worker a ∷ now.log
+    grows = ap (λ (y : Story). y.log) m.story ∙ ap (λ (t : Plain Sub). call worker a ∷ t.log) x.view
 
-    pub new-since : ∥ IsSince start now w ∥₁ → ∥ IsSince start (record { shape = new.shape; subject = subject; log = new.log }) w ∥₁
-    new-since old =
-        let is : record { shape = new.shape; subject = subject; log = new.log } ≡ record now { log = call w a ∷ now.log } =
-        ap (λ (x : Story). let t : Plain Sub = record { shape = x.shape; subject = subject; log = x.log } in t) m.story ∙ ap (λ (t : Plain Sub). record t { log = call w a ∷ t.log }) view in
-        ∥∥₁_map old (since-step start now (record { shape = new.shape; subject = subject; log = new.log }) w (call w a) refl is)
+    new-since : ∥ IsSince start after worker ∥₁
+    new-since =
+        let is : after ≡ record now { log = call worker a ∷ now.log } =
+        ap (λ (y : Story). let t : Plain Sub = record { shape = y.shape; subject = subject; log = y.log } in t) m.story
+        ∙ ap (λ (t : Plain Sub). record t { log = call worker a ∷ t.log }) x.view in
+        ∥∥₁_map x.seat.since (since-step start now after worker (call worker a) refl is)
+
+    pub seat-after : SeatOver after
+    seat-after =
+        let below = subst (λ (d : Shape). worker < d.workers) (x.seat.shape ∙ sym new-shape) x.seat.below in
+        record { below = below; shape = new-shape; subject = table-subject; since = new-since }
 
     -- a token, by the place after the call
-    pub token-for : (X : Shape → Place → Type 0) → X o.shape (place_in new w) → X start.shape (place_at (desk_over start w) (trail_in w (calls_of new.log)))
-    token-for X h = subst (X start.shape) (ap (λ d. place_of d (calls_of new.log) w) new-shape ∙ sym (place-trail start.shape w (calls_of new.log))) (subst (λ d. X d (place_in new w)) object-shape h)
+    pub token-for : (X : Shape → Place → Type 0) → X object.shape (place_in new worker) → X start.shape (place_at desk (trail_in worker (calls_of new.log)))
+    token-for X h =
+        let at = ap (λ d. place_of d (calls_of new.log) worker) new-shape ∙ sym (place-trail start.shape worker (calls_of new.log)) in
+        subst (X start.shape) at (subst (λ d. X d (place_in new worker)) object-shape h)
 
     -- what the call makes of trail and notes
-    pub seat-makes : {B : Type 0} (queries : Sub → ℕ) (total : Sub → ℕ → Option ℕ) (fits : Sub → ℕ → ℕ → List (ℕ × ℕ) → B → Type 0) (cells : List (Option B)) → IsPlain queries total fits new.shape subject new.log cells
-        → Makes total (desk_over start w) a (trail_in w (calls_of now.log)) (trail_in w (calls_of new.log)) (note_in now.log w) (note_in new.log w)
-    seat-makes queries total fits cells ok =
+    pub seat-makes : Allows a → Makes b.total desk a trail (trail_in worker (calls_of new.log)) (note_in now.log worker) (note_in new.log worker)
+    seat-makes allow =
         let d = start.shape in
-        let grows : new.log ≡ call w a ∷ now.log = ap (λ (x : Story). x.log) m.story ∙ ap (λ (t : Plain Sub). call w a ∷ t.log) view in
-        let legal : IsLegal d (calls_of (call w a ∷ now.log)) = subst (λ l. IsLegal d (calls_of l)) grows (subst (λ e. IsLegal e (calls_of new.log)) new-shape m.legal) in
-        let all : AllOfTotals (total start.subject) d (calls_of (call w a ∷ now.log)) =
-        subst (λ l. AllOfTotals (total start.subject) d (calls_of l)) grows (subst (λ e. AllOfTotals (total start.subject) e (calls_of new.log)) new-shape (subst (λ u. AllOfTotals (total u) new.shape (calls_of new.log)) table-subject ok.of_subject)) in
-        subst (λ l. Makes total (desk_over start w) a (trail_in w (calls_of now.log)) (trail_in w (calls_of l)) (note_in now.log w) (note_in l w)) (sym grows)
-        (made total (desk_over start w) a now.log legal (of-totals (total start.subject) d (calls_of (call w a ∷ now.log)) all))
+        let totals = b.total start.subject in
+        let legal : IsLegal d (calls_of (call worker a ∷ now.log)) = subst (λ l. IsLegal d (calls_of l)) grows (subst (λ e. IsLegal e (calls_of new.log)) new-shape m.legal) in
+        let all : AllOfTotals totals d (calls_of (call worker a ∷ now.log)) =
+        subst (λ l. AllOfTotals totals d (calls_of l)) grows
+        (subst (λ e. AllOfTotals totals e (calls_of new.log)) new-shape
+        (subst (λ u. AllOfTotals (b.total u) new.shape (calls_of new.log)) table-subject (table-after allow).of_subject)) in
+        subst (λ l. Makes b.total desk a trail (trail_in worker (calls_of l)) (note_in now.log worker) (note_in l worker)) (sym grows)
+        (made b.total desk a now.log legal (of-totals totals d (calls_of (call worker a ∷ now.log)) all))
 
 -- ---- what a caller needs of a reply's numbers
 
@@ -246,7 +354,7 @@ module _ (totals : ℕ → Option ℕ) (o : Story) (sets : (s : ℕ) → s < o.s
   owed-set (Open t) v has owed = absurd (true≢false (sym owed))
   owed-set (Finishing id u h) v has owed = absurd (true≢false (sym owed))
 
-  pub sees : (l : Look) (new : Story) → MakesCall o w (look_act l) new → SeesTaskSet totals l
+  sees : (l : Look) (new : Story) → MakesCall o w (look_act l) new → SeesTaskSet totals l
   sees (look.Open id) new m =
       let r = (found (LookOpen id) new m).1 in
       subst (λ i. IsSome (totals i)) (sym r.3) (open-set (S.slots r.0) (sets r.0 (in-slots (LookOpen id) new m (Entered r.0) r.1 (λ e. cc))) r.2)
@@ -256,7 +364,7 @@ module _ (totals : ℕ → Option ℕ) (o : Story) (sets : (s : ℕ) → s < o.s
   leaves : (p : Place) → can_leave p ≡ true → p ≢ Free
   leaves p can e = true≢false (sym can ∙ ap can_leave e)
 
-  pub owes-set : (l : Leave) (new : Story) → MakesCall o w (leave_act l) new → OwesTaskSet totals l
+  owes-set : (l : Leave) (new : Story) → MakesCall o w (leave_act l) new → OwesTaskSet totals l
   owes-set (leave.Owe x) new m =
       let r = (found (LeaveOwe x.id) new m).1 in
       let s = slot_of (S.places w) in
@@ -266,67 +374,58 @@ module _ (totals : ℕ → Option ℕ) (o : Story) (sets : (s : ℕ) → s < o.s
   work-set : (x : SlotState) → HoldsTaskSet totals x → (is_open x ≡ true) ⊎ (is_shut x ≡ true) → totals (id_of x) ≡ Some (task_of x).total
   work-set x has k = open-shut-cases x (λ y. HoldsTaskSet totals y → totals (id_of y) ≡ Some (task_of y).total) (λ t has. has) (λ t e has. has) k has
 
-  pub cuts : (n : ℕ) (c : Claim) (new : Story) → w < o.shape.workers → MakesCall o w (claim_act n c) new → IsCutRange (totals (id_at (S.places w))) n c
+  cuts : (n : ℕ) (c : Claim) (new : Story) → w < o.shape.workers → MakesCall o w (claim_act n c) new → IsCutRange (totals (id_at (S.places w))) n c
   cuts n (claim.Range from to) new low m =
       let (s, id, at, some_, most, begins, below, ends) = (found (ClaimRange n from to) new m).1 in
       let x = S.slots s in
-      let was = inside-slots o.shape S (table o.shape (calls_of o.log) (found (ClaimRange n from to) new m).2) s w id low (subst (λ q. has_own_cell q s ≡ true) (sym at) (eq-eqb s s refl)) (subst (λ q. is_inside q id ≡ true) (sym at) (eq-eqb id id refl)) in
+      let was = inside-slots o.shape S (table o.shape (calls_of o.log) (found (ClaimRange n from to) new m).2) s w id low
+      (subst (λ q. has_own_cell q s ≡ true) (sym at) (eq-eqb s s refl)) (subst (λ q. is_inside q id ≡ true) (sym at) (eq-eqb id id refl)) in
       let has : totals (id_of x) ≡ Some (task_of x).total = work-set x (sets s (in-slots (ClaimRange n from to) new m (At s id) at (λ e. cc))) was.0 in
       let same : id_at (S.places w) ≡ id_of x = ap id_at at ∙ sym was.1 in
       subst (λ t. IsSomeAnd t (λ u. (from < u) × (to ≡ min u (from + n)))) (sym (ap totals same ∙ has)) (below, ends)
   cuts n (claim.Exhausted x) new low m = tt
 
--- whoever shut the task set leaves without a debt
-pub leading-left : (d : Shape) (w : ℕ) (l : Leave) (old new : List Entry) → Called d w (leave_act l) old new → (s id : ℕ) → place_of d old w ≡ Leading s id → l ≡ leave.Left
+leading-left : (d : Shape) (w : ℕ) (l : Leave) (old new : List Entry) → Called d w (leave_act l) old new → (s id : ℕ) → place_of d old w ≡ Leading s id → l ≡ leave.Left
 leading-left d w leave.Left old new called s id at = refl
 leading-left d w (leave.Owe x) old new called s id at = absurd (coordinator-leaves d w s id x.id old new called at)
 
--- a range lies past the worker's earlier ones of its task set
-pub range-past : (d : Shape) (w n : ℕ) (c : Claim) (old new : List Entry) → Called d w (claim_act n c) old new → (s id : ℕ) × (place_of d old w ≡ At s id) → LiesPast (ranges_of d w (id_at (place_of d old w)) old) c
+range-past : (d : Shape) (w n : ℕ) (c : Claim) (old new : List Entry) → Called d w (claim_act n c) old new
+    → (s id : ℕ) × (place_of d old w ≡ At s id) → LiesPast (ranges_of d w (id_at (place_of d old w)) old) c
 range-past d w n (claim.Range from to) old new called (s, id, at) =
     subst (λ p. LiesPast (ranges_of d w (id_at p) old) (claim.Range from to)) (sym at) (ranges-go-on d w n from to s id old new called at)
 range-past d w n (claim.Exhausted x) old new called inside = tt
 
--- ---- what a call asks of notes
+-- ---- what a call of the seat gives
 
-module _ (totals : ℕ → Option ℕ) (d : Shape) (w : ℕ) (p : Place) (notes : ℕ → Note) where
-  pub look-allows : (l : Look) → NotesAllow totals d w p notes (look_act l)
-  look-allows (look.Open id) = tt
-  look-allows look.Invalid = tt
-  look-allows look.Vacant = tt
+module _ {B Sub : Type 0} {b : Ghosts B Sub} (x : Seat b) where
+  abbrev totals : ℕ → Option ℕ
+  totals = b.total (start x).subject
 
-  pub claim-allows : (n : ℕ) (c : Claim) → NotesAllow totals d w p notes (claim_act n c)
-  claim-allows n (claim.Range from to) = tt
-  claim-allows n (claim.Exhausted x) = tt
+  module _ {new : Story} where
+    pub seat-sees : (l : Look) → MakesCall (object x) (worker x) (look_act l) new → SeesTaskSet totals l
+    seat-sees l m = subst (λ u. SeesTaskSet (b.total u) l) (table-subject x) (sees (b.total (subject x)) (object x) x.plain.task_sets (worker x) l new m)
 
-  pub shut-allows : (r : Shutting) → NotesAllow totals d w p notes (shut_act r)
-  shut-allows (shut.Won x) = tt
-  shut-allows shut.Lost = tt
+    pub seat-owes : (l : Leave) → MakesCall (object x) (worker x) (leave_act l) new → OwesTaskSet totals l
+    seat-owes l m = subst (λ u. OwesTaskSet (b.total u) l) (table-subject x) (owes-set (b.total (subject x)) (object x) x.plain.task_sets (worker x) l new m)
 
-  pub mark-allows : (r : Mark) → NotesAllow totals d w p notes (mark_act r)
-  mark-allows mark.Marked = tt
-  mark-allows mark.Missed = tt
+    -- whoever shut the task set leaves without a debt
+    pub seat-leaves : (l : Leave) → MakesCall (object x) (worker x) (leave_act l) new → (has_cell (place x) ≡ true → note_in (now x).log (worker x) (worker x) ≡ Kept)
+        → (s id : ℕ) → place x ≡ Leading s id → l ≡ leave.Left
+    seat-leaves l m kept =
+        let made = seat-makes x m (leave-allows x l kept) in
+        leading-left (start x).shape (worker x) l (trail x) (trail_in (worker x) (calls_of new.log)) made.called
 
-  pub sweep-allows : (r : Sweep) → NotesAllow totals d w p notes (sweep_act r)
-  sweep-allows (sweep.Last x) = tt
-  sweep-allows (sweep.Others n) = tt
+    pub seat-cuts : (n : ℕ) (c : Claim) → MakesCall (object x) (worker x) (claim_act n c) new → IsCutRange (totals (id_at (place x))) n c
+    seat-cuts n c m =
+        let cut = cuts (b.total (subject x)) (object x) x.plain.task_sets (worker x) n c new (own-below x) m in
+        subst (λ p. IsCutRange (totals (id_at p)) n c) (place-of x)
+        (subst (λ u. IsCutRange (b.total u (id_at (place_in (object x) (worker x)))) n c) (table-subject x) cut)
 
-  pub pay-allows : (r : Pay) → NotesAllow totals d w p notes (pay_act r)
-  pay-allows (pay.Last x) = tt
-  pay-allows pay.Done = tt
-
-  pub reserve-allows : (s : ℕ) (r : Reserve) → NotesAllow totals d w p notes (reserve_act s r)
-  reserve-allows s (reserve.Got x) = tt
-  reserve-allows s (reserve.Taken word) = tt
-
-  pub admit-allows : (q : ℕ) (r : Admit) → NotesAllow totals d w p notes (admit_act q r)
-  admit-allows q admit.Got = tt
-  admit-allows q (admit.Lost now) = tt
-
--- who leaves has kept its own cell, as a leave asks
-pub leave-allows : (totals : ℕ → Option ℕ) (d : Shape) (w : ℕ) (p : Place) (notes : ℕ → Note) (l : Leave) → (has_cell p ≡ true → notes w ≡ Kept) → NotesAllow totals d w p notes (leave_act l)
-leave-allows totals d w p notes leave.Left h = h
-leave-allows totals d w p notes (leave.Owe x) h = h
+    -- a range lies past the worker's earlier ones of its task set
+    pub seat-past : (n : ℕ) (c : Claim) → MakesCall (object x) (worker x) (claim_act n c) new → (s id : ℕ) × (place x ≡ At s id) → LiesPast (ranges_at (desk x) (trail x)) c
+    seat-past n c m at =
+        let made = seat-makes x m (claim-allows x n c) in
+        range-past (start x).shape (worker x) n c (trail x) (trail_in (worker x) (calls_of new.log)) made.called at
 
 -- ---- the cells of a new table
 
@@ -339,7 +438,7 @@ none-of l all i x is = sym (get_or_from_slice_get l i x x is) ∙ all i x (slice
 -- a holder after it admitted a query, noted or set a total; where the admission is lost it is the same
 pub admit-holds : (d : Shape) (w : ℕ) (p r : Place) (h : Holder) (q : ℕ) (a : Admit) → IsHolder d w p h → r ≡ moved d (admit_act q a) p → IsHolder d w r (admitted_holder q a h)
 admit-holds d w p r h q admit.Got ok goes = record { worker = ok.worker; noted = ok.noted; total = ok.total; place = goes ∙ ap (moved d (AdmitGot q)) ok.place }
-admit-holds d w p r h q (admit.Lost now) ok goes = record { worker = ok.worker; noted = ok.noted; total = ok.total; place = goes ∙ ok.place }
+admit-holds d w p r h q (admit.Lost other) ok goes = record { worker = ok.worker; noted = ok.noted; total = ok.total; place = goes ∙ ok.place }
 
 pub note-holds : (d : Shape) (w : ℕ) (p r : Place) (h : Holder) (k : ℕ) → IsHolder d w p h → r ≡ moved d (NoteDone k) p → IsHolder d w r h
 note-holds d w p r h k ok goes = record { worker = ok.worker; noted = k; total = ok.total; place = goes ∙ ap (moved d (NoteDone k)) ok.place }
@@ -348,7 +447,8 @@ pub total-holds : (d : Shape) (w : ℕ) (p r : Place) (h : Holder) (t : ℕ) →
 total-holds d w p r h t ok goes = record { worker = ok.worker; noted = ok.noted; total = Some t; place = goes ∙ ap (moved d (Total t)) ok.place }
 
 -- a coordinator that asked one more
-pub mark-holds : (d : Shape) (w : ℕ) (p r : Place) (c : Coordinator) (k : Mark) → IsCoordinator d w p c → r ≡ moved d (mark_act k) p → IsCoordinator d w r (record c { asked = c.asked + 1; marked = c.marked + marked_more k })
+pub mark-holds : (d : Shape) (w : ℕ) (p r : Place) (c : Coordinator) (k : Mark) → IsCoordinator d w p c → r ≡ moved d (mark_act k) p
+    → IsCoordinator d w r (record c { asked = c.asked + 1; marked = c.marked + marked_more k })
 mark-holds d w p r c mark.Marked ok goes = record { worker = ok.worker; workers = ok.workers; place = goes ∙ ap (moved d MarkMarked) ok.place }
 mark-holds d w p r c mark.Missed ok goes = record { worker = ok.worker; workers = ok.workers; place = goes ∙ ap (moved d MarkMissed) ok.place }
 
@@ -402,7 +502,8 @@ holding-else a (Owing t id) s k again e = e
 holding-else a (Announcing t b n) s k again e = e
 
 told-else : (d : Shape) (p : Place) (s k : ℕ) (again : Bool) → told_one d p ≡ Announcing s again k → (j : ℕ) × (p ≡ Announcing s again j)
-told-else d (Announcing t b n) s k again = cond_both (eqb (n + 1) d.workers) Free (Announcing t b (n + 1)) (λ q. q ≡ Announcing s again k → (j : ℕ) × (Announcing t b n ≡ Announcing s again j)) (λ h e. absurd (cc e)) (λ h e. (n, cc))
+told-else d (Announcing t b n) s k again = cond_both (eqb (n + 1) d.workers) Free (Announcing t b (n + 1))
+    (λ q. q ≡ Announcing s again k → (j : ℕ) × (Announcing t b n ≡ Announcing s again j)) (λ h e. absurd (cc e)) (λ h e. (n, cc))
 told-else d Free s k again = λ e. absurd (cc e)
 told-else d (Entered t) s k again = λ e. absurd (cc e)
 told-else d (Astray t) s k again = λ e. absurd (cc e)
@@ -449,16 +550,20 @@ announced d (SweepOthers n) p s k again e = absurd (cc e)
 announced d (ReserveGot t) p s k again e = absurd (cc e)
 announced d Release p s k again e = absurd (cc e)
 
-opened-step : (d : Shape) (w s k : ℕ) (again : Bool) (e : Entry) (es : List Entry) → ((j : ℕ) → place_of d es w ≡ Announcing s again j → last_opened d w es ≡ Some (s, again)) → Dec (w ≡ e.worker) → place_of d (e ∷ es) w ≡ Announcing s again k → last_opened d w (e ∷ es) ≡ Some (s, again)
+opened-step : (d : Shape) (w s k : ℕ) (again : Bool) (e : Entry) (es : List Entry)
+    → ((j : ℕ) → place_of d es w ≡ Announcing s again j → last_opened d w es ≡ Some (s, again))
+    → Dec (w ≡ e.worker) → place_of d (e ∷ es) w ≡ Announcing s again k → last_opened d w (e ∷ es) ≡ Some (s, again)
 opened-step d w s k again e es ih (yes same) at =
     let goes = sym (place-mine d e es w same) ∙ at in
     let eqs : eqb w e.worker ≡ true = eq-eqb w e.worker same in
     ⊎_elim
     (λ (j, was, opens_). ap₂ (λ a b. cond (a && b) (Some (slot_of (place_of d es w), (held_at (place_of d es w)).again)) (last_opened d w es)) eqs opens_ ∙ ih j was)
-    (λ (opens_, slot, kind). ap₂ (λ a b. cond (a && b) (Some (slot_of (place_of d es w), (held_at (place_of d es w)).again)) (last_opened d w es)) eqs opens_ ∙ ap₂ (λ t b. Some (t, b)) slot kind)
+    (λ (opens_, slot, kind). ap₂ (λ a b. cond (a && b) (Some (slot_of (place_of d es w), (held_at (place_of d es w)).again)) (last_opened d w es)) eqs opens_
+    ∙ ap₂ (λ t b. Some (t, b)) slot kind)
     (announced d e.act (place_of d es w) s k again goes)
 opened-step d w s k again e es ih (no other) at =
-    ap (λ a. cond (a && opens e.act) (Some (slot_of (place_of d es w), (held_at (place_of d es w)).again)) (last_opened d w es)) (ne_eqb w e.worker other) ∙ ih k (sym (place-other d e es w other) ∙ at)
+    ap (λ a. cond (a && opens e.act) (Some (slot_of (place_of d es w), (held_at (place_of d es w)).again)) (last_opened d w es)) (ne_eqb w e.worker other)
+    ∙ ih k (sym (place-other d e es w other) ∙ at)
 
 -- the slot that an announcer tells of is the one that it opened last
 pub announcer-opened : (d : Shape) (w s : ℕ) (again : Bool) (h : List Entry) (k : ℕ) → place_of d h w ≡ Announcing s again k → last_opened d w h ≡ Some (s, again)
@@ -466,19 +571,23 @@ announcer-opened d w s again [] k at = absurd (cc at)
 announcer-opened d w s again (e ∷ es) k at = opened-step d w s k again e es (announcer-opened d w s again es) (ℕ_discrete w e.worker) at
 
 -- an announcer that told every worker
-pub tell-done : (d : Shape) (w : ℕ) (h : List Entry) (x : Announcer) → IsAnnouncer d w (place_of d (trail_in w h) w) x → x.told + 1 ≡ d.workers → IsDone d w (trail_in w (entry w Tell ∷ h)) (record x { told = x.told + 1 })
+pub tell-done : (d : Shape) (w : ℕ) (h : List Entry) (x : Announcer) → IsAnnouncer d w (place_of d (trail_in w h) w) x → x.told + 1 ≡ d.workers
+    → IsDone d w (trail_in w (entry w Tell ∷ h)) (record x { told = x.told + 1 })
 tell-done d w h x ok all =
     let at : place_of d h w ≡ Announcing x.slot x.again x.told = sym (place-trail d w h) ∙ ok.place in record {
       worker = ok.worker;
       workers = ok.workers;
       told = all;
-      free = place-trail d w (entry w Tell ∷ h) ∙ place-mine d (entry w Tell) h w refl ∙ ap (moved d Tell) at ∙ ap (λ b. cond b Free (Announcing x.slot x.again (x.told + 1))) (eq-eqb (x.told + 1) d.workers all);
-      opened = ap (last_opened d w) (trail-call w Tell h) ∙ ap (λ b. cond (b && false) (Some (slot_of (place_of d h w), (held_at (place_of d h w)).again)) (last_opened d w h)) (eq-eqb w w refl) ∙ announcer-opened d w x.slot x.again h x.told at;
+      free = place-trail d w (entry w Tell ∷ h) ∙ place-mine d (entry w Tell) h w refl ∙ ap (moved d Tell) at
+          ∙ ap (λ b. cond b Free (Announcing x.slot x.again (x.told + 1))) (eq-eqb (x.told + 1) d.workers all);
+      opened = ap (last_opened d w) (trail-call w Tell h)
+          ∙ ap (λ b. cond (b && false) (Some (slot_of (place_of d h w), (held_at (place_of d h w)).again)) (last_opened d w h)) (eq-eqb w w refl)
+          ∙ announcer-opened d w x.slot x.again h x.told at;
     }
 
-module _ {Sub : Type 0} (o : Story) (subject : Sub) (start now : Plain Sub) (view : record { shape = o.shape; subject = subject; log = o.log } ≡ now) (shape : now.shape ≡ start.shape) (same : now.subject ≡ start.subject) (w : ℕ) where
-  pub tell-seat_done : (new : Story) → MakesCall o w Tell new → (x : Announcer) → IsAnnouncer start.shape w (place_at (desk_over start w) (trail_in w (calls_of now.log))) x → x.told + 1 ≡ start.shape.workers
-      → IsDone start.shape w (trail_in w (calls_of new.log)) (record x { told = x.told + 1 })
-  tell-seat_done new m x ok all =
-      let grows : new.log ≡ call w Tell ∷ now.log = ap (λ (y : Story). y.log) m.story ∙ ap (λ (t : Plain Sub). call w Tell ∷ t.log) view in
-      subst (λ l. IsDone start.shape w (trail_in w (calls_of l)) (record x { told = x.told + 1 })) (sym grows) (tell-done start.shape w (calls_of now.log) x ok all)
+pub seat-done : {B Sub : Type 0} {b : Ghosts B Sub} (s : Seat b) {new : Story} → MakesCall (object s) (worker s) Tell new → (x : Announcer)
+    → IsAnnouncer (start s).shape (worker s) (place s) x → x.told + 1 ≡ (start s).shape.workers
+    → IsDone (start s).shape (worker s) (trail_in (worker s) (calls_of new.log)) (record x { told = x.told + 1 })
+seat-done s m x ok all =
+    let told = tell-done (start s).shape (worker s) (calls_of (now s).log) x ok all in
+    subst (λ l. IsDone (start s).shape (worker s) (trail_in (worker s) (calls_of l)) (record x { told = x.told + 1 })) (sym (grows s m)) told

@@ -1,28 +1,31 @@
-use Rattle.std.proofs.Common.{◌+◌, ◌*◌, ◌<◌, length, refl, sym, ap, ◌∙◌, subst, arith}
+use Rattle.std.proofs.Common.{◌+◌, ◌*◌, ◌<◌, length, refl, ap, ◌∙◌, arith}
 use Rattle.slot_history.specs.declared.shape.Shape.{Shape}
-use Rattle.plain_slots.specs.declared.log.Logged.TheVariants.{Exchanged}
-use Rattle.plain_slots.specs.Objects.{Story}
-use Rattle.plain_slots.specs.Seats.{IsSince}
-use Rattle.plain_slots.proofs.Seated.{own-below, object-shape, table-subject, exchanged-since}
+use Rattle.plain_slots.proofs.Seated.{seat, exchanged}
 use Rattle.plain_slots.proofs.SeatCells.{cell-index, seat-cell-says, seat-cell}
 use Rattle.plain_slots.proofs.seat.PlainSeatStation.cell.Goals as goal
 
 pub index_mut-requires : goal.index_mut-requires
-index_mut-requires g c = let l = c.table.inside.cells.ok.0 in let i : c.cell_index-at.result < length c.table.inside.cells.items = cell-index g.B.Fits.queries g.B.Fits.total g.B.Fits.fits c.table.inside.object c.table.inside.subject.value c.args.self.now.start.value c.args.self.now.table.now c.table.view_is c.args.self.now.shape c.args.self.now.subject c.args.self.now.worker c.args.self.now.below c.shape.ensures.legal c.table.inside.cells.items c.table.invariant c.args.holder.now c.requires.holder c.args.worker c.requires.worker c.cell_index-at.result (c.cell_index-at.ensures ∙ ap (λ (d : Shape). c.args.holder.now.slot * d.workers + c.args.worker) c.shape.ensures.shape) in omega arith
+index_mut-requires g c =
+    let x = seat c.args.self.now c.table.inside c.table.view_is c.table.invariant in
+    let at = c.cell_index-at.ensures ∙ ap (λ (d : Shape). c.args.holder.now.slot * d.workers + c.args.worker) c.shape.ensures.shape in
+    let l = c.table.inside.cells.ok.0 in
+    let i : c.cell_index-at.result < length c.table.inside.cells.items =
+    cell-index x c.shape.ensures.legal c.args.holder.now c.requires.holder c.args.worker c.requires.worker at in
+    omega arith
 
 pub invariant_of-table : goal.invariant_of-table
-invariant_of-table g c = seat-cell g.B.Fits.queries g.B.Fits.total g.B.Fits.fits c.table.inside.object c.table.inside.subject.value c.args.self.now.start.value c.args.self.now.table.now c.table.view_is c.args.self.now.shape c.args.self.now.subject c.args.self.now.worker c.args.self.now.below c.shape.ensures.legal c.table.inside.cells.items c.table.invariant c.args.holder.now c.requires.holder c.args.worker c.requires.worker c.cell_index-at.result (c.cell_index-at.ensures ∙ ap (λ (d : Shape). c.args.holder.now.slot * d.workers + c.args.worker) c.shape.ensures.shape) c.args.new c.replace-old.new.dest c.replace-old.ensures.after c.fresh_for-note.result c.fresh_for-note.ensures c.requires.fits c.exchanged.new.self c.exchanged.ensures
+invariant_of-table g c =
+    let x = seat c.args.self.now c.table.inside c.table.view_is c.table.invariant in
+    let at = c.cell_index-at.ensures ∙ ap (λ (d : Shape). c.args.holder.now.slot * d.workers + c.args.worker) c.shape.ensures.shape in
+    seat-cell x c.shape.ensures.legal c.args.holder.now c.requires.holder c.args.worker c.requires.worker at
+    c.replace-old.ensures.after c.fresh_for-note.ensures c.requires.fits c.exchanged.ensures
 
 pub invariant_of-self : goal.invariant_of-self
-invariant_of-self g c =
-    let grows = c.exchanged.ensures in
-    record {
-      below = subst (λ (x : Story). c.args.self.now.worker < x.shape.workers) (sym grows) (own-below c.table.inside.object c.table.inside.subject.value c.args.self.now.start.value c.args.self.now.table.now c.table.view_is c.args.self.now.shape c.args.self.now.subject c.args.self.now.worker c.args.self.now.below);
-      shape = ap (λ (x : Story). x.shape) grows ∙ object-shape c.table.inside.object c.table.inside.subject.value c.args.self.now.start.value c.args.self.now.table.now c.table.view_is c.args.self.now.shape c.args.self.now.subject c.args.self.now.worker;
-      subject = table-subject c.table.inside.object c.table.inside.subject.value c.args.self.now.start.value c.args.self.now.table.now c.table.view_is c.args.self.now.shape c.args.self.now.subject c.args.self.now.worker;
-      since = subst (λ (x : Story). ∥ IsSince c.args.self.now.start.value (record { shape = x.shape; subject = c.table.inside.subject.value; log = x.log }) c.args.self.now.worker ∥₁) (sym grows)
-          (exchanged-since c.table.inside.object c.table.inside.subject.value c.args.self.now.start.value c.args.self.now.table.now c.table.view_is c.args.self.now.shape c.args.self.now.subject c.args.self.now.worker (Exchanged (record { worker = c.args.self.now.worker; cell = c.args.worker; note = c.fresh_for-note.result })) refl c.args.self.now.since);
-    }
+invariant_of-self g c = exchanged (seat c.args.self.now c.table.inside c.table.view_is c.table.invariant) c.exchanged.ensures refl
 
 pub returns-clause-says : goal.returns-clause-says
-returns-clause-says g c = seat-cell-says g.B.Fits.queries g.B.Fits.total g.B.Fits.fits c.table.inside.object c.table.inside.subject.value c.args.self.now.start.value c.args.self.now.table.now c.table.view_is c.args.self.now.shape c.args.self.now.subject c.args.self.now.worker c.args.self.now.below c.shape.ensures.legal c.table.inside.cells.items c.table.invariant c.args.holder.now c.requires.holder c.args.worker c.requires.worker c.cell_index-at.result (c.cell_index-at.ensures ∙ ap (λ (d : Shape). c.args.holder.now.slot * d.workers + c.args.worker) c.shape.ensures.shape) c.replace-old.result (rw c.replace-old.ensures.value c.index_mut.ensures.value)
+returns-clause-says g c =
+    let x = seat c.args.self.now c.table.inside c.table.view_is c.table.invariant in
+    let at = c.cell_index-at.ensures ∙ ap (λ (d : Shape). c.args.holder.now.slot * d.workers + c.args.worker) c.shape.ensures.shape in
+    seat-cell-says x c.shape.ensures.legal c.args.holder.now c.requires.holder c.args.worker c.requires.worker at
+    (rw c.replace-old.ensures.value c.index_mut.ensures.value)

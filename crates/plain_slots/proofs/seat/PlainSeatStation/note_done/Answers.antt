@@ -1,33 +1,32 @@
 use Rattle.std.proofs.Common.{◌≡◌, ℕ, ◌+◌, ◌≤◌, IsSome, sym, ap, ◌∙◌}
-use Rattle.slot_history.specs.declared.act.Act.TheVariants.{Note as NoteDone}
 use Rattle.slot_history.specs.declared.shape.TheConstants.{STAGES}
 use Rattle.slot_history.specs.States.{held_at}
 use Rattle.plain_slots.specs.Tokens.{IsHolder}
 use Rattle.slot_history.specs.declared.place.Held.{Held}
 use Rattle.slot_history.specs.declared.place.Place.TheVariants.{Holding}
-use Rattle.plain_slots.proofs.Seated.{note-holds, token-old, new-place}
-use Rattle.plain_slots.proofs.Seated.{table-after, place-for, table-subject, new-shape, new-below, new-since, token-for, seat-makes}
+use Rattle.plain_slots.proofs.Seated.{seat, place-for, token-old, table-after, new-place, seat-after, token-for, seat-makes, note-holds}
 use Rattle.plain_slots.proofs.seat.PlainSeatStation.note_done.Goals as goal
 
 pub note_done-requires-clause-place : goal.note_done-requires-clause-place
-note_done-requires-clause-place g c = place-for c.table.inside.object c.table.inside.subject.value c.args.self.now.start.value c.args.self.now.table.now c.table.view_is c.args.self.now.shape c.args.self.now.subject c.args.self.now.worker (λ p. (s : ℕ) × (h : Held) × (p ≡ Holding s h) × IsSome h.query × (h.noted ≡ 0) × (h.stage + c.args.k ≤ STAGES)) (c.args._holder.now.slot, _, c.requires.holder.place, c.requires.query, sym (ap (λ p. (held_at p).noted) c.requires.holder.place) ∙ c.requires.once, c.requires.number.1)
+note_done-requires-clause-place g c =
+    let x = seat c.args.self.now c.table.inside c.table.view_is c.table.invariant in
+    let at = c.requires.holder.place in
+    place-for x (λ p. (s : ℕ) × (h : Held) × (p ≡ Holding s h) × IsSome h.query × (h.noted ≡ 0) × (h.stage + c.args.k ≤ STAGES))
+    (c.args._holder.now.slot, _, at, c.requires.query, sym (ap (λ p. (held_at p).noted) at) ∙ c.requires.once, c.requires.number.1)
 
 pub invariant_of-table : goal.invariant_of-table
-invariant_of-table g c = table-after g.B.Fits.queries g.B.Fits.total g.B.Fits.fits c.table.inside.object c.note_done.new.self c.table.inside.subject.value c.table.inside.cells.items c.args.self.now.worker (NoteDone c.args.k) c.note_done.ensures (tt) c.table.invariant
+invariant_of-table g c = table-after (seat c.args.self.now c.table.inside c.table.view_is c.table.invariant) c.note_done.ensures tt
 
 pub invariant_of-self : goal.invariant_of-self
-invariant_of-self g c =
-    let m = c.note_done.ensures in
-    record {
-      below = new-below c.table.inside.object c.table.inside.subject.value c.args.self.now.start.value c.args.self.now.table.now c.table.view_is c.args.self.now.shape c.args.self.now.subject c.args.self.now.worker (NoteDone c.args.k) c.note_done.new.self m c.args.self.now.below;
-      shape = new-shape c.table.inside.object c.table.inside.subject.value c.args.self.now.start.value c.args.self.now.table.now c.table.view_is c.args.self.now.shape c.args.self.now.subject c.args.self.now.worker (NoteDone c.args.k) c.note_done.new.self m;
-      subject = table-subject c.table.inside.object c.table.inside.subject.value c.args.self.now.start.value c.args.self.now.table.now c.table.view_is c.args.self.now.shape c.args.self.now.subject c.args.self.now.worker;
-      since = new-since c.table.inside.object c.table.inside.subject.value c.args.self.now.start.value c.args.self.now.table.now c.table.view_is c.args.self.now.shape c.args.self.now.subject c.args.self.now.worker (NoteDone c.args.k) c.note_done.new.self m c.args.self.now.since;
-    }
+invariant_of-self g c = seat-after (seat c.args.self.now c.table.inside c.table.view_is c.table.invariant) c.note_done.ensures
 
 pub returns-clause-made : goal.returns-clause-made
-returns-clause-made g c = seat-makes c.table.inside.object c.table.inside.subject.value c.args.self.now.start.value c.args.self.now.table.now c.table.view_is c.args.self.now.shape c.args.self.now.subject c.args.self.now.worker (NoteDone c.args.k) c.note_done.new.self c.note_done.ensures g.B.Fits.queries g.B.Fits.total g.B.Fits.fits c.table.inside.cells.items (table-after g.B.Fits.queries g.B.Fits.total g.B.Fits.fits c.table.inside.object c.note_done.new.self c.table.inside.subject.value c.table.inside.cells.items c.args.self.now.worker (NoteDone c.args.k) c.note_done.ensures (tt) c.table.invariant)
+returns-clause-made g c = seat-makes (seat c.args.self.now c.table.inside c.table.view_is c.table.invariant) c.note_done.ensures tt
 
 pub returns-clause-holder : goal.returns-clause-holder
-returns-clause-holder g c = token-for c.table.inside.object c.table.inside.subject.value c.args.self.now.start.value c.args.self.now.table.now c.table.view_is c.args.self.now.shape c.args.self.now.subject c.args.self.now.worker (NoteDone c.args.k) c.note_done.new.self c.note_done.ensures (λ d p. IsHolder d c.args.self.now.worker p c.args._holder.now)
-    (note-holds c.table.inside.object.shape c.args.self.now.worker _ _ c.args._holder.now c.args.k (token-old c.table.inside.object c.table.inside.subject.value c.args.self.now.start.value c.args.self.now.table.now c.table.view_is c.args.self.now.shape c.args.self.now.subject c.args.self.now.worker (λ d p. IsHolder d c.args.self.now.worker p c.args._holder.now) c.requires.holder) (new-place c.table.inside.object c.table.inside.subject.value c.args.self.now.start.value c.args.self.now.table.now c.table.view_is c.args.self.now.shape c.args.self.now.subject c.args.self.now.worker (NoteDone c.args.k) c.note_done.new.self c.note_done.ensures))
+returns-clause-holder g c =
+    let x = seat c.args.self.now c.table.inside c.table.view_is c.table.invariant in
+    let w = c.args.self.now.worker in
+    let old = token-old x (λ d p. IsHolder d w p c.args._holder.now) c.requires.holder in
+    token-for x c.note_done.ensures (λ d p. IsHolder d w p c.args._holder.now)
+    (note-holds c.table.inside.object.shape w _ _ c.args._holder.now c.args.k old (new-place x c.note_done.ensures))

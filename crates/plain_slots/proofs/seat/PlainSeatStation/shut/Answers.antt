@@ -1,32 +1,28 @@
 use Rattle.std.proofs.Common.{◌≡◌, ℕ}
-use Rattle.plain_slots.specs.Replies.{shut_act}
 use Rattle.plain_slots.specs.Tokens.{ShutGives}
 use Rattle.slot_history.specs.declared.place.Place.TheVariants.{Used}
-use Rattle.plain_slots.proofs.Seated.{shut-allows}
-use Rattle.slot_history.specs.Histories.{place_of}
-use Rattle.plain_slots.specs.Log.{calls_of, note_in}
-use Rattle.plain_slots.specs.Seats.{trail_in}
-use Rattle.plain_slots.proofs.Seated.{table-after, place-for, table-subject, new-shape, new-below, new-since, token-for, seat-makes}
+use Rattle.plain_slots.proofs.Seated.{seat, place-for, shut-allows, table-after, seat-after, token-for, seat-makes}
 use Rattle.plain_slots.proofs.seat.PlainSeatStation.shut.Goals as goal
 
 pub shut-requires-clause-place : goal.shut-requires-clause-place
-shut-requires-clause-place g c = place-for c.table.inside.object c.table.inside.subject.value c.args.self.now.start.value c.args.self.now.table.now c.table.view_is c.args.self.now.shape c.args.self.now.subject c.args.self.now.worker (λ p. (s id : ℕ) × (p ≡ Used s id)) (c.args._spent.slot, c.args._spent.id, c.requires.spent.place)
+shut-requires-clause-place g c =
+    let x = seat c.args.self.now c.table.inside c.table.view_is c.table.invariant in
+    place-for x (λ p. (s id : ℕ) × (p ≡ Used s id)) (c.args._spent.slot, c.args._spent.id, c.requires.spent.place)
 
 pub invariant_of-table : goal.invariant_of-table
-invariant_of-table g c = table-after g.B.Fits.queries g.B.Fits.total g.B.Fits.fits c.table.inside.object c.shut.new.self c.table.inside.subject.value c.table.inside.cells.items c.args.self.now.worker (shut_act c.shut.result) c.shut.ensures.made (shut-allows (g.B.Fits.total c.table.inside.subject.value) c.table.inside.object.shape c.args.self.now.worker (place_of c.table.inside.object.shape (trail_in c.args.self.now.worker (calls_of c.table.inside.object.log)) c.args.self.now.worker) (note_in c.table.inside.object.log c.args.self.now.worker) c.shut.result) c.table.invariant
+invariant_of-table g c =
+    let x = seat c.args.self.now c.table.inside c.table.view_is c.table.invariant in
+    table-after x c.shut.ensures.made (shut-allows x c.shut.result)
 
 pub invariant_of-self : goal.invariant_of-self
-invariant_of-self g c =
-    let m = c.shut.ensures.made in
-    record {
-      below = new-below c.table.inside.object c.table.inside.subject.value c.args.self.now.start.value c.args.self.now.table.now c.table.view_is c.args.self.now.shape c.args.self.now.subject c.args.self.now.worker (shut_act c.shut.result) c.shut.new.self m c.args.self.now.below;
-      shape = new-shape c.table.inside.object c.table.inside.subject.value c.args.self.now.start.value c.args.self.now.table.now c.table.view_is c.args.self.now.shape c.args.self.now.subject c.args.self.now.worker (shut_act c.shut.result) c.shut.new.self m;
-      subject = table-subject c.table.inside.object c.table.inside.subject.value c.args.self.now.start.value c.args.self.now.table.now c.table.view_is c.args.self.now.shape c.args.self.now.subject c.args.self.now.worker;
-      since = new-since c.table.inside.object c.table.inside.subject.value c.args.self.now.start.value c.args.self.now.table.now c.table.view_is c.args.self.now.shape c.args.self.now.subject c.args.self.now.worker (shut_act c.shut.result) c.shut.new.self m c.args.self.now.since;
-    }
+invariant_of-self g c = seat-after (seat c.args.self.now c.table.inside c.table.view_is c.table.invariant) c.shut.ensures.made
 
 pub returns-clause-made : goal.returns-clause-made
-returns-clause-made g c = seat-makes c.table.inside.object c.table.inside.subject.value c.args.self.now.start.value c.args.self.now.table.now c.table.view_is c.args.self.now.shape c.args.self.now.subject c.args.self.now.worker (shut_act c.shut.result) c.shut.new.self c.shut.ensures.made g.B.Fits.queries g.B.Fits.total g.B.Fits.fits c.table.inside.cells.items (table-after g.B.Fits.queries g.B.Fits.total g.B.Fits.fits c.table.inside.object c.shut.new.self c.table.inside.subject.value c.table.inside.cells.items c.args.self.now.worker (shut_act c.shut.result) c.shut.ensures.made (shut-allows (g.B.Fits.total c.table.inside.subject.value) c.table.inside.object.shape c.args.self.now.worker (place_of c.table.inside.object.shape (trail_in c.args.self.now.worker (calls_of c.table.inside.object.log)) c.args.self.now.worker) (note_in c.table.inside.object.log c.args.self.now.worker) c.shut.result) c.table.invariant)
+returns-clause-made g c =
+    let x = seat c.args.self.now c.table.inside c.table.view_is c.table.invariant in
+    seat-makes x c.shut.ensures.made (shut-allows x c.shut.result)
 
 pub returns-clause-first : goal.returns-clause-first
-returns-clause-first g c = token-for c.table.inside.object c.table.inside.subject.value c.args.self.now.start.value c.args.self.now.table.now c.table.view_is c.args.self.now.shape c.args.self.now.subject c.args.self.now.worker (shut_act c.shut.result) c.shut.new.self c.shut.ensures.made (λ d p. ShutGives d c.args.self.now.worker p c.shut.result) c.shut.ensures.first
+returns-clause-first g c =
+    let x = seat c.args.self.now c.table.inside c.table.view_is c.table.invariant in
+    token-for x c.shut.ensures.made (λ d p. ShutGives d c.args.self.now.worker p c.shut.result) c.shut.ensures.first

@@ -131,12 +131,12 @@ fn a_stranger_pays_last<L: Ledger>(
     Ok(())
 }
 
-/// A slot gets another query and its next task set while a worker keeps a notice of the query before.
-fn notices_outlive_a_query<L: Ledger>(
+/// A table whose one slot served query 0, which worker 2 saw, and is empty again.
+fn after_a_query<L: Ledger>(
     rt: &impl Abort,
     alloc: Global,
     steps: &mut Steps<L>,
-) -> Result<(), Fail> {
+) -> Result<Player, Fail> {
     let mut table = table(alloc, 1, 3, &[(0, 0), (8, 5), (9, 7)])?;
     table.play(rt, &opens(0, 0, 0, 0), steps);
     let entries = [
@@ -158,6 +158,16 @@ fn notices_outlive_a_query<L: Ledger>(
         (0, Act::Release),
     ];
     table.play(rt, &entries, steps);
+    Ok(table)
+}
+
+/// A slot gets another query and its next task set while a worker keeps a notice of the query before.
+fn notices_outlive_a_query<L: Ledger>(
+    rt: &impl Abort,
+    alloc: Global,
+    steps: &mut Steps<L>,
+) -> Result<(), Fail> {
+    let mut table = after_a_query(rt, alloc, steps)?;
     table.play(rt, &opens(0, 0, 8, 5), steps);
     let entries = [
         (0, Act::Tell),

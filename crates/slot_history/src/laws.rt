@@ -58,7 +58,7 @@ pub fn shut_inside()
 
 /// A coordinator that is still at its slot owes nothing there.
 ///
-/// Ruled out: a coordinator that marks itself.
+/// Ruled out: a shut that two workers win, of whom one marks the other while that one leads.
 pub fn coordinator_owes_nothing()
     ensures { Always CoordinatorOwesNothing }
 {}
@@ -66,7 +66,7 @@ pub fn coordinator_owes_nothing()
 /// The leave of a coordinator answers `LeaveLeft`: a worker whose leave answered `LeaveOwe` was not at `Leading`
 /// before.
 ///
-/// Ruled out: a shut that two workers win, of whom one is marked by the other and leaves with two duties.
+/// Ruled out: the same, after which a worker would leave with two duties.
 pub fn coordinator_leaves()
     ensures { CoordinatorLeaves }
 {}

@@ -23,7 +23,7 @@ use Rattle.slot_history.proofs.BookSteps.{running-life}
 
 -- ---- the life of a task set, by the calls that make it
 
-install-is : (a : Act) (id : ℕ) → is_install a id ≡ true → a ≡ Install id
+pub install-is : (a : Act) (id : ℕ) → is_install a id ≡ true → a ≡ Install id
 install-is (Install jd) id h = ap Install (eqb-true jd id h)
 install-is _ id h = absurd (cc)
 

@@ -31,3 +31,7 @@ pub mod Notices
 pub mod LoneTurns
 pub mod Known
 pub mod Arrivals
+pub mod Coordinators
+pub mod SlotWords
+pub mod Payments
+pub mod Numbers

@@ -30,7 +30,7 @@ pub legal-early : (d : Shape) (more early : List Entry) → IsLegal d (more ++ e
 legal-early d [] early legal = legal
 legal-early d (e ∷ more) early legal = legal-early d more early legal.2
 
-begins-legal : (d : Shape) (h early : List Entry) → IsLegal d h → Begins h early → IsLegal d early
+pub begins-legal : (d : Shape) (h early : List Entry) → IsLegal d h → Begins h early → IsLegal d early
 begins-legal d h early legal b = legal-early d b.0 early (subst (IsLegal d) b.1 legal)
 
 -- from its last call on a task set is done

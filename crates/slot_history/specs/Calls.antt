@@ -65,28 +65,36 @@ call_of Tell = Telling
 call_of (TakeReturn part bits) = TakingReturn part
 call_of (TakeChange part bits) = TakingChange part
 
--- the call is allowed: the worker is at one of the call's places, and its conditions hold
-abbrev pub MayCall : Shape → ObjectState → ℕ → Call → Type 0
-MayCall d S w (Entering s) = (S.places w ≡ Free) × (s < d.slots)
-MayCall d S w Looking = (s : ℕ) × (S.places w ≡ Entered s)
-MayCall d S w (Claiming n) = (s id : ℕ) × (S.places w ≡ Inside s id) × (0 < n) × (n ≤ MOST_CLAIM)
-MayCall d S w Shutting = (s id : ℕ) × (S.places w ≡ Used s id)
-MayCall d S w Leaving = can_leave (S.places w) ≡ true
-MayCall d S w Paying = (s id : ℕ) × (S.places w ≡ Owing s id)
-MayCall d S w Marking = (s id asked marked : ℕ) × (S.places w ≡ Asking s id asked marked) × (asked + 1 < d.workers)
-MayCall d S w Sweeping = (s id asked marked : ℕ) × (S.places w ≡ Asking s id asked marked) × (asked + 1 ≡ d.workers)
-MayCall d S w (Reserving s) = (S.places w ≡ Free) × (s < d.slots)
-MayCall d S w (Admitting q) = (s : ℕ) × (h : Held) × (S.places w ≡ Holding s h) × (h.query ≡ None) × (q < d.queries)
-MayCall d S w AskingArrivals = Unit {0}
-MayCall d S w AskingFinished = Unit {0}
-MayCall d S w (Noting k) = (s : ℕ) × (h : Held) × (S.places w ≡ Holding s h) × IsSome h.query × (h.noted ≡ 0)
+-- a worker at this place may make the call: it is one of the call's places, and its conditions hold
+abbrev pub MayAt : Shape → Place → Call → Type 0
+MayAt d p (Entering s) = (p ≡ Free) × (s < d.slots)
+MayAt d p Looking = (s : ℕ) × (p ≡ Entered s)
+MayAt d p (Claiming n) = (s id : ℕ) × (p ≡ Inside s id) × (0 < n) × (n ≤ MOST_CLAIM)
+MayAt d p Shutting = (s id : ℕ) × (p ≡ Used s id)
+MayAt d p Leaving = can_leave p ≡ true
+MayAt d p Paying = (s id : ℕ) × (p ≡ Owing s id)
+MayAt d p Marking = (s id asked marked : ℕ) × (p ≡ Asking s id asked marked)
+    × (asked + 1 < d.workers)
+MayAt d p Sweeping = (s id asked marked : ℕ) × (p ≡ Asking s id asked marked)
+    × (asked + 1 ≡ d.workers)
+MayAt d p (Reserving s) = (p ≡ Free) × (s < d.slots)
+MayAt d p (Admitting q) = (s : ℕ) × (h : Held) × (p ≡ Holding s h) × (h.query ≡ None)
+    × (q < d.queries)
+MayAt d p AskingArrivals = Unit {0}
+MayAt d p AskingFinished = Unit {0}
+MayAt d p (Noting k) = (s : ℕ) × (h : Held) × (p ≡ Holding s h) × IsSome h.query × (h.noted ≡ 0)
     × (0 < k) × (h.stage + k ≤ STAGES)
-MayCall d S w (Totalling t) = (s : ℕ) × (h : Held) × (S.places w ≡ Holding s h) × IsSome h.query × (t ≤ MOST_TOTAL)
-MayCall d S w (Installing id) = (s : ℕ) × (h : Held) × (S.places w ≡ Holding s h) × IsReady h × (id ≡ next_id h)
-MayCall d S w Releasing = (s : ℕ) × (h : Held) × (S.places w ≡ Holding s h) × ((h.query ≡ None) ⊎ (0 < h.noted))
-MayCall d S w Telling = (s : ℕ) × (again : Bool) × (told : ℕ) × (S.places w ≡ Announcing s again told)
-MayCall d S w (TakingReturn part) = part < PARTS
-MayCall d S w (TakingChange part) = part < PARTS
+MayAt d p (Totalling t) = (s : ℕ) × (h : Held) × (p ≡ Holding s h) × IsSome h.query
+    × (t ≤ MOST_TOTAL)
+MayAt d p (Installing id) = (s : ℕ) × (h : Held) × (p ≡ Holding s h) × IsReady h × (id ≡ next_id h)
+MayAt d p Releasing = (s : ℕ) × (h : Held) × (p ≡ Holding s h) × ((h.query ≡ None) ⊎ (0 < h.noted))
+MayAt d p Telling = (s : ℕ) × (again : Bool) × (told : ℕ) × (p ≡ Announcing s again told)
+MayAt d p (TakingReturn part) = part < PARTS
+MayAt d p (TakingChange part) = part < PARTS
+
+-- the call is allowed: of a state this asks no more than the place of the worker that calls
+abbrev pub MayCall : Shape → ObjectState → ℕ → Call → Type 0
+MayCall d S w c = MayAt d (S.places w) c
 
 -- the number whose bit k, of n bits, is set exactly where f k
 unfoldable pub mask_of : ℕ → (ℕ → Bool) → ℕ

@@ -10,4 +10,6 @@ pub mod Laws
 pub mod Lives
 pub mod LoneTurns
 pub mod Calls
+pub mod Numbers
+pub mod Payments
 pub mod Examples

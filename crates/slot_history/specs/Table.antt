@@ -5,7 +5,8 @@ use Rattle.slot_history.specs.declared.place.Held.{Held}
 use Rattle.slot_history.specs.declared.place.Place.{Place}
 use Rattle.slot_history.specs.declared.place.Place.TheVariants.{Entered, Astray, Inside, Used, Behind, Leading, Asking, Owing, Holding}
 use Rattle.slot_history.specs.Sets.{count_of}
-use Rattle.slot_history.specs.States.{Ending, SlotState, Empty, Reserved, Open, Shut, Finishing, ObjectState, slot_of, id_at}
+use Rattle.slot_history.specs.States.{TaskSet, Ending, SlotState, Empty, Reserved, Open, Shut, Finishing, ObjectState, slot_of, id_at}
+use Rattle.slot_history.specs.Steps.{next_asked}
 
 -- what a worker may or must be to a slot
 pub data Duty : Type 0 where
@@ -116,3 +117,20 @@ IsChainOf d _ = Unit {0}
 pub record IsTable (d : Shape) (S : ObjectState) : Type 0 where
   pub chain : (s : ℕ) → IsChainOf d (S.slots s)
   pub duty : (s v : ℕ) → v < d.workers → Meets d s (duty_of (S.slots s) v) (S.places v)
+
+-- The slot of a coordinator w that asked n of the others for this id and marked m of them: it is shut with the id, w shut it
+-- and has not swept, and whom it asks next is number n of the others.
+pub record IsLed (d : Shape) (x : SlotState) (w id n m : ℕ) : Type 0 where
+  pub task : TaskSet
+  pub ending : Ending
+  pub slot : x ≡ Shut task ending
+  pub named : task.id ≡ id
+  pub mine : w ≡ ending.coordinator
+  pub unswept : ending.swept ≡ false
+  pub asked : HasAsked d ending n m
+  pub next : n + 1 < d.workers → next_asked d ending ≡ nth_other w n
+
+-- of each coordinator that asks
+abbrev pub AreLed : Shape → ObjectState → Type 0
+AreLed d S = (w s id n m : ℕ) → w < d.workers → S.places w ≡ Asking s id n m
+    → IsLed d (S.slots s) w id n m

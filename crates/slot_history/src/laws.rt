@@ -5,9 +5,11 @@
 
 ghost use Rattle.slot_history.specs.Laws.{Always, AfterAll, QuietSlots, InsideSlots, OneDebt, ShutInside, CoordinatorOwesNothing, CoordinatorLeaves, OneOwner, OwnEntries, OwnRecords, CallsGoOn, OnlyOnce, RangesOfClaims, ClaimsGoOn, RangesGoOn, AreApart, NoEarlyClaims, TilesCursor, TilesTotal, FinishingLast, OnceInPlace, StagesInOrder, QueryKeepsSlot};
 ghost use Rattle.slot_history.specs.Lives.{IsBookOf, CountsOf};
-ghost use Rattle.slot_history.specs.Table.{IsTable};
+ghost use Rattle.slot_history.specs.Table.{IsTable, AreLed};
 ghost use Rattle.slot_history.specs.Bounds.{IsWithin, AreCursors, IsCursorLimit, AreDebtsWithin, AreSlotsSound, IsFinishedBound};
 ghost use Rattle.slot_history.specs.Calls.{IsAnswered};
+ghost use Rattle.slot_history.specs.Numbers.{PlacesNameIds, AreIdsWithin, AreInstallsWithin, AreClaimsWithin};
+ghost use Rattle.slot_history.specs.Payments.{DebtsGoOn};
 
 pub mod examples;
 pub mod lone_turns;
@@ -241,6 +243,34 @@ pub fn cursor_limit()
 /// Ruled out: a coordinator that marks itself.
 pub fn debts_within()
     ensures { Always AreDebtsWithin }
+{}
+
+/// A mark adds one mark and one debt. A payment that is not the last adds one payment and takes one debt. Before the last
+/// payment there is one debt.
+///
+/// Ruled out: a pay that is answered Last while another worker still owes.
+pub fn debts_go_on()
+    ensures { Always DebtsGoOn }
+{}
+
+/// The slot of a coordinator that asks is shut with the id that the coordinator names. The coordinator shut it itself and
+/// has not swept. If it asked *n* of the others, it asks number *n* of them next.
+///
+/// Ruled out: a coordinator that asks a worker twice, or passes over one.
+pub fn coordinator_slot()
+    ensures { Always AreLed }
+{}
+
+/// Every id in a slot, at a place, of an install, in a call or in its answer is one of the queries of the shape: below eight
+/// times their number. The slot of a worker that names an id has this id. Task sets are installed in slots of the shape,
+/// and claims are by its workers.
+///
+/// Ruled out: a mark that carries the id of another task set.
+pub fn numbers_within()
+    ensures ids { AfterAll AreIdsWithin }
+    ensures places { Always PlacesNameIds }
+    ensures installs { AfterAll AreInstallsWithin }
+    ensures claims { AfterAll AreClaimsWithin }
 {}
 
 /// A call that is allowed has an answer, one of this call, and no other than the state gives; and only a call that is

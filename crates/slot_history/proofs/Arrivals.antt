@@ -10,7 +10,7 @@ use Rattle.slot_history.specs.Steps.{admitted_after, state_after}
 use Rattle.slot_history.specs.Allowed.{IsAllowed}
 use Rattle.slot_history.specs.Histories.{entry, is_admit, admits_of}
 use Rattle.slot_history.specs.LoneTurns.{AdmitsNone, ArrivalsStay, AdmitIsGot}
-use Rattle.slot_history.proofs.TaskSets.{legal-early}
+use Rattle.slot_history.proofs.Beginnings.{legal-early}
 
 -- but for an admission no call changes the number
 admitted-stays : (a : Act) (n : ℕ) → ((q : ℕ) → is_admit a q ≡ false) → admitted_after a n ≡ n

@@ -79,7 +79,7 @@ pub inside-done : (d : Shape) (h : List Entry) (v id n : ℕ) → IsLegal d h �
 inside-done d h v id n legal low over k = let r = inside-runs d h v id legal low k in let e : Done n ≡ Runs r.0 r.1 = sym over ∙ r.2 in cc
 
 -- nobody claims of a task set that was finalised
-done-claims : (d : Shape) (h : List Entry) (w : ℕ) (a : Act) (id n : ℕ) → IsLegal d h → w < d.workers → IsAllowed d (state_after d h) w a → life_of d id h ≡ Done n → (ms : List Morsel) → claims_after w a (place_of d h w) id ms ≡ ms
+pub done-claims : (d : Shape) (h : List Entry) (w : ℕ) (a : Act) (id n : ℕ) → IsLegal d h → w < d.workers → IsAllowed d (state_after d h) w a → life_of d id h ≡ Done n → (ms : List Morsel) → claims_after w a (place_of d h w) id ms ≡ ms
 done-claims d h w (ClaimRange k from to) id n legal low ok over ms = cond_both (is_inside (place_of d h w) id) (record { worker = w; from = from; to = to } ∷ ms) ms (λ z. z ≡ ms)
     (λ t. absurd (inside-done d h w id n legal low over t)) (λ f. refl)
 done-claims d h w _ id n legal low ok over ms = refl

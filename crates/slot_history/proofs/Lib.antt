@@ -35,3 +35,6 @@ pub mod Coordinators
 pub mod SlotWords
 pub mod Payments
 pub mod Numbers
+pub mod Beginnings
+pub mod TaskSetsKept
+pub mod Holders

@@ -25,7 +25,7 @@ use Rattle.slot_history.proofs.Growth.{open-has}
 use Rattle.slot_history.proofs.Book.{book, paying-slot, asking-slot}
 use Rattle.slot_history.proofs.BookSteps.{running-low}
 use Rattle.slot_history.proofs.Counts.{counts, install-is}
-use Rattle.slot_history.proofs.TaskSets.{begins-legal}
+use Rattle.slot_history.proofs.Beginnings.{begins-legal}
 
 -- ---- ids
 

@@ -75,7 +75,7 @@ found-place d w old h same = place-own d w h ∙ ap (λ l. place_of d l w) same 
 pub found-ranges : (d : Shape) (w id : ℕ) (old h : List Entry) → own_calls w h ≡ own_calls w old → ranges_of d w id h ≡ ranges_of d w id old
 found-ranges d w id old h same = ranges-own d w id h ∙ ap (ranges_of d w id) same ∙ sym (ranges-own d w id old)
 
-found-record : (d : Shape) (w s : ℕ) (old h : List Entry) → own_calls w h ≡ own_calls w old → own_record d w s h ≡ own_record d w s old
+pub found-record : (d : Shape) (w s : ℕ) (old h : List Entry) → own_calls w h ≡ own_calls w old → own_record d w s h ≡ own_record d w s old
 found-record d w s old h same = record-own d w s h ∙ ap (own_record d w s) same ∙ sym (record-own d w s old)
 
 pub calls-go-on : CallsGoOn

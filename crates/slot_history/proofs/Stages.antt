@@ -1,6 +1,6 @@
 -- Stages come in order, and a query keeps its slot. It rules out a finisher that installs a stage past the next, or in
 -- another slot.
-use Rattle.std.proofs.Common.{◌≡◌, ◌≢◌, ℕ, ◌+◌, ◌-◌, ◌*◌, ◌/◌, ◌%◌, ◌<◌, ◌≤◌, ◌⊎◌, Bool, true, false, cond, eqb, ◌&&◌, List, [], ◌∷◌, ◌++◌, Option, Some, None, refl, sym, ap, ap₂, ◌∙◌, subst, inl, inr, ⊎_elim, arith, eq-eqb, ne_eqb, eqb-true}
+use Rattle.std.proofs.Common.{◌≡◌, ◌≢◌, ℕ, ◌+◌, ◌-◌, ◌*◌, ◌/◌, ◌%◌, ◌<◌, ◌≤◌, Bool, true, false, cond, eqb, ◌&&◌, List, [], ◌∷◌, Option, Some, None, refl, sym, ap, ap₂, ◌∙◌, subst, ⊎_elim, arith, eq-eqb, ne_eqb, eqb-true}
 use Rattle.std.specs.Prelude.{unwrap_or}
 use mathlib.Core.Logic.{dite}
 use native.Mathlib.Decide.{ℕ_discrete}
@@ -21,6 +21,8 @@ use Rattle.slot_history.specs.Bounds.{IsReservation, IsFinalisation, IsSlotSound
 use Rattle.slot_history.specs.Lives.{Never, life_of, Counts}
 use Rattle.slot_history.specs.Laws.{StagesInOrder, QueryKeepsSlot}
 use Rattle.slot_history.proofs.Sets.{upd-cases}
+use Rattle.slot_history.proofs.Beginnings.{begins-cases}
+use Rattle.slot_history.proofs.TaskSetsKept.{installs-grow}
 use Rattle.slot_history.proofs.Duties.{IsHeldBy}
 use Rattle.slot_history.proofs.Table.{table}
 use Rattle.slot_history.proofs.Holdings.{holder-slot, slots-sound}
@@ -169,14 +171,6 @@ stages-in-order d w id h legal later =
     (omega arith, serving-slot d h legal.2 ok.0 id at, at)
 
 -- ---- a query keeps its slot
-
-installs-grow : (id : ℕ) (more early : List Entry) → installs_of id early ≤ installs_of id (more ++ early)
-installs-grow id [] early = omega arith
-installs-grow id (e ∷ more) early = let r : installs_of id early ≤ installs_of id (more ++ early) = installs-grow id more early in omega arith
-
-begins-cases : (e : Entry) (es early : List Entry) → Begins (e ∷ es) early → (early ≡ e ∷ es) ⊎ Begins es early
-begins-cases e es early ([], is) = inl (sym is)
-begins-cases e es early (m ∷ more, is) = inr (more, let r : e ∷ es ≡ m ∷ (more ++ early) = is in cc)
 
 given-is : (a : Act) (id : ℕ) → task_given a ≡ Some id → a ≡ Install id
 given-is (Install jd) id e = ap Install (cc)

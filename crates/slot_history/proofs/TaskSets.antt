@@ -1,6 +1,6 @@
 -- A task set is finalised once, and in place. It rules out a shut that two workers win, a state word that is published after
 -- the look, and a sweep before the last worker was asked, by which a worker would be inside a task set that is finalised.
-use Rattle.std.proofs.Common.{◌≡◌, ℕ, ◌<◌, ◌≤◌, ◌⊎◌, true, false, eqb, List, [], ◌∷◌, ◌++◌, Some, refl, sym, ap, ◌∙◌, subst, inl, inr, ⊎_elim, arith, eqb-true}
+use Rattle.std.proofs.Common.{◌≡◌, ℕ, ◌<◌, ◌≤◌, ◌⊎◌, true, false, eqb, List, ◌∷◌, Some, refl, sym, ap, ◌∙◌, subst, inl, inr, ⊎_elim, arith, eqb-true}
 use mathlib.Core.Bool.{true≢false}
 use Rattle.std.proofs.lemmas.Bool.{cases_lt, false_from_ne_true}
 use Rattle.slot_history.specs.declared.shape.Shape.{Shape}
@@ -12,9 +12,10 @@ use Rattle.slot_history.specs.declared.place.Place.TheVariants.{Inside, Used, As
 use Rattle.slot_history.specs.States.{SlotState, Empty, Reserved, Open, Shut, Finishing, ObjectState, slot_of, id_at, task_of, is_empty, is_inside}
 use Rattle.slot_history.specs.Steps.{site, state_after}
 use Rattle.slot_history.specs.Allowed.{IsAllowed}
-use Rattle.slot_history.specs.Histories.{IsLegal, Begins, place_of, installs_of, lasts_of, total_of, slot_with, touches, renews}
+use Rattle.slot_history.specs.Histories.{IsLegal, place_of, installs_of, lasts_of, total_of, slot_with, touches, renews}
 use Rattle.slot_history.specs.Lives.{Runs, Done, life_of, has_task}
 use Rattle.slot_history.specs.Laws.{OnceInPlace}
+use Rattle.slot_history.proofs.Beginnings.{begins-legal}
 use Rattle.slot_history.proofs.Duties.{IsHeldBy}
 use Rattle.slot_history.proofs.Table.{table}
 use Rattle.slot_history.proofs.Within.{within}
@@ -26,15 +27,8 @@ use Rattle.slot_history.proofs.Claims.{inside-runs, inside-done}
 
 -- ---- finalised once, and in place
 
-pub legal-early : (d : Shape) (more early : List Entry) → IsLegal d (more ++ early) → IsLegal d early
-legal-early d [] early legal = legal
-legal-early d (e ∷ more) early legal = legal-early d more early legal.2
-
-pub begins-legal : (d : Shape) (h early : List Entry) → IsLegal d h → Begins h early → IsLegal d early
-begins-legal d h early legal b = legal-early d b.0 early (subst (IsLegal d) b.1 legal)
-
 -- from its last call on a task set is done
-finalised-done : (d : Shape) (id : ℕ) (h : List Entry) → IsLegal d h → 0 < lasts_of d id h → (n : ℕ) × (life_of d id h ≡ Done n)
+pub finalised-done : (d : Shape) (id : ℕ) (h : List Entry) → IsLegal d h → 0 < lasts_of d id h → (n : ℕ) × (life_of d id h ≡ Done n)
 finalised-done d id h legal some_last = let k = counts-done (life_of d id h) (installs_of id h) (lasts_of d id h) (total_of d id h) (slot_with d id h) (counts d id h legal) some_last in (k.0, k.1)
 
 none-inside : (d : Shape) (id : ℕ) (h : List Entry) → IsLegal d h → 0 < lasts_of d id h → (v : ℕ) → is_inside (place_of d h v) id ≡ false

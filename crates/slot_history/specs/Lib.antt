@@ -10,6 +10,7 @@ pub mod Laws
 pub mod Lives
 pub mod LoneTurns
 pub mod Calls
+pub mod Beginnings
 pub mod Numbers
 pub mod Payments
 pub mod Examples

@@ -100,6 +100,10 @@ held_at _ = reservation
 abbrev pub next_id : Held → ℕ
 next_id h = STAGES * unwrap_or h.query 0 + cond h.again (h.stage + 1) 0
 
+-- the id of the task set that a holder finalises
+abbrev pub finalised_id : Held → ℕ
+finalised_id h = STAGES * unwrap_or h.query 0 + h.stage
+
 -- the task set of a slot that is open or shut
 abbrev pub task_of : SlotState → TaskSet
 task_of (Open t) = t

@@ -11,6 +11,7 @@ ghost use Rattle.slot_history.specs.Calls.{IsAnswered};
 ghost use Rattle.slot_history.specs.Numbers.{PlacesNameIds, AreIdsWithin, AreInstallsWithin, AreClaimsWithin};
 ghost use Rattle.slot_history.specs.Payments.{DebtsGoOn};
 
+pub mod beginnings;
 pub mod examples;
 pub mod lone_turns;
 pub mod notices;

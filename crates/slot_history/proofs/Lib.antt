@@ -38,3 +38,7 @@ pub mod Numbers
 pub mod Beginnings
 pub mod TaskSetsKept
 pub mod Holders
+pub mod SlotTasks
+pub mod Looks
+pub mod Subject
+pub mod Taken

@@ -14,7 +14,7 @@ use Rattle.slot_history.specs.States.{SlotState, Open, Shut, Finishing, ObjectSt
 use Rattle.slot_history.specs.Steps.{state_after}
 use Rattle.slot_history.specs.Allowed.{IsAllowed}
 use Rattle.slot_history.specs.Histories.{IsLegal, Called, Morsel, entry, place_of, claims_of, claims_after, is_install, installs_of, lasts_of, total_of, slot_with}
-use Rattle.slot_history.specs.Lives.{Life, Never, Counts, IsSlotBook, life_of}
+use Rattle.slot_history.specs.Lives.{Life, Never, Runs, Done, Counts, IsSlotBook, life_of}
 use Rattle.slot_history.specs.Table.{IsTable}
 use Rattle.slot_history.specs.Bounds.{IsPlaceWithin}
 use Rattle.slot_history.specs.Numbers.{names_id, named_id, PlacesNameIds, AreIdsWithin, AreInstallsWithin, AreClaimsWithin}
@@ -42,10 +42,27 @@ life-low d h legal id lives =
     let low : id / STAGES < S.admitted = running-low S.admitted S.slots (λ j. life_of d j h) (λ j. claims_of d j h) (book d h legal) id lives in
     let most = (within d h legal).admitted in omega arith
 
+installs-never : (installs lasts : ℕ) (total slot : Option ℕ) (l : Life) → l ≡ Never → Counts l installs lasts total slot → installs ≡ 0
+installs-never installs lasts total slot l never k = (let r : Counts Never installs lasts total slot = subst (λ z. Counts z installs lasts total slot) never k in r).0
+
+pub installed-low : (d : Shape) (h : List Entry) → IsLegal d h → (id : ℕ) → 0 < installs_of id h → id < STAGES * d.queries
+installed-low d h legal id some_install = life-low d h legal id (λ never.
+    let none : installs_of id h ≡ 0 = installs-never (installs_of id h) (lasts_of d id h) (total_of d id h) (slot_with d id h) (life_of d id h) never (counts d id h legal) in omega arith)
+
+life-installed : (l : Life) (installs lasts : ℕ) (total slot : Option ℕ) → l ≢ Never → Counts l installs lasts total slot → 0 < installs
+life-installed Never installs lasts total slot some k = absurd (some refl)
+life-installed (Runs s n) installs lasts total slot some k = let e : installs ≡ 1 = k.0 in omega arith
+life-installed (Done n) installs lasts total slot some k = let e : installs ≡ 1 = k.0 in omega arith
+
+-- the task set of a slot was installed
+pub slot-id-installed : (d : Shape) (h : List Entry) → IsLegal d h → (s : ℕ) → has_id ((state_after d h).slots s) ≡ true → 0 < installs_of (id_of ((state_after d h).slots s)) h
+slot-id-installed d h legal s has =
+    let S : ObjectState = state_after d h in let id : ℕ = id_of (S.slots s) in
+    life-installed (life_of d id h) (installs_of id h) (lasts_of d id h) (total_of d id h) (slot_with d id h)
+    (some-life S.admitted (λ j. life_of d j h) (λ j. claims_of d j h) s (S.slots s) has ((book d h legal).slot s)) (counts d id h legal)
+
 pub id-low : (d : Shape) (h : List Entry) → IsLegal d h → (s : ℕ) → has_id ((state_after d h).slots s) ≡ true → id_of ((state_after d h).slots s) < STAGES * d.queries
-id-low d h legal s has =
-    let S : ObjectState = state_after d h in
-    life-low d h legal (id_of (S.slots s)) (some-life S.admitted (λ j. life_of d j h) (λ j. claims_of d j h) s (S.slots s) has ((book d h legal).slot s))
+id-low d h legal s has = installed-low d h legal (id_of ((state_after d h).slots s)) (slot-id-installed d h legal s has)
 
 pub open-id : (x : SlotState) → is_open x ≡ true → has_id x ≡ true
 open-id (Open t) h = refl
@@ -55,24 +72,20 @@ pub owing-id : (x : SlotState) (v : ℕ) → owes x v ≡ true → has_id x ≡ 
 owing-id (Shut t e) v h = refl
 owing-id _ v h = absurd (cc)
 
-installs-never : (installs lasts : ℕ) (total slot : Option ℕ) (l : Life) → l ≡ Never → Counts l installs lasts total slot → installs ≡ 0
-installs-never installs lasts total slot l never k = (let r : Counts Never installs lasts total slot = subst (λ z. Counts z installs lasts total slot) never k in r).0
+-- the id that a call or its answer names is of a task set that was installed
+pub named-installed : (d : Shape) (w : ℕ) (a : Act) (h : List Entry) (id : ℕ) → IsLegal d (entry w a ∷ h) → named_id a ≡ Some id → 0 < installs_of id (entry w a ∷ h)
+named-installed d w (LookOpen jd) h id (low, ok, legal) is = let X : ℕ → SlotState = (state_after d h).slots in
+    let was : 0 < installs_of id h =
+    subst (λ i. 0 < installs_of i h) (sym ok.3 ∙ ap (λ o. unwrap_or o 0) is) (slot-id-installed d h legal ok.0 (open-id (X ok.0) ok.2)) in omega arith
+named-installed d w (LeaveOwe jd) h id (low, ok, legal) is = let s : ℕ = slot_of (place_of d h w) in
+    let was : 0 < installs_of id h =
+    subst (λ i. 0 < installs_of i h) (sym ok.2 ∙ ap (λ o. unwrap_or o 0) is) (slot-id-installed d h legal s (owing-id ((state_after d h).slots s) w ok.1)) in omega arith
+named-installed d w (Install jd) h id legal is =
+    let one : cond {A = ℕ} (is_install (Install jd) id) 1 0 ≡ 1 = ap (λ b. cond b 1 0) (eq-eqb jd id (ap (λ o. unwrap_or o 0) is)) in omega arith
+named-installed d w _ h id legal is = absurd (cc)
 
-pub installed-low : (d : Shape) (h : List Entry) → IsLegal d h → (id : ℕ) → 0 < installs_of id h → id < STAGES * d.queries
-installed-low d h legal id some_install = life-low d h legal id (λ never.
-    let none : installs_of id h ≡ 0 = installs-never (installs_of id h) (lasts_of d id h) (total_of d id h) (slot_with d id h) (life_of d id h) never (counts d id h legal) in omega arith)
-
--- the id of a call or of its answer
 pub named-low : (d : Shape) (w : ℕ) (a : Act) (h : List Entry) (id : ℕ) → IsLegal d (entry w a ∷ h) → named_id a ≡ Some id → id < STAGES * d.queries
-named-low d w (LookOpen jd) h id (low, ok, legal) is =
-    let X : ℕ → SlotState = (state_after d h).slots in
-    subst (λ i. i < STAGES * d.queries) (sym ok.3 ∙ ap (λ o. unwrap_or o 0) is) (id-low d h legal ok.0 (open-id (X ok.0) ok.2))
-named-low d w (LeaveOwe jd) h id (low, ok, legal) is =
-    let s : ℕ = slot_of (place_of d h w) in
-    subst (λ i. i < STAGES * d.queries) (sym ok.2 ∙ ap (λ o. unwrap_or o 0) is) (id-low d h legal s (owing-id ((state_after d h).slots s) w ok.1))
-named-low d w (Install jd) h id legal is = installed-low d (entry w (Install jd) ∷ h) legal id
-    (let one : cond {A = ℕ} (is_install (Install jd) id) 1 0 ≡ 1 = ap (λ b. cond b 1 0) (eq-eqb jd id (ap (λ o. unwrap_or o 0) is)) in omega arith)
-named-low d w _ h id legal is = absurd (cc)
+named-low d w a h id legal is = installed-low d (entry w a ∷ h) legal id (named-installed d w a h id legal is)
 
 -- and of a call that a worker made, by its trail
 pub called-low : (d : Shape) (w : ℕ) (a : Act) (id : ℕ) (old new : List Entry) → Called d w a old new → named_id a ≡ Some id → id < STAGES * d.queries

@@ -22,12 +22,12 @@ lasts-grow d id [] early = omega arith
 lasts-grow d id (e ∷ more) early = let r : lasts_of d id early ≤ lasts_of d id (more ++ early) = lasts-grow d id more early in omega arith
 
 -- a task set with a total or a slot was installed
-total-installed : (l : Life) (installs lasts n : ℕ) (total slot : Option ℕ) → Counts l installs lasts total slot → total ≡ Some n → 0 < installs
+pub total-installed : (l : Life) (installs lasts n : ℕ) (total slot : Option ℕ) → Counts l installs lasts total slot → total ≡ Some n → 0 < installs
 total-installed Never installs lasts n total slot k is = absurd (let e : None ≡ Some n = sym k.2 ∙ is in cc)
 total-installed (Runs s m) installs lasts n total slot k is = let e : installs ≡ 1 = k.0 in omega arith
 total-installed (Done m) installs lasts n total slot k is = let e : installs ≡ 1 = k.0 in omega arith
 
-slot-installed : (l : Life) (installs lasts s : ℕ) (total slot : Option ℕ) → Counts l installs lasts total slot → slot ≡ Some s → 0 < installs
+pub slot-installed : (l : Life) (installs lasts s : ℕ) (total slot : Option ℕ) → Counts l installs lasts total slot → slot ≡ Some s → 0 < installs
 slot-installed Never installs lasts s total slot k is = absurd (let e : None ≡ Some s = sym k.3 ∙ is in cc)
 slot-installed (Runs r m) installs lasts s total slot k is = let e : installs ≡ 1 = k.0 in omega arith
 slot-installed (Done m) installs lasts s total slot k is = let e : installs ≡ 1 = k.0 in omega arith

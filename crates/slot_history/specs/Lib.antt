@@ -13,4 +13,6 @@ pub mod Calls
 pub mod Beginnings
 pub mod Numbers
 pub mod Payments
+pub mod Looks
+pub mod Subject
 pub mod Examples

@@ -93,3 +93,35 @@ ArrivalsStay = (d : Shape) (v n : ℕ) (more old : List Entry) → let h = more 
 -- and so an admit of that number is not lost
 abbrev pub AdmitIsGot : Type 0
 AdmitIsGot = (d : Shape) (v w q now : ℕ) (more old : List Entry) → IsLegal d (entry w (AdmitLost q now) ∷ more ++ entry v (Arrivals q) ∷ old) → AdmitsNone more → ⊥
+
+-- the call takes notices
+abbrev pub is_take : Act → Bool
+is_take (TakeReturn part bits) = true
+is_take (TakeChange part bits) = true
+is_take _ = false
+
+-- all calls are takes
+abbrev pub AreTakes : List Entry → Type 0
+AreTakes [] = Unit {0}
+AreTakes (e ∷ es) = (is_take e.act ≡ true) × AreTakes es
+
+-- among the calls is a take, by w, of the return notices, and of the change notices, of this part
+abbrev pub TookReturns : ℕ → ℕ → List Entry → Type 0
+TookReturns w part takes = (bits : ℕ) × (more early : List Entry)
+    × (takes ≡ more ++ entry w (TakeReturn part bits) ∷ early)
+
+abbrev pub TookChanges : ℕ → ℕ → List Entry → Type 0
+TookChanges w part takes = (bits : ℕ) × (more early : List Entry)
+    × (takes ≡ more ++ entry w (TakeChange part bits) ∷ early)
+
+-- the record of w of an open slot is active and lets it in
+abbrev pub LetsIn : ObjectState → ℕ → ℕ → Type 0
+LetsIn S w s = ((S.records w s).active ≡ true)
+    × MayBe (S.records w s) (id_of (S.slots s) / STAGES)
+
+-- once a worker took both kinds of notices of a slot from a quiet state on, its record lets it in
+abbrev pub TakenIsKnown : Type 0
+TakenIsKnown = (d : Shape) (w s : ℕ) (takes old : List Entry) → w < d.workers
+    → IsLegal d (takes ++ old) → IsQuiet d (state_after d old) → AreTakes takes
+    → TookReturns w (s / 64) takes → TookChanges w (s / 64) takes
+    → let S = state_after d (takes ++ old) in is_open (S.slots s) ≡ true → LetsIn S w s

@@ -117,6 +117,13 @@ id_of (Shut t e) = t.id
 id_of (Finishing id w h) = id
 id_of _ = 0
 
+-- that task set, if there is one
+abbrev pub task_at : SlotState → Option ℕ
+task_at (Open t) = Some t.id
+task_at (Shut t e) = Some t.id
+task_at (Finishing id w h) = Some id
+task_at _ = None
+
 abbrev pub has_id : SlotState → Bool
 has_id (Open t) = true
 has_id (Shut t e) = true

@@ -15,6 +15,8 @@ pub mod beginnings;
 pub mod examples;
 pub mod lone_turns;
 pub mod notices;
+pub mod slots;
+pub mod subject;
 
 /// Every worker is at a place that the state of each slot allows it, and of a shut slot those that paid were marked,
 /// those that were marked were asked, and those that were asked are the first of the others.

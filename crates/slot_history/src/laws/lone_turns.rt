@@ -1,7 +1,7 @@
 //! What a worker meets that calls alone, while all others are free. A run on one thread ends by these laws.
 
 ghost use Rattle.slot_history.specs.Laws.{Always};
-ghost use Rattle.slot_history.specs.LoneTurns.{StaysLone, EndsQuiet, MeetsNobody, RunMeetsNobody, LookIsKnown, QuietIsKnown, ChangesStayTaken, ReturnsStayTaken, ArrivalsStay, AdmitIsGot};
+ghost use Rattle.slot_history.specs.LoneTurns.{StaysLone, EndsQuiet, MeetsNobody, RunMeetsNobody, LookIsKnown, QuietIsKnown, ChangesStayTaken, ReturnsStayTaken, ArrivalsStay, AdmitIsGot, TakenIsKnown};
 
 /// From a quiet state on, while only one worker calls, the others stay free and it is marked nowhere. Once it is free
 /// too, the state is quiet again.
@@ -44,6 +44,14 @@ pub fn quiet_is_known()
 pub fn stays_taken()
     ensures changes { ChangesStayTaken }
     ensures returns { ReturnsStayTaken }
+{}
+
+/// Once a worker took the change and the return notices of a slot, from a quiet state on, its record of this slot is active
+/// and lets it in, if the slot is open.
+///
+/// Ruled out: a take whose answer lacks a bit that it clears.
+pub fn taken_is_known()
+    ensures { TakenIsKnown }
 {}
 
 /// As long as no query is admitted, the number of queries stays what `arrivals` answered, and an admit of that number is

@@ -1,0 +1,60 @@
+-- The slot of a task set and of a query: what a history, a look and an answer Last say of it.
+use Rattle.std.specs.Prelude.{◌≡◌, ◌≢◌, ℕ, ◌+◌, ◌/◌, ◌%◌, ◌<◌, true, List, ◌∷◌, Some}
+use Rattle.slot_history.specs.declared.shape.Shape.{Shape}
+use Rattle.slot_history.specs.declared.shape.TheConstants.{STAGES}
+use Rattle.slot_history.specs.declared.act.Act.{Act}
+use Rattle.slot_history.specs.declared.act.Act.TheVariants.{LookOpen}
+use Rattle.slot_history.specs.declared.act.Entry.{Entry}
+use Rattle.slot_history.specs.declared.place.Held.{Held}
+use Rattle.slot_history.specs.declared.place.Place.TheVariants.{Entered}
+use Rattle.slot_history.specs.States.{Finishing, slot_of, id_at, task_at}
+use Rattle.slot_history.specs.Steps.{state_after}
+use Rattle.slot_history.specs.Histories.{IsLegal, Begins, Tiles, entry, place_of, claims_of, is_last, installs_of, lasts_of, total_of, slot_with, task_in}
+use Rattle.slot_history.specs.Beginnings.{IsTiled}
+
+-- ---- the laws, as the functions of module `laws::slots` state them
+
+-- the task set that a slot serves, by the history, is the one that its state has
+abbrev pub TaskInSlot : Shape → List Entry → Type 0
+TaskInSlot d h = (s : ℕ) → task_in d s h ≡ task_at ((state_after d h).slots s)
+
+-- and a task set that a slot serves was installed in this slot
+abbrev pub ServingSlot : Shape → List Entry → Type 0
+ServingSlot d h = (s id : ℕ) → task_in d s h ≡ Some id → slot_with d id h ≡ Some s
+
+-- a slot that serves a task set has served it at each moment since its install
+abbrev pub TaskKeepsSlot : Type 0
+TaskKeepsSlot = (d : Shape) (h mid : List Entry) (s id : ℕ) → IsLegal d h
+    → task_in d s h ≡ Some id → Begins h mid → 0 < installs_of id mid → task_in d s mid ≡ Some id
+
+-- The answer Last comes in the slot of the task set's install, and once its claims tile the total of this install.
+abbrev pub LastInSlot : Type 0
+LastInSlot = (d : Shape) (w : ℕ) (a : Act) (h : List Entry) → IsLegal d (entry w a ∷ h)
+    → is_last a ≡ true → let id = id_at (place_of d h w) in
+    (slot_with d id h ≡ Some (slot_of (place_of d h w)))
+    × ((total : ℕ) × (total_of d id h ≡ Some total) × Tiles (claims_of d id h) total)
+
+-- and a slot that is finishing is that of the install of its task set
+abbrev pub FinishingInSlot : Shape → List Entry → Type 0
+FinishingInSlot d h = (s id w : ℕ) (k : Held) → (state_after d h).slots s ≡ Finishing id w k
+    → (slot_with d id h ≡ Some s) × IsTiled d h id
+
+-- a query is seen open in one slot only: looks that answer task sets of one query are at one slot
+abbrev pub OneSlotSeen : Type 0
+OneSlotSeen = (d : Shape) (w v s t id jd : ℕ) (h early : List Entry)
+    → IsLegal d (entry w (LookOpen id) ∷ h) → Begins h (entry v (LookOpen jd) ∷ early)
+    → place_of d h w ≡ Entered s → place_of d early v ≡ Entered t
+    → jd / STAGES ≡ id / STAGES → s ≡ t
+
+-- Once a task set of a query was installed, and until a look sees this query open, each look that sees that slot open sees
+-- this query.
+abbrev pub SameQuerySeen : Type 0
+SameQuerySeen = (d : Shape) (w u s id jd kd : ℕ) (h mid : List Entry)
+    → IsLegal d (entry w (LookOpen id) ∷ h) → Begins h (entry u (LookOpen kd) ∷ mid)
+    → place_of d h w ≡ Entered s → place_of d mid u ≡ Entered s
+    → jd / STAGES ≡ id / STAGES → 0 < installs_of jd mid → kd / STAGES ≡ id / STAGES
+
+-- of a task set other than the first of its query that was installed, the one before it was finalised, in the same slot
+abbrev pub StageBefore : Shape → List Entry → Type 0
+StageBefore d h = (id s : ℕ) → slot_with d (id + 1) h ≡ Some s → (id + 1) % STAGES ≢ 0
+    → (lasts_of d id h ≡ 1) × (slot_with d id h ≡ Some s)

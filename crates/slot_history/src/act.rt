@@ -3,7 +3,7 @@
 /// A call of a worker with its reply: one variant for each pair that has an entry in a history.
 ///
 /// Slots, ids, queries and workers are numbers; ids are those of task sets, tuples are counted from 0 within one.
-#[derive(Clone, Copy, PartialEq, Eq)]
+#[derive(Clone, Copy, Debug, PartialEq, Eq)]
 pub enum Act {
     /// The worker went to a slot.
     Enter(u32),
@@ -66,7 +66,7 @@ pub enum Act {
 }
 
 /// An entry of a history: a worker and its call with the reply.
-#[derive(Clone, Copy, PartialEq, Eq)]
+#[derive(Clone, Copy, Debug, PartialEq, Eq)]
 pub struct Entry {
     pub worker: u32,
     pub act: Act,

@@ -3,6 +3,7 @@
 //! Each function does nothing, and its contract is a law. Crates above cite the lemmas in `proofs/` that it stands on. Most
 //! laws say which fault of the protocol they rule out.
 
+ghost use Rattle.std.specs.Prelude.{◌≡◌, ◌*◌};
 ghost use Rattle.slot_history.specs.Laws.{Always, AfterAll, QuietSlots, InsideSlots, OneDebt, ShutInside, CoordinatorOwesNothing, CoordinatorLeaves, OneOwner, OwnEntries, OwnRecords, CallsGoOn, OnlyOnce, RangesOfClaims, ClaimsGoOn, RangesGoOn, AreApart, NoEarlyClaims, TilesCursor, TilesTotal, FinishingLast, OnceInPlace, StagesInOrder, QueryKeepsSlot};
 ghost use Rattle.slot_history.specs.Lives.{IsBookOf, CountsOf};
 ghost use Rattle.slot_history.specs.Table.{IsTable, AreLed};
@@ -10,6 +11,7 @@ ghost use Rattle.slot_history.specs.Bounds.{IsWithin, AreCursors, IsCursorLimit,
 ghost use Rattle.slot_history.specs.Calls.{IsAnswered};
 ghost use Rattle.slot_history.specs.Numbers.{PlacesNameIds, AreIdsWithin, AreInstallsWithin, AreClaimsWithin};
 ghost use Rattle.slot_history.specs.Payments.{DebtsGoOn};
+ghost use Rattle.slot_history.specs.declared.shape.TheConstants.{MOST_SLOTS, PARTS, MOST_WORKERS, MOST_QUERIES, STAGES, MOST_CLAIM, MOST_TOTAL};
 
 pub mod beginnings;
 pub mod examples;
@@ -17,6 +19,20 @@ pub mod lone_turns;
 pub mod notices;
 pub mod slots;
 pub mod subject;
+
+/// The limits that every crate cites, by their numbers. The slots of all mask words are the most slots.
+///
+/// Ruled out: a limit that was shifted in one place.
+pub fn limits()
+    ensures most_slots { MOST_SLOTS ≡ 128 }
+    ensures parts { PARTS ≡ 2 }
+    ensures mask_words { 64 * PARTS ≡ MOST_SLOTS }
+    ensures most_workers { MOST_WORKERS ≡ 64 }
+    ensures most_queries { MOST_QUERIES ≡ 4096 }
+    ensures stages { STAGES ≡ 8 }
+    ensures most_claim { MOST_CLAIM ≡ 65536 }
+    ensures most_total { MOST_TOTAL ≡ 1048576 }
+{}
 
 /// Every worker is at a place that the state of each slot allows it, and of a shut slot those that paid were marked,
 /// those that were marked were asked, and those that were asked are the first of the others.

@@ -1,7 +1,7 @@
 //! Where a worker is in the protocol, and what it has in hand there.
 
 /// What the holder of a slot knows of its holding.
-#[derive(Clone, Copy, PartialEq, Eq)]
+#[derive(Clone, Copy, Debug, PartialEq, Eq)]
 pub struct Held {
     /// The query that the slot is for; none until one is admitted.
     pub query: Option<u32>,
@@ -16,7 +16,7 @@ pub struct Held {
 }
 
 /// Where a worker is. A worker's own entries give its place, and the numbers here are those of the tokens that it has.
-#[derive(Clone, Copy, PartialEq, Eq)]
+#[derive(Clone, Copy, Debug, PartialEq, Eq)]
 pub enum Place {
     /// At no slot and with nothing in hand.
     Free,

@@ -22,7 +22,7 @@ pub const MOST_CLAIM: u32 = 65_536;
 pub const MOST_TOTAL: u32 = 1_048_576;
 
 /// The numbers of workers, slots and queries of an object.
-#[derive(Clone, Copy, PartialEq, Eq)]
+#[derive(Clone, Copy, Debug, PartialEq, Eq)]
 pub struct Shape {
     /// 1 to `MOST_WORKERS`.
     pub workers: u32,

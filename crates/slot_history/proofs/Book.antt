@@ -11,7 +11,7 @@ use Rattle.slot_history.specs.declared.place.Held.{Held}
 use Rattle.slot_history.specs.declared.place.Place.{Place}
 use Rattle.slot_history.specs.declared.place.Place.TheVariants.{Asking, Owing}
 use Rattle.slot_history.specs.Sets.{upd}
-use Rattle.slot_history.specs.States.{TaskSet, Ending, SlotState, Empty, Reserved, Open, Shut, Finishing, ObjectState, slot_of, task_of, id_of, has_own_cell, is_inside}
+use Rattle.slot_history.specs.States.{TaskSet, Ending, SlotState, Empty, Open, Shut, ObjectState, slot_of, task_of, id_of, has_own_cell, is_inside}
 use Rattle.slot_history.specs.Steps.{site, slot_after, claimed, finalised_by, held_on, opened, admitted_after, state_after}
 use Rattle.slot_history.specs.Allowed.{IsAllowed}
 use Rattle.slot_history.specs.Histories.{IsLegal, Morsel, claims_of, claims_after}
@@ -34,9 +34,7 @@ Books d S w a life claims p = IsBook (admitted_after a S.admitted) (upd S.slots 
 pub task-id : (x : SlotState) → has_task x ≡ true → (task_of x).id ≡ id_of x
 task-id (Open t) h = refl
 task-id (Shut t e) h = refl
-task-id Empty h = absurd (cc)
-task-id (Reserved w k) h = absurd (cc)
-task-id (Finishing id w k) h = absurd (cc)
+task-id _ h = absurd (cc)
 
 -- the slot at which a worker is inside runs its task set
 pub inside-task : (d : Shape) (S : ObjectState) → IsTable d S → (w s id : ℕ) → w < d.workers → has_own_cell (S.places w) s ≡ true → is_inside (S.places w) id ≡ true

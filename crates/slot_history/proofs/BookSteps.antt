@@ -62,10 +62,7 @@ alike-used (Finishing id u h) n spent = alike-self (Finishing id u h)
 
 pub alike-reserved : (x : SlotState) (w : ℕ) → is_empty x ≡ true → Alike x (Reserved w reservation)
 alike-reserved Empty w h = record { book = λ m life claims s k q e. absurd (cc); query = λ q e. e; task = λ k. absurd (cc) }
-alike-reserved (Reserved u k) w h = absurd (cc)
-alike-reserved (Open t) w h = absurd (cc)
-alike-reserved (Shut t e) w h = absurd (cc)
-alike-reserved (Finishing id u k) w h = absurd (cc)
+alike-reserved _ w h = absurd (cc)
 
 pub alike-released : (x : SlotState) (w : ℕ) (h : Held) → IsHeldBy w h x → Alike x Empty
 alike-released x w h how = ⊎_elim
@@ -88,11 +85,9 @@ book-alike m slots life claims k y same ok =
 
 -- claims of other task sets than those that run in this slot do not matter to it
 book-claims : (m : ℕ) (life : ℕ → Life) (claims more : ℕ → List Morsel) (s : ℕ) (x : SlotState) → ((id total : ℕ) → life id ≡ Runs s total → more id ≡ claims id) → IsSlotBook m life claims s x → IsSlotBook m life more s x
-book-claims m life claims more s Empty same k = k
-book-claims m life claims more s (Reserved w h) same k = k
 book-claims m life claims more s (Open t) same k = record { lives = k.lives; tiles = subst (λ ms. Tiles ms (min t.cursor t.total)) (sym (same t.id t.total k.lives)) k.tiles; later = k.later }
 book-claims m life claims more s (Shut t e) same k = record { lives = k.lives; tiles = subst (λ ms. Tiles ms (min t.cursor t.total)) (sym (same t.id t.total k.lives)) k.tiles; later = k.later }
-book-claims m life claims more s (Finishing id w h) same k = k
+book-claims m life claims more s _ same k = k
 
 -- one more claim, which begins at the cursor
 tiles-more : (life : ℕ → Life) (claims more : ℕ → List Morsel) (s w n from to : ℕ) (t : TaskSet) → from ≡ t.cursor → from < t.total → to ≡ min t.total (from + n) → 0 < n
@@ -109,31 +104,21 @@ slot-more : (m : ℕ) (life : ℕ → Life) (claims more : ℕ → List Morsel) 
     → more (task_of x).id ≡ (record { worker = w; from = from; to = to }) ∷ claims (task_of x).id → IsSlotBook m life claims s x → IsSlotBook m life more s (claimed x n)
 slot-more m life claims more s w n from to (Open t) has at below upto some_tuples is k = tiles-more life claims more s w n from to t at below upto some_tuples is k
 slot-more m life claims more s w n from to (Shut t e) has at below upto some_tuples is k = tiles-more life claims more s w n from to t at below upto some_tuples is k
-slot-more m life claims more s w n from to Empty has at below upto some_tuples is k = absurd (cc)
-slot-more m life claims more s w n from to (Reserved u h) has at below upto some_tuples is k = absurd (cc)
-slot-more m life claims more s w n from to (Finishing id u h) has at below upto some_tuples is k = absurd (cc)
+slot-more m life claims more s w n from to _ has at below upto some_tuples is k = absurd (cc)
 
 claimed-query : (x : SlotState) (n : ℕ) → query_in (claimed x n) ≡ query_in x
 claimed-query Empty n = refl
-claimed-query (Reserved w h) n = refl
-claimed-query (Open t) n = refl
-claimed-query (Shut t e) n = refl
-claimed-query (Finishing id w h) n = refl
+claimed-query _ n = refl
 
 claimed-task : (x : SlotState) (n : ℕ) → (has_task (claimed x n) ≡ has_task x) × ((task_of (claimed x n)).id ≡ (task_of x).id)
 claimed-task Empty n = (refl, refl)
-claimed-task (Reserved w h) n = (refl, refl)
-claimed-task (Open t) n = (refl, refl)
-claimed-task (Shut t e) n = (refl, refl)
-claimed-task (Finishing id w h) n = (refl, refl)
+claimed-task _ n = (refl, refl)
 
 -- a slot that has a task set knows its life
 pub running-life : (m : ℕ) (life : ℕ → Life) (claims : ℕ → List Morsel) (s : ℕ) (x : SlotState) → has_task x ≡ true → IsSlotBook m life claims s x → life (task_of x).id ≡ Runs s (task_of x).total
 running-life m life claims s (Open t) has k = k.lives
 running-life m life claims s (Shut t e) has k = k.lives
-running-life m life claims s Empty has k = absurd (cc)
-running-life m life claims s (Reserved w h) has k = absurd (cc)
-running-life m life claims s (Finishing id w h) has k = absurd (cc)
+running-life m life claims s _ has k = absurd (cc)
 
 pub book-range : (m : ℕ) (slots : ℕ → SlotState) (life : ℕ → Life) (claims : ℕ → List Morsel) (k w n from to : ℕ) → has_task (slots k) ≡ true → from ≡ (task_of (slots k)).cursor → from < (task_of (slots k)).total → to ≡ min (task_of (slots k)).total (from + n) → 0 < n
     → IsBook m slots life claims
@@ -161,11 +146,8 @@ book-range m slots life claims k w n from to has at below upto some_tuples ok =
 -- ---- an admission
 
 book-more : (m : ℕ) (life : ℕ → Life) (claims : ℕ → List Morsel) (s : ℕ) (x : SlotState) → IsSlotBook m life claims s x → IsSlotBook (m + 1) life claims s x
-book-more m life claims s Empty k = k
 book-more m life claims s (Reserved w h) k = λ q e. let r = k q e in (let a : q < m = r.0 in omega arith, r.1)
-book-more m life claims s (Open t) k = k
-book-more m life claims s (Shut t e) k = k
-book-more m life claims s (Finishing id w h) k = k
+book-more m life claims s _ k = k
 
 -- a task set that was installed is of an admitted query
 pub running-low : (m : ℕ) (slots : ℕ → SlotState) (life : ℕ → Life) (claims : ℕ → List Morsel) → IsBook m slots life claims → (id : ℕ) → life id ≢ Never → id / STAGES < m

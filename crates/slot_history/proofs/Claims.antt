@@ -8,7 +8,7 @@ use Rattle.slot_history.specs.declared.act.Act.{Act}
 use Rattle.slot_history.specs.declared.act.Act.TheVariants.{ClaimRange, PayLast, SweepLast}
 use Rattle.slot_history.specs.declared.act.Entry.{Entry}
 use Rattle.slot_history.specs.declared.place.Place.{Place}
-use Rattle.slot_history.specs.States.{TaskSet, SlotState, Empty, Reserved, Open, Shut, Finishing, ObjectState, slot_of, id_at, held_at, task_of, is_inside}
+use Rattle.slot_history.specs.States.{TaskSet, SlotState, Open, Shut, ObjectState, slot_of, id_at, held_at, task_of, is_inside}
 use Rattle.slot_history.specs.Steps.{state_after}
 use Rattle.slot_history.specs.Allowed.{IsAllowed}
 use Rattle.slot_history.specs.Histories.{IsLegal, Morsel, Tiles, claims_of, claims_after, ranges_of, ranges_after, ranges_by, place_of, is_install, installs_of, is_last, lasts_of, total_of, slot_with}
@@ -50,9 +50,7 @@ no-early-claims d h legal id none =
 running-tiles : (m : ℕ) (life : ℕ → Life) (claims : ℕ → List Morsel) (s : ℕ) (x : SlotState) → has_task x ≡ true → IsSlotBook m life claims s x → Tiles (claims (task_of x).id) (min (task_of x).cursor (task_of x).total)
 running-tiles m life claims s (Open t) has k = k.tiles
 running-tiles m life claims s (Shut t e) has k = k.tiles
-running-tiles m life claims s Empty has k = absurd (cc)
-running-tiles m life claims s (Reserved w h) has k = absurd (cc)
-running-tiles m life claims s (Finishing id w h) has k = absurd (cc)
+running-tiles m life claims s _ has k = absurd (cc)
 
 counts-total : (l : Life) (installs lasts s n : ℕ) (total slot : Option ℕ) → l ≡ Runs s n → Counts l installs lasts total slot → total ≡ Some n
 counts-total l installs lasts s n total slot runs k = (let r : (installs ≡ 1) × (lasts ≡ 0) × (total ≡ Some n) × (slot ≡ Some s) = subst (λ z. Counts z installs lasts total slot) runs k in r).2

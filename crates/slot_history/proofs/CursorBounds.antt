@@ -95,18 +95,14 @@ keeps d f g s (Open t) used claiming h = let c : ℕ = t.cursor in let n : ℕ =
 keeps d f g s (Shut t e) used claiming h = let c : ℕ = t.cursor in let n : ℕ = t.total in
     let a : ℕ = count_of d.workers (λ v. not (is_claiming_at s (f v))) in let b : ℕ = count_of d.workers (λ v. not (is_claiming_at s (g v))) in
     let k : a ≤ b = claiming refl in let i : c < n + MOST_CLAIM * (1 + a) = h in let r : c < n + MOST_CLAIM * (1 + b) = omega arith in r
-keeps d f g s Empty used claiming h = tt
-keeps d f g s (Reserved w k) used claiming h = tt
-keeps d f g s (Finishing id w k) used claiming h = tt
+keeps d f g s _ used claiming h = tt
 
 bound-range : (d : Shape) (g : ℕ → Place) (s n : ℕ) (x : SlotState) → (task_of x).cursor < (task_of x).total → n ≤ MOST_CLAIM → IsCursorBound d g s (claimed x n)
 bound-range d g s n (Open t) below most = let c : ℕ = t.cursor in let m : ℕ = t.total in let b : ℕ = count_of d.workers (λ v. is_used_at s (g v)) in
     let i : c < m = below in let r : c + n < m + MOST_CLAIM * (1 + b) = omega arith in r
 bound-range d g s n (Shut t e) below most = let c : ℕ = t.cursor in let m : ℕ = t.total in let b : ℕ = count_of d.workers (λ v. not (is_claiming_at s (g v))) in
     let i : c < m = below in let r : c + n < m + MOST_CLAIM * (1 + b) = omega arith in r
-bound-range d g s n Empty below most = tt
-bound-range d g s n (Reserved w k) below most = tt
-bound-range d g s n (Finishing id w k) below most = tt
+bound-range d g s n _ below most = tt
 
 bound-used : (d : Shape) (f g : ℕ → Place) (s n : ℕ) (x : SlotState) → n ≤ MOST_CLAIM
     → count_of d.workers (λ v. is_used_at s (f v)) + 1 ≤ count_of d.workers (λ v. is_used_at s (g v))
@@ -118,9 +114,7 @@ bound-used d f g s n (Open t) most used claiming h = let c : ℕ = t.cursor in l
 bound-used d f g s n (Shut t e) most used claiming h = let c : ℕ = t.cursor in let m : ℕ = t.total in
     let a : ℕ = count_of d.workers (λ v. not (is_claiming_at s (f v))) in let b : ℕ = count_of d.workers (λ v. not (is_claiming_at s (g v))) in
     let k : a + 1 ≤ b = claiming in let i : c < m + MOST_CLAIM * (1 + a) = h in let r : c + n < m + MOST_CLAIM * (1 + b) = omega arith in r
-bound-used d f g s n Empty most used claiming h = tt
-bound-used d f g s n (Reserved w k) most used claiming h = tt
-bound-used d f g s n (Finishing id w k) most used claiming h = tt
+bound-used d f g s n _ most used claiming h = tt
 
 bound-shut : (d : Shape) (f g : ℕ → Place) (s w : ℕ) (x : SlotState) → is_open x ≡ true
     → count_of d.workers (λ v. is_used_at s (f v)) ≤ count_of d.workers (λ v. not (is_claiming_at s (g v))) → IsCursorBound d f s x → IsCursorBound d g s (shut_by w x)
@@ -128,30 +122,21 @@ bound-shut d f g s w (Open t) open_ more h = let c : ℕ = t.cursor in let m : �
     let a : ℕ = count_of d.workers (λ v. is_used_at s (f v)) in let b : ℕ = count_of d.workers (λ v. not (is_claiming_at s (g v))) in
     let k : a ≤ b = more in let i : c < m + MOST_CLAIM * (1 + a) = h in let r : c < m + MOST_CLAIM * (1 + b) = omega arith in r
 bound-shut d f g s w (Shut t e) open_ more h = absurd (cc)
-bound-shut d f g s w Empty open_ more h = tt
-bound-shut d f g s w (Reserved u k) open_ more h = tt
-bound-shut d f g s w (Finishing id u k) open_ more h = tt
+bound-shut d f g s w _ open_ more h = tt
 
 bound-ended : (d : Shape) (g : ℕ → Place) (s w : ℕ) (a : Act) (x : SlotState) → IsCursorBound d g s x → IsCursorBound d g s (ended d w a x)
 bound-ended d g s w a (Shut t e) h = h
 bound-ended d g s w a (Open t) h = h
-bound-ended d g s w a Empty h = tt
-bound-ended d g s w a (Reserved u k) h = tt
-bound-ended d g s w a (Finishing id u k) h = tt
+bound-ended d g s w a _ h = tt
 
 bound-last : (d : Shape) (g : ℕ → Place) (s w : ℕ) (x : SlotState) → IsCursorBound d g s x → IsCursorBound d g s (finalised_by w x)
-bound-last d g s w (Shut t e) h = tt
 bound-last d g s w (Open t) h = h
-bound-last d g s w Empty h = tt
-bound-last d g s w (Reserved u k) h = tt
-bound-last d g s w (Finishing id u k) h = tt
+bound-last d g s w _ h = tt
 
 bound-held : (d : Shape) (g : ℕ → Place) (s : ℕ) (a : Act) (x : SlotState) → IsCursorBound d g s x → IsCursorBound d g s (held_on a x)
 bound-held d g s a (Shut t e) h = h
 bound-held d g s a (Open t) h = h
-bound-held d g s a Empty h = tt
-bound-held d g s a (Reserved u k) h = tt
-bound-held d g s a (Finishing id u k) h = tt
+bound-held d g s a _ h = tt
 
 bound-fresh : (d : Shape) (g : ℕ → Place) (s id m : ℕ) → IsCursorBound d g s (Open (record { id = id; total = m; cursor = 0 }))
 bound-fresh d g s id m = let b : ℕ = count_of d.workers (λ v. is_used_at s (g v)) in let r : 0 < m + MOST_CLAIM * (1 + b) = omega arith in r

@@ -144,24 +144,15 @@ holds-slot (Open t) v h = λ k. absurd (cc)
 
 pub owes-claimed : (x : SlotState) (n v : ℕ) → owes (claimed x n) v ≡ owes x v
 owes-claimed Empty n v = refl
-owes-claimed (Reserved w h) n v = refl
-owes-claimed (Open t) n v = refl
-owes-claimed (Shut t e) n v = refl
-owes-claimed (Finishing id w h) n v = refl
+owes-claimed _ n v = refl
 
 pub owes-shut : (w : ℕ) (x : SlotState) (v : ℕ) → owes (shut_by w x) v ≡ owes x v
 owes-shut w Empty v = refl
-owes-shut w (Reserved u h) v = refl
-owes-shut w (Open t) v = refl
-owes-shut w (Shut t e) v = refl
-owes-shut w (Finishing id u h) v = refl
+owes-shut w _ v = refl
 
 pub owes-held : (a : Act) (x : SlotState) (v : ℕ) → owes (held_on a x) v ≡ owes x v
 owes-held a Empty v = refl
-owes-held a (Reserved w h) v = refl
-owes-held a (Open t) v = refl
-owes-held a (Shut t e) v = refl
-owes-held a (Finishing id w h) v = refl
+owes-held a _ v = refl
 
 -- who pays owes nothing afterwards, and all others what they owed
 pub paid-clear : (d : Shape) (e : Ending) (w : ℕ) → owing (ending_after d w PayDone e) w ≡ false

@@ -23,14 +23,9 @@ Chains d S w a p = let s = site a p in IsChainOf d (S.slots s) → Meets d s (du
 
 chain-claimed : (d : Shape) (x : SlotState) (n : ℕ) → IsChainOf d x → IsChainOf d (claimed x n)
 chain-claimed d Empty n c = c
-chain-claimed d (Reserved w h) n c = c
-chain-claimed d (Open t) n c = c
-chain-claimed d (Shut t e) n c = c
-chain-claimed d (Finishing id w h) n c = c
+chain-claimed d _ n c = c
 
 chain-shut : (d : Shape) (x : SlotState) (w : ℕ) → w < d.workers → IsChainOf d x → IsChainOf d (shut_by w x)
-chain-shut d Empty w low c = c
-chain-shut d (Reserved u h) w low c = c
 chain-shut d (Open t) w low c = record {
   coordinator = low;
   paid = λ v h. absurd (cc);
@@ -39,29 +34,20 @@ chain-shut d (Open t) w low c = record {
   all_asked = λ h. absurd (cc);
   one_owes = λ h. absurd (cc);
 }
-chain-shut d (Shut t e) w low c = c
-chain-shut d (Finishing id u h) w low c = c
+chain-shut d _ w low c = c
 
 chain-last : (d : Shape) (x : SlotState) (w : ℕ) → w < d.workers → IsChainOf d x → IsChainOf d (finalised_by w x)
-chain-last d Empty w low c = c
-chain-last d (Reserved u h) w low c = c
-chain-last d (Open t) w low c = c
 chain-last d (Shut t e) w low c = low
-chain-last d (Finishing id u h) w low c = c
+chain-last d _ w low c = c
 
 chain-held : (d : Shape) (x : SlotState) (a : Act) → IsChainOf d x → IsChainOf d (held_on a x)
 chain-held d Empty a c = c
-chain-held d (Reserved u h) a c = c
-chain-held d (Open t) a c = c
-chain-held d (Shut t e) a c = c
-chain-held d (Finishing id u h) a c = c
+chain-held d _ a c = c
 
 chain-opened : (d : Shape) (x : SlotState) (id : ℕ) → IsChainOf d x → IsChainOf d (opened id x)
-chain-opened d Empty id c = c
 chain-opened d (Reserved u h) id c = tt
-chain-opened d (Open t) id c = c
-chain-opened d (Shut t e) id c = c
 chain-opened d (Finishing jd u h) id c = tt
+chain-opened d _ id c = c
 
 chain-paid : (d : Shape) (x : SlotState) (w id : ℕ) → IsChainOf d x → duty_of x w ≡ Owes id → (is_swept x ≡ false) ⊎ (0 < debts d (ended d w PayDone x)) → IsChainOf d (ended d w PayDone x)
 chain-paid d x w id chain owe left_over =

@@ -75,9 +75,7 @@ grows-held (Finishing id u k) a = record { same = refl; total = refl; cursor = o
 grows-opened : (x : SlotState) (id : ℕ) → has_task x ≡ true → Grows x (opened id x)
 grows-opened (Shut t e) id h = grows-not (Shut t e)
 grows-opened (Open t) id h = grows-not (Open t)
-grows-opened Empty id h = absurd (cc)
-grows-opened (Reserved u k) id h = absurd (cc)
-grows-opened (Finishing jd u k) id h = absurd (cc)
+grows-opened _ id h = absurd (cc)
 
 pub grows : (d : Shape) (w : ℕ) (a : Act) (x : SlotState) → has_task x ≡ true → has_task (slot_after d w a x) ≡ true → Grows x (slot_after d w a x)
 grows d w (ClaimRange n from to) x before after = grows-claimed x n

@@ -7,7 +7,7 @@ use Rattle.slot_history.specs.declared.act.Act.TheVariants.{ClaimRange, ClaimUse
 use Rattle.slot_history.specs.declared.act.Entry.{Entry}
 use Rattle.slot_history.specs.declared.place.Held.{Held}
 use Rattle.slot_history.specs.declared.place.Place.TheVariants.{Holding}
-use Rattle.slot_history.specs.States.{SlotState, Empty, Reserved, Open, Shut, Finishing, ObjectState, slot_of}
+use Rattle.slot_history.specs.States.{SlotState, Empty, Reserved, Shut, Finishing, ObjectState, slot_of}
 use Rattle.slot_history.specs.Steps.{site, slot_after, claimed, shut_by, ended, finalised_by, held_on, opened, next, state_after}
 use Rattle.slot_history.specs.Allowed.{IsAllowed}
 use Rattle.slot_history.specs.Histories.{IsLegal}
@@ -34,31 +34,19 @@ holder-place d S tab s u h (inr (id, is)) =
 
 sound-claimed : (x : SlotState) (n : ℕ) → IsSlotSound x → IsSlotSound (claimed x n)
 sound-claimed Empty n h = h
-sound-claimed (Reserved w k) n h = h
-sound-claimed (Open t) n h = h
-sound-claimed (Shut t e) n h = h
-sound-claimed (Finishing id w k) n h = h
+sound-claimed _ n h = h
 
 sound-shut : (x : SlotState) (w : ℕ) → IsSlotSound x → IsSlotSound (shut_by w x)
 sound-shut Empty w h = h
-sound-shut (Reserved u k) w h = h
-sound-shut (Open t) w h = h
-sound-shut (Shut t e) w h = h
-sound-shut (Finishing id u k) w h = h
+sound-shut _ w h = h
 
 sound-ended : (d : Shape) (w : ℕ) (a : Act) (x : SlotState) → IsSlotSound x → IsSlotSound (ended d w a x)
 sound-ended d w a Empty h = h
-sound-ended d w a (Reserved u k) h = h
-sound-ended d w a (Open t) h = h
-sound-ended d w a (Shut t e) h = h
-sound-ended d w a (Finishing id u k) h = h
+sound-ended d w a _ h = h
 
 sound-last : (x : SlotState) (w : ℕ) → IsSlotSound x → IsSlotSound (finalised_by w x)
-sound-last Empty w h = h
-sound-last (Reserved u k) w h = h
-sound-last (Open t) w h = h
 sound-last (Shut t e) w h = record { query = refl; stage = refl; again = refl; noted = omega arith; total = omega arith }
-sound-last (Finishing id u k) w h = h
+sound-last _ w h = h
 
 -- a holder that admits, notes or sets a total
 sound-admitted : (x : SlotState) (w q : ℕ) (h : Held) → h.query ≡ None → IsHeldBy w h x → IsSlotSound x → IsSlotSound (held_on (AdmitGot q) x)
@@ -69,23 +57,17 @@ sound-admitted x w q h none how ok = ⊎_elim
 sound-noted : (x : SlotState) (n : ℕ) → n ≤ STAGES → IsSlotSound x → IsSlotSound (held_on (Note n) x)
 sound-noted (Reserved w h) n most k = record { again = k.again; stage = k.stage; noted = most; total = k.total }
 sound-noted (Finishing id w h) n most k = record { query = k.query; stage = k.stage; again = k.again; noted = most; total = k.total }
-sound-noted Empty n most k = k
-sound-noted (Open t) n most k = k
-sound-noted (Shut t e) n most k = k
+sound-noted _ n most k = k
 
 sound-total : (x : SlotState) (t : ℕ) → t ≤ MOST_TOTAL → IsSlotSound x → IsSlotSound (held_on (Total t) x)
 sound-total (Reserved w h) t most k = record { again = k.again; stage = k.stage; noted = k.noted; total = most }
 sound-total (Finishing id w h) t most k = record { query = k.query; stage = k.stage; again = k.again; noted = k.noted; total = most }
-sound-total Empty t most k = k
-sound-total (Open u) t most k = k
-sound-total (Shut u e) t most k = k
+sound-total _ t most k = k
 
 sound-opened : (x : SlotState) (id : ℕ) → IsSlotSound x → IsSlotSound (opened id x)
 sound-opened (Reserved w h) id k = k.total
 sound-opened (Finishing jd w h) id k = k.total
-sound-opened Empty id k = k
-sound-opened (Open u) id k = k
-sound-opened (Shut u e) id k = k
+sound-opened _ id k = k
 
 sound-after : (d : Shape) (S : ObjectState) (w : ℕ) (a : Act) → w < d.workers → IsTable d S → IsAllowed d S w a → IsSlotSound (S.slots (site a (S.places w))) → IsSlotSound (slot_after d w a (S.slots (site a (S.places w))))
 sound-after d S w (ClaimRange n from to) low tab ok = sound-claimed (S.slots (slot_of (S.places w))) n

@@ -24,38 +24,23 @@ use Rattle.slot_history.proofs.Holdings.{holder-slot, slots-sound}
 
 room-claimed : (x : SlotState) (n : ℕ) → note_room (claimed x n) ≡ note_room x
 room-claimed Empty n = refl
-room-claimed (Reserved w h) n = refl
-room-claimed (Open t) n = refl
-room-claimed (Shut t e) n = refl
-room-claimed (Finishing id w h) n = refl
+room-claimed _ n = refl
 
 room-shut : (x : SlotState) (w : ℕ) → note_room (shut_by w x) ≡ note_room x
 room-shut Empty w = refl
-room-shut (Reserved u h) w = refl
-room-shut (Open t) w = refl
-room-shut (Shut t e) w = refl
-room-shut (Finishing id u h) w = refl
+room-shut _ w = refl
 
 room-ended : (d : Shape) (w : ℕ) (a : Act) (x : SlotState) → note_room (ended d w a x) ≡ note_room x
 room-ended d w a Empty = refl
-room-ended d w a (Reserved u h) = refl
-room-ended d w a (Open t) = refl
-room-ended d w a (Shut t e) = refl
-room-ended d w a (Finishing id u h) = refl
+room-ended d w a _ = refl
 
 room-last : (x : SlotState) (w : ℕ) → note_room (finalised_by w x) ≡ note_room x
-room-last Empty w = refl
-room-last (Reserved u h) w = refl
-room-last (Open t) w = refl
 room-last (Shut t e) w = let r : STAGES * (STAGES - t.id % STAGES) - 0 ≡ STAGES * (STAGES - t.id % STAGES) = omega arith in r
-room-last (Finishing id u h) w = refl
+room-last _ w = refl
 
 room-total : (x : SlotState) (t : ℕ) → note_room (held_on (Total t) x) ≡ note_room x
 room-total Empty t = refl
-room-total (Reserved u h) t = refl
-room-total (Open v) t = refl
-room-total (Shut v e) t = refl
-room-total (Finishing id u h) t = refl
+room-total _ t = refl
 
 room-admitted : (x : SlotState) (q : ℕ) → note_room (held_on (AdmitGot q) x) ≤ note_room x + STAGES * (STAGES + 1)
 room-admitted Empty q = omega arith
@@ -133,10 +118,7 @@ pays d S w a low tab ok = λ k. pays-same (note_room (S.slots (site a (S.places 
 
 room-empty : (x : SlotState) → is_empty x ≡ true → note_room x ≡ 0
 room-empty Empty h = refl
-room-empty (Reserved w k) h = absurd (cc)
-room-empty (Open t) h = absurd (cc)
-room-empty (Shut t e) h = absurd (cc)
-room-empty (Finishing id w k) h = absurd (cc)
+room-empty _ h = absurd (cc)
 
 pub finished-next : (d : Shape) (S : ObjectState) (w : ℕ) (a : Act) → w < d.workers → IsTable d S → IsWithin d S → AreSlotsSound d S → IsFinishedBound d S → IsAllowed d S w a → IsFinishedBound d (next d S w a)
 finished-next d S w a low tab near sound ok fine =

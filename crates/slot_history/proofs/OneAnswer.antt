@@ -81,24 +81,17 @@ answered d S tab w (TakingChange part) low ok = (ok, mask-is part (S.changes w))
 
 look-open : (x : SlotState) (id : ℕ) → is_open x ≡ true → id ≡ id_of x → LookOpen id ≡ looked_at x
 look-open (Open t) id h e = ap LookOpen e
-look-open Empty id h e = absurd (cc)
-look-open (Reserved w k) id h e = absurd (cc)
-look-open (Shut t g) id h e = absurd (cc)
-look-open (Finishing jd w k) id h e = absurd (cc)
+look-open _ id h e = absurd (cc)
 
 look-invalid : (x : SlotState) → is_tagged x ≡ true → LookInvalid ≡ looked_at x
 look-invalid (Shut t e) h = refl
 look-invalid (Finishing id w k) h = refl
-look-invalid Empty h = absurd (cc)
-look-invalid (Reserved w k) h = absurd (cc)
-look-invalid (Open t) h = absurd (cc)
+look-invalid _ h = absurd (cc)
 
 look-vacant : (x : SlotState) → is_vacant x ≡ true → LookVacant ≡ looked_at x
 look-vacant Empty h = refl
 look-vacant (Reserved w k) h = refl
-look-vacant (Shut t e) h = absurd (cc)
-look-vacant (Finishing id w k) h = absurd (cc)
-look-vacant (Open t) h = absurd (cc)
+look-vacant _ h = absurd (cc)
 
 yes-answer : (b : Bool) (x y : Act) → b ≡ true → x ≡ cond b x y
 yes-answer b x y h = sym (cond-true b x y h)
@@ -151,10 +144,7 @@ only-answer d S w _ ok = refl
 
 call-of-look : (x : SlotState) → call_of (looked_at x) ≡ Looking
 call-of-look Empty = refl
-call-of-look (Reserved w h) = refl
-call-of-look (Open t) = refl
-call-of-look (Shut t e) = refl
-call-of-look (Finishing id w h) = refl
+call-of-look _ = refl
 
 call-of-either : (b : Bool) (x y : Act) (c : Call) → call_of x ≡ c → call_of y ≡ c → call_of (cond b x y) ≡ c
 call-of-either b x y c of_x of_y = cond_both b x y (λ a. call_of a ≡ c) (λ k. of_x) (λ k. of_y)

@@ -11,7 +11,7 @@ use Rattle.slot_history.specs.declared.place.Held.{Held}
 use Rattle.slot_history.specs.declared.place.Place.{Place}
 use Rattle.slot_history.specs.declared.place.Place.TheVariants.{Entered, Astray, Inside, Used, Behind, Leading, Asking, Owing, Holding}
 use Rattle.slot_history.specs.Sets.{upd}
-use Rattle.slot_history.specs.States.{TaskSet, Ending, SlotState, Empty, Reserved, Open, Shut, Finishing, ObjectState, slot_of, is_empty, is_open, is_swept, is_at, owes, reservation, finalisation}
+use Rattle.slot_history.specs.States.{TaskSet, Ending, SlotState, Empty, Open, Shut, ObjectState, slot_of, is_empty, is_open, is_swept, is_at, owes, reservation, finalisation}
 use Rattle.slot_history.specs.Steps.{site, slot_after, held_after, shut_by, first_ending, next_asked, ending_after, ended, finalised_by, held_on, opened}
 use Rattle.slot_history.specs.Allowed.{IsAllowed, debts, next_is_at}
 use Rattle.slot_history.specs.Table.{Visits, Unasked, Owes, Holds, owing, duty_at_end, duty_of, works, lags, nth_other, HasAsked, IsLeading, Meets, IsChain, IsChainOf}
@@ -35,10 +35,7 @@ works-lags _ h = absurd (cc)
 theirs-shut : (d : Shape) (x : SlotState) (s v w : ℕ) (q : Place) → v ≢ w → is_open x ≡ true → Meets d s (duty_of x v) q → Meets d s (duty_of (shut_by w x) v) q
 theirs-shut d (Open t) s v w q other h m = subst (λ D. Meets d s D q) (sym (end-unasked t.id (first_ending w) v other refl))
     (λ b k. let r = m b k in (works-lags q r.0, r.1))
-theirs-shut d Empty s v w q other h m = absurd (cc)
-theirs-shut d (Reserved u k) s v w q other h m = absurd (cc)
-theirs-shut d (Shut t g) s v w q other h m = absurd (cc)
-theirs-shut d (Finishing jd u k) s v w q other h m = absurd (cc)
+theirs-shut d _ s v w q other h m = absurd (cc)
 
 -- where nobody but w has still to come or to pay, all others are visitors
 visits-at-end : (d : Shape) (t : TaskSet) (e : Ending) (s v : ℕ) (q : Place) → (v ≡ e.coordinator → e.swept ≡ true) → (v ≢ e.coordinator → e.asked v ≡ true) → owing e v ≡ false
@@ -198,10 +195,7 @@ theirs-swept d x s v w id n m k q other meets mine_too =
 
 theirs-reserved : (d : Shape) (x : SlotState) (s v w : ℕ) (q : Place) → v ≢ w → is_empty x ≡ true → Meets d s (duty_of x v) q → Meets d s (cond (eqb v w) (Holds reservation) Visits) q
 theirs-reserved d Empty s v w q other h m = subst (λ D. Meets d s D q) (sym (held-other reservation v w other)) m
-theirs-reserved d (Reserved u k) s v w q other h m = absurd (cc)
-theirs-reserved d (Open t) s v w q other h m = absurd (cc)
-theirs-reserved d (Shut t e) s v w q other h m = absurd (cc)
-theirs-reserved d (Finishing jd u k) s v w q other h m = absurd (cc)
+theirs-reserved d _ s v w q other h m = absurd (cc)
 
 -- beside a holder all are visitors
 visits-held : (d : Shape) (x : SlotState) (s v w : ℕ) (h : Held) (q : Place) → v ≢ w → Meets d s (duty_of x w) (Holding s h) → Meets d s (duty_of x v) q → Meets d s Visits q

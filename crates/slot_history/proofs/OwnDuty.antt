@@ -9,7 +9,7 @@ use Rattle.slot_history.specs.declared.place.Held.{Held}
 use Rattle.slot_history.specs.declared.place.Place.{Place}
 use Rattle.slot_history.specs.declared.place.Place.TheVariants.{Free, Entered, Astray, Inside, Used, Behind, Leading, Asking, Owing, Holding, Announcing}
 use Rattle.slot_history.specs.Sets.{upd, count_of}
-use Rattle.slot_history.specs.States.{TaskSet, Ending, SlotState, Empty, Reserved, Open, Shut, Finishing, ObjectState, slot_of, id_of, is_open, is_shut, owes, can_leave, reservation, finalisation}
+use Rattle.slot_history.specs.States.{TaskSet, Ending, SlotState, Empty, Open, Shut, ObjectState, slot_of, id_of, is_open, is_shut, owes, can_leave, reservation, finalisation}
 use Rattle.slot_history.specs.Steps.{site, moved, left, told_one, slot_after, held_after, claimed, shut_by, first_ending, next_asked, ending_after, ended, finalised_by, held_on, opened}
 use Rattle.slot_history.specs.Allowed.{IsAllowed}
 use Rattle.slot_history.specs.Table.{Duty, Visits, Works, Unasked, Owes, Leads, Holds, duty_of, binds, nth_other, HasAsked, IsLeading, Meets, IsChain, IsChainOf}
@@ -21,20 +21,16 @@ use Rattle.slot_history.proofs.Duties.{paid-clear, end-cases, end-rests, end-lea
 
 -- to the slot that was entered
 enters : (d : Shape) (s : ℕ) (D : Duty) → Meets d s D Free → Meets d s D (Entered s)
-enters d s Visits m = λ b. absurd (cc)
-enters d s (Works id) m = λ b. absurd (cc)
-enters d s (Unasked id) m = λ b. absurd (cc)
 enters d s (Owes id) m = let r = m.1 in absurd (cc)
 enters d s (Leads id e) m = absurd m.2
 enters d s (Holds h) m = absurd (cc)
+enters d s _ m = λ b. absurd (cc)
 
 strays : (d : Shape) (s : ℕ) (D : Duty) → Meets d s D (Entered s) → Meets d s D (Astray s)
-strays d s Visits m = λ b. absurd (cc)
-strays d s (Works id) m = λ b. absurd (cc)
-strays d s (Unasked id) m = λ b. absurd (cc)
 strays d s (Owes id) m = (refl, refl, λ b. absurd (cc))
 strays d s (Leads id e) m = absurd m.2
 strays d s (Holds h) m = absurd (cc)
+strays d s _ m = λ b. absurd (cc)
 
 uses : (d : Shape) (s id : ℕ) (D : Duty) → Meets d s D (Inside s id) → Meets d s D (Used s id)
 uses d s id Visits m = m
@@ -55,19 +51,14 @@ falls_behind d s id (Holds h) shut m = absurd (cc)
 
 shut-no-work : (x : SlotState) (v : ℕ) → is_shut x ≡ true → (jd : ℕ) → duty_of x v ≢ Works jd
 shut-no-work (Shut t e) v h jd = end-cases t.id e v (λ D. D ≢ Works jd) (λ a b c. absurd (cc)) (λ a b c. absurd (cc)) (λ a b c k. absurd (cc)) (λ a b c k. absurd (cc)) (λ a b k. absurd (cc))
-shut-no-work Empty v h jd = absurd (cc)
-shut-no-work (Reserved w k) v h jd = absurd (cc)
-shut-no-work (Open t) v h jd = absurd (cc)
-shut-no-work (Finishing id w k) v h jd = absurd (cc)
+shut-no-work _ v h jd = absurd (cc)
 
 -- from a place of the slot at which nothing but a debt ties it, to one that is no tie
 frees : (d : Shape) (s : ℕ) (p q : Place) (D : Duty) → slot_of p ≡ s → binds q ≡ false → ((e : Ending) → IsLeading d e p → ⊥) → ((h : Held) → p ≢ Holding s h) → ((id : ℕ) → D ≢ Owes id) → Meets d s D p → Meets d s D q
-frees d s p q Visits at loose follows empty clear m = λ b. absurd (true≢false (sym b ∙ loose))
-frees d s p q (Works id) at loose follows empty clear m = λ b. absurd (true≢false (sym b ∙ loose))
-frees d s p q (Unasked id) at loose follows empty clear m = λ b. absurd (true≢false (sym b ∙ loose))
 frees d s p q (Owes id) at loose follows empty clear m = absurd (clear id refl)
 frees d s p q (Leads id e) at loose follows empty clear m = absurd (follows e m.2)
 frees d s p q (Holds h) at loose follows empty clear m = absurd (empty h m)
+frees d s p q _ at loose follows empty clear m = λ b. absurd (true≢false (sym b ∙ loose))
 
 -- an announcer has no tie, and so no debt
 tells : (d : Shape) (s : ℕ) (again : Bool) (k : ℕ) (q : Place) (D : Duty) → binds q ≡ false → Meets d s D (Announcing s again k) → Meets d s D q
@@ -84,25 +75,16 @@ Mine d S w a p = let s = site a p in IsChainOf d (S.slots s) → Meets d s (duty
 -- a claim changes no duty
 pub claims-same : (x : SlotState) (n v : ℕ) → duty_of (claimed x n) v ≡ duty_of x v
 claims-same Empty n v = refl
-claims-same (Reserved w h) n v = refl
-claims-same (Open t) n v = refl
-claims-same (Shut t e) n v = refl
-claims-same (Finishing id w h) n v = refl
+claims-same _ n v = refl
 
 mine-open : (d : Shape) (x : SlotState) (s w id : ℕ) → is_open x ≡ true → id ≡ id_of x → Meets d s (duty_of x w) (Inside s id)
 mine-open d (Open t) s w id h e = λ b k. (refl, e)
-mine-open d Empty s w id h e = absurd (cc)
-mine-open d (Reserved u k) s w id h e = absurd (cc)
-mine-open d (Shut t g) s w id h e = absurd (cc)
-mine-open d (Finishing jd u k) s w id h e = absurd (cc)
+mine-open d _ s w id h e = absurd (cc)
 
 mine-shut : (d : Shape) (x : SlotState) (s w id : ℕ) → w < d.workers → is_open x ≡ true → Meets d s (duty_of x w) (Used s id) → Meets d s (duty_of (shut_by w x) w) (Leading s id)
 mine-shut d (Open t) s w id low h m = subst (λ D. Meets d s D (Leading s id)) (sym (end-leads t.id (first_ending w) w refl refl))
     (refl, (m refl refl).1, record { first = asked-none w; marks = count-none d.workers (λ v. false) (λ v k. refl); within = omega arith })
-mine-shut d Empty s w id low h m = absurd (cc)
-mine-shut d (Reserved u k) s w id low h m = absurd (cc)
-mine-shut d (Shut t g) s w id low h m = absurd (cc)
-mine-shut d (Finishing jd u k) s w id low h m = absurd (cc)
+mine-shut d _ s w id low h m = absurd (cc)
 
 -- who may leave and owes nothing
 mine-left : (d : Shape) (x : SlotState) (w : ℕ) (p : Place) → can_leave p ≡ true → owes x w ≡ false → Meets d (slot_of p) (duty_of x w) p → Meets d (slot_of p) (duty_of x w) (left p)
@@ -111,13 +93,7 @@ mine-left d x w (Inside s id) can clear m = frees d s (Inside s id) Free (duty_o
 mine-left d x w (Behind s id) can clear m = frees d s (Behind s id) Free (duty_of x w) refl refl (λ e f. f) (λ h e. absurd (cc)) (λ jd. not-owes x w jd clear) m
 mine-left d x w (Leading s id) can clear m = let r = leading-leads d s id (duty_of x w) m in
     subst (λ D. Meets d s D (Asking s id 0 0)) (sym r.1) (refl, refl, r.2)
-mine-left d x w Free can clear m = absurd (cc)
-mine-left d x w (Entered s) can clear m = absurd (cc)
-mine-left d x w (Used s id) can clear m = absurd (cc)
-mine-left d x w (Asking s id n k) can clear m = absurd (cc)
-mine-left d x w (Owing s id) can clear m = absurd (cc)
-mine-left d x w (Holding s h) can clear m = absurd (cc)
-mine-left d x w (Announcing s b k) can clear m = absurd (cc)
+mine-left d x w _ can clear m = absurd (cc)
 
 -- who pays last or sweeps last holds the slot
 mine-last : (d : Shape) (x : SlotState) (t : TaskSet) (e : Ending) (s w id : ℕ) → x ≡ Shut t e → t.id ≡ id → Meets d s (duty_of (finalised_by w x) w) (Holding s (finalisation id))

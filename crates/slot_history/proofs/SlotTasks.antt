@@ -7,7 +7,7 @@ use Rattle.slot_history.specs.declared.act.Act.TheVariants.{ClaimRange, ClaimUse
 use Rattle.slot_history.specs.declared.act.Entry.{Entry}
 use Rattle.slot_history.specs.declared.place.Held.{Held}
 use Rattle.slot_history.specs.declared.place.Place.{Place}
-use Rattle.slot_history.specs.States.{SlotState, Empty, Reserved, Open, Shut, Finishing, ObjectState, slot_of, task_at}
+use Rattle.slot_history.specs.States.{SlotState, Open, ObjectState, slot_of, task_at}
 use Rattle.slot_history.specs.Steps.{site, slot_after, claimed, shut_by, ended, finalised_by, held_on, opened, state_after}
 use Rattle.slot_history.specs.Allowed.{IsAllowed}
 use Rattle.slot_history.specs.Histories.{IsLegal, place_of, is_install, installs_of, lasts_of, total_of, slot_with, renews, task_given, task_in}
@@ -23,38 +23,23 @@ use Rattle.slot_history.proofs.Counts.{install-never, counts}
 
 at-claimed : (x : SlotState) (n : ℕ) → task_at (claimed x n) ≡ task_at x
 at-claimed (Open t) n = refl
-at-claimed (Shut t e) n = refl
-at-claimed Empty n = refl
-at-claimed (Reserved w h) n = refl
-at-claimed (Finishing id w h) n = refl
+at-claimed _ n = refl
 
 at-shut : (x : SlotState) (w : ℕ) → task_at (shut_by w x) ≡ task_at x
 at-shut (Open t) w = refl
-at-shut (Shut t e) w = refl
-at-shut Empty w = refl
-at-shut (Reserved u h) w = refl
-at-shut (Finishing id u h) w = refl
+at-shut _ w = refl
 
 at-ended : (d : Shape) (w : ℕ) (a : Act) (x : SlotState) → task_at (ended d w a x) ≡ task_at x
 at-ended d w a (Open t) = refl
-at-ended d w a (Shut t e) = refl
-at-ended d w a Empty = refl
-at-ended d w a (Reserved u h) = refl
-at-ended d w a (Finishing id u h) = refl
+at-ended d w a _ = refl
 
 at-last : (x : SlotState) (w : ℕ) → task_at (finalised_by w x) ≡ task_at x
 at-last (Open t) w = refl
-at-last (Shut t e) w = refl
-at-last Empty w = refl
-at-last (Reserved u h) w = refl
-at-last (Finishing id u h) w = refl
+at-last _ w = refl
 
 at-held : (a : Act) (x : SlotState) → task_at (held_on a x) ≡ task_at x
 at-held a (Open t) = refl
-at-held a (Shut t e) = refl
-at-held a Empty = refl
-at-held a (Reserved w h) = refl
-at-held a (Finishing id w h) = refl
+at-held a _ = refl
 
 at-opened : (x : SlotState) (id w : ℕ) (h : Held) → IsHeldBy w h x → task_at (opened id x) ≡ Some id
 at-opened x id w h how = ⊎_elim (λ e. ap (λ y. task_at (opened id y)) e) (λ r. ap (λ y. task_at (opened id y)) r.1) how

@@ -6,7 +6,7 @@ use Rattle.slot_history.specs.declared.act.Act.TheVariants.{PayDone}
 use Rattle.slot_history.specs.declared.place.Held.{Held}
 use Rattle.slot_history.specs.declared.place.Place.{Place}
 use Rattle.slot_history.specs.declared.place.Place.TheVariants.{Entered, Astray, Inside, Used, Behind, Leading}
-use Rattle.slot_history.specs.States.{SlotState, Empty, Reserved, Open, Shut, Finishing, slot_of, slot_word, is_at, is_empty, owes, can_leave}
+use Rattle.slot_history.specs.States.{SlotState, Empty, Shut, slot_of, slot_word, is_at, is_empty, owes, can_leave}
 use Rattle.slot_history.specs.Steps.{left, claimed, ended, held_on, finalised_by}
 use Rattle.slot_history.proofs.Duties.{IsHeldBy, owing-else}
 
@@ -35,10 +35,7 @@ word-empty _ h = absurd (cc)
 
 pub word-full : (x : SlotState) → is_empty x ≡ false → slot_word x ≢ 0
 word-full Empty h = absurd (cc)
-word-full (Reserved w k) h = λ z. absurd (omega arith)
-word-full (Open t) h = λ z. absurd (omega arith)
-word-full (Shut t e) h = λ z. absurd (omega arith)
-word-full (Finishing id w k) h = λ z. absurd (omega arith)
+word-full _ h = λ z. absurd (omega arith)
 
 -- ---- debts
 

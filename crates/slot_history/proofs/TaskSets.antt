@@ -9,7 +9,7 @@ use Rattle.slot_history.specs.declared.act.Act.TheVariants.{LookOpen, ClaimRange
 use Rattle.slot_history.specs.declared.act.Entry.{Entry}
 use Rattle.slot_history.specs.declared.place.Held.{Held}
 use Rattle.slot_history.specs.declared.place.Place.TheVariants.{Inside, Used, Asking}
-use Rattle.slot_history.specs.States.{SlotState, Empty, Reserved, Open, Shut, Finishing, ObjectState, slot_of, id_at, task_of, is_empty, is_inside}
+use Rattle.slot_history.specs.States.{SlotState, Empty, ObjectState, slot_of, id_at, task_of, is_empty, is_inside}
 use Rattle.slot_history.specs.Steps.{site, state_after}
 use Rattle.slot_history.specs.Allowed.{IsAllowed}
 use Rattle.slot_history.specs.Histories.{IsLegal, place_of, installs_of, lasts_of, total_of, slot_with, touches, renews}
@@ -39,10 +39,7 @@ none-inside d id h legal some_last v = false_from_ne_true (is_inside (place_of d
 
 empty-idle : (x : SlotState) → is_empty x ≡ true → has_task x ≡ false
 empty-idle Empty h = refl
-empty-idle (Open t) h = absurd (cc)
-empty-idle (Shut t e) h = absurd (cc)
-empty-idle (Reserved w k) h = absurd (cc)
-empty-idle (Finishing id w k) h = absurd (cc)
+empty-idle _ h = absurd (cc)
 
 held-idle : (x : SlotState) (w : ℕ) (h : Held) → IsHeldBy w h x → has_task x ≡ false
 held-idle x w h how = ⊎_elim (λ e. ap has_task e) (λ r. ap has_task r.1) how

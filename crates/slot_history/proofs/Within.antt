@@ -7,7 +7,7 @@ use Rattle.slot_history.specs.declared.act.Act.{Act}
 use Rattle.slot_history.specs.declared.act.Act.TheVariants.{Enter, LookOpen, LookInvalid, LookVacant, ClaimRange, ClaimUsed, ShutWon, ShutLost, LeaveLeft, LeaveOwe, PayLast, PayDone, MarkMarked, MarkMissed, SweepLast, SweepOthers, ReserveGot, AdmitGot, Note, Total, Install, Release, Tell, TakeReturn, TakeChange}
 use Rattle.slot_history.specs.declared.act.Entry.{Entry}
 use Rattle.slot_history.specs.declared.place.Place.{Place}
-use Rattle.slot_history.specs.declared.place.Place.TheVariants.{Free, Entered, Astray, Inside, Used, Behind, Leading, Asking, Owing, Holding, Announcing}
+use Rattle.slot_history.specs.declared.place.Place.TheVariants.{Free, Leading, Announcing}
 use Rattle.slot_history.specs.Sets.{upd}
 use Rattle.slot_history.specs.States.{SlotState, Empty, Reserved, Open, Shut, Finishing, ObjectState, slot_of, is_empty, can_leave}
 use Rattle.slot_history.specs.Steps.{site, moved, left, told_one, slot_after, is_in_part, told, taken, changes_after, returns_after, admitted_after, next, state_after}
@@ -27,15 +27,7 @@ left-within d _ k = tt
 pub within-slots : (d : Shape) (p : Place) → IsPlaceWithin d p → p ≢ Free → slot_of p < d.slots
 within-slots d Free k busy = absurd (busy refl)
 within-slots d (Announcing s again told) k busy = k.0
-within-slots d (Entered s) k busy = k
-within-slots d (Astray s) k busy = k
-within-slots d (Inside s id) k busy = k
-within-slots d (Used s id) k busy = k
-within-slots d (Behind s id) k busy = k
-within-slots d (Leading s id) k busy = k
-within-slots d (Asking s id asked marked) k busy = k
-within-slots d (Owing s id) k busy = k
-within-slots d (Holding s h) k busy = k
+within-slots d _ k busy = k
 
 told-within : (d : Shape) (s : ℕ) (again : Bool) (k : ℕ) → IsPlaceWithin d (Announcing s again k) → IsPlaceWithin d (told_one d (Announcing s again k))
 told-within d s again k h = pick (k + 1) d.workers Free (Announcing s again (k + 1)) (IsPlaceWithin d) (λ e. tt) (λ n. (h.0, let b : k < d.workers = h.1 in omega arith))

@@ -1,7 +1,7 @@
 -- The claims of a task set tile what was claimed of it, and its total in the end. It rules out a claim that is not cut at
 -- the total, and a claim after the last call.
-use Rattle.std.proofs.Common.{◌≡◌, ℕ, ◌<◌, Bool, true, false, cond, eqb, ◌&&◌, min, List, [], ◌∷◌, Option, Some, refl, sym, ap, ◌∙◌, subst, inr, ⊎_elim, arith, eq-eqb, ne_eqb, eqb-true}
-use Rattle.std.specs.Prelude.{unwrap_or, IsSome}
+use Rattle.std.proofs.Common.{◌≡◌, ℕ, ◌<◌, Bool, true, false, cond, eqb, ◌&&◌, min, List, [], ◌∷◌, refl, sym, ap, ◌∙◌, subst, inr, ⊎_elim, arith, eq-eqb, ne_eqb, eqb-true}
+use Rattle.std.specs.Prelude.{unwrap_or}
 use Rattle.std.proofs.lemmas.Bool.{cond_both, cases_Bool, and_parts}
 use Rattle.slot_history.specs.declared.shape.Shape.{Shape}
 use Rattle.slot_history.specs.declared.act.Act.{Act}
@@ -11,8 +11,8 @@ use Rattle.slot_history.specs.declared.place.Place.{Place}
 use Rattle.slot_history.specs.States.{TaskSet, SlotState, Open, Shut, ObjectState, slot_of, id_at, held_at, task_of, is_inside}
 use Rattle.slot_history.specs.Steps.{state_after}
 use Rattle.slot_history.specs.Allowed.{IsAllowed}
-use Rattle.slot_history.specs.Histories.{IsLegal, Morsel, Tiles, claims_of, claims_after, ranges_of, ranges_after, ranges_by, place_of, is_install, installs_of, is_last, lasts_of, total_of, slot_with}
-use Rattle.slot_history.specs.Lives.{Life, Never, Runs, Done, done, life_of, Counts, has_task, IsSlotBook}
+use Rattle.slot_history.specs.Histories.{IsLegal, Morsel, Tiles, claims_of, claims_after, ranges_of, ranges_after, ranges_by, place_of, is_install, is_last, lasts_of}
+use Rattle.slot_history.specs.Lives.{Life, Never, Runs, Done, done, life_of, has_task, IsSlotBook}
 use Rattle.slot_history.specs.Laws.{NoEarlyClaims, TilesCursor, TilesTotal, FinishingLast}
 use Rattle.slot_history.proofs.Sets.{pick}
 use Rattle.slot_history.proofs.Table.{table}
@@ -21,7 +21,7 @@ use Rattle.slot_history.proofs.Cursors.{cursors}
 use Rattle.slot_history.proofs.Growth.{open-or-shut}
 use Rattle.slot_history.proofs.BookSteps.{tiles-spent}
 use Rattle.slot_history.proofs.Book.{book, inside-task}
-use Rattle.slot_history.proofs.Counts.{slot-runs, last-runs, counts, counts-never, counts-done}
+use Rattle.slot_history.proofs.Counts.{slot-runs, last-runs, counts-as, counts-never, counts-done}
 
 -- ---- claims
 
@@ -43,7 +43,7 @@ ranges-claims d w id (e ∷ es) = ranges-step e.act w e.worker (place_of d es e.
 
 pub no-early-claims : (d : Shape) (h : List Entry) → IsLegal d h → NoEarlyClaims d h
 no-early-claims d h legal id none =
-    let never : life_of d id h ≡ Never = counts-never (life_of d id h) (installs_of id h) (lasts_of d id h) (total_of d id h) (slot_with d id h) (counts d id h legal) none in
+    let never : life_of d id h ≡ Never = counts-never d id h legal none in
     let empty : claims_of d id h ≡ [] = (book d h legal).never id never in
     (empty, λ w. ranges-claims d w id h ∙ ap (ranges_by w) empty)
 
@@ -52,12 +52,9 @@ running-tiles m life claims s (Open t) has k = k.tiles
 running-tiles m life claims s (Shut t e) has k = k.tiles
 running-tiles m life claims s _ has k = absurd (cc)
 
-counts-total : (l : Life) (installs lasts s n : ℕ) (total slot : Option ℕ) → l ≡ Runs s n → Counts l installs lasts total slot → total ≡ Some n
-counts-total l installs lasts s n total slot runs k = (let r : (installs ≡ 1) × (lasts ≡ 0) × (total ≡ Some n) × (slot ≡ Some s) = subst (λ z. Counts z installs lasts total slot) runs k in r).2
-
 pub tiles-cursor : (d : Shape) (h : List Entry) → IsLegal d h → TilesCursor d h
 tiles-cursor d h legal s has = let x : SlotState = (state_after d h).slots s in let t : TaskSet = task_of x in (
-  counts-total (life_of d t.id h) (installs_of t.id h) (lasts_of d t.id h) s t.total (total_of d t.id h) (slot_with d t.id h) (slot-runs d h legal s has) (counts d t.id h legal),
+  (counts-as d t.id h legal (Runs s t.total) (slot-runs d h legal s has)).2,
   running-tiles (state_after d h).admitted (λ j. life_of d j h) (λ j. claims_of d j h) s x has ((book d h legal).slot s),
 )
 
@@ -103,14 +100,11 @@ pub tiles-total : (d : Shape) (h : List Entry) → IsLegal d h → TilesTotal d 
 tiles-total d h legal = (
   λ s shut_. let x : SlotState = (state_after d h).slots s in let t : TaskSet = task_of x in
       tiles-spent (claims_of d t.id h) t.cursor t.total t.total ((cursors d h legal).shut s shut_) refl (tiles-cursor d h legal s (open-or-shut x (inr shut_))).1,
-  λ id some_last. let k = counts-done (life_of d id h) (installs_of id h) (lasts_of d id h) (total_of d id h) (slot_with d id h) (counts d id h legal) some_last in
+  λ id some_last. let k = counts-done d id h legal some_last in
       (k.0, k.2, tiles-done d id h legal k.0 k.1),
 )
-
-lasts-done : (l : Life) (installs lasts n : ℕ) (total slot : Option ℕ) → l ≡ Done n → Counts l installs lasts total slot → 0 < lasts
-lasts-done l installs lasts n total slot over k = let r : (installs ≡ 1) × (lasts ≡ 1) × (total ≡ Some n) × IsSome slot = subst (λ z. Counts z installs lasts total slot) over k in let e : lasts ≡ 1 = r.1 in omega arith
 
 pub finishing-last : (d : Shape) (h : List Entry) → IsLegal d h → FinishingLast d h
 finishing-last d h legal s id w held is =
     let k = subst (IsSlotBook (state_after d h).admitted (λ j. life_of d j h) (λ j. claims_of d j h) s) is ((book d h legal).slot s) in
-    lasts-done (life_of d id h) (installs_of id h) (lasts_of d id h) k.0 (total_of d id h) (slot_with d id h) k.1 (counts d id h legal)
+    let one : lasts_of d id h ≡ 1 = (counts-as d id h legal (Done k.0) k.1).1 in omega arith

@@ -1,5 +1,5 @@
 -- Each task set is installed once, and each query admitted once. It rules out a shut that two workers win.
-use Rattle.std.proofs.Common.{◌≡◌, ℕ, ◌+◌, ◌<◌, ◌≤◌, Bool, true, false, cond, eqb, ◌&&◌, min, List, [], ◌∷◌, Option, Some, None, refl, sym, ap, ◌∙◌, subst, ⊎_elim, arith, eqb-true}
+use Rattle.std.proofs.Common.{◌≡◌, ◌≢◌, ℕ, ◌+◌, ◌<◌, ◌≤◌, Bool, true, false, cond, eqb, ◌&&◌, min, List, [], ◌∷◌, Option, Some, None, refl, sym, ap, ◌∙◌, subst, ⊎_elim, arith, eqb-true}
 use Rattle.std.specs.Prelude.{unwrap_or, IsSome}
 use Rattle.std.proofs.lemmas.Bool.{cases_Bool, cases_lt, and_parts, and_left}
 use Rattle.slot_history.specs.declared.shape.Shape.{Shape}
@@ -12,7 +12,7 @@ use Rattle.slot_history.specs.Steps.{admitted_after, state_after}
 use Rattle.slot_history.specs.Allowed.{IsAllowed}
 use Rattle.slot_history.specs.Histories.{IsLegal, Tiles, claims_of, place_of, is_install, installs_of, is_admit, admits_of, is_last, lasts_of, total_of, slot_with}
 use Rattle.slot_history.specs.Table.{IsTable}
-use Rattle.slot_history.specs.Lives.{Life, Never, Runs, Done, done, life_of, Counts, has_task, IsRunning, IsSlotBook}
+use Rattle.slot_history.specs.Lives.{Life, Never, Runs, Done, Tally, done, life_of, tally_of, Counts, CountsOf, has_task, IsRunning, IsSlotBook}
 use Rattle.slot_history.specs.Laws.{OnlyOnce}
 use Rattle.slot_history.proofs.Sets.{pick, some-unwrapped}
 use Rattle.slot_history.proofs.Table.{table}
@@ -70,70 +70,134 @@ last-runs d h w a id legal low ok this at =
 
 -- ---- counts
 
-counts-installed : (l : Life) (installs lasts s : ℕ) (total slot o : Option ℕ) → l ≡ Never → IsSome o → Counts l installs lasts total slot → Counts (Runs s (unwrap_or o 0)) (1 + installs) lasts o (Some s)
-counts-installed l installs lasts s total slot o new some_total k =
-    let r : (installs ≡ 0) × (lasts ≡ 0) × (total ≡ None) × (slot ≡ None) = subst (λ z. Counts z installs lasts total slot) new k in
-    (let e : installs ≡ 0 = r.0 in omega arith, r.1, some-unwrapped o 0 some_total, refl)
+counts-installed : (l : Life) (c : Tally) (s : ℕ) (o : Option ℕ) → l ≡ Never → IsSome o → Counts l c
+    → Counts (Runs s (unwrap_or o 0)) (record { installs = 1 + c.installs; lasts = 0 + c.lasts; total = o; slot = Some s })
+counts-installed l c s o new some_total k = let r : Counts Never c = subst (λ z. Counts z c) new k in
+    (let e : c.installs ≡ 0 = r.0 in omega arith, let e : c.lasts ≡ 0 = r.1 in omega arith, some-unwrapped o 0 some_total, refl)
 
-counts-last : (l : Life) (installs lasts s n : ℕ) (total slot : Option ℕ) → l ≡ Runs s n → Counts l installs lasts total slot → Counts (done l) installs (1 + lasts) total slot
-counts-last l installs lasts s n total slot runs k =
-    let r : (installs ≡ 1) × (lasts ≡ 0) × (total ≡ Some n) × (slot ≡ Some s) = subst (λ z. Counts z installs lasts total slot) runs k in
-    subst (λ z. Counts (done z) installs (1 + lasts) total slot) (sym runs) (r.0, let e : lasts ≡ 0 = r.1 in omega arith, r.2, subst IsSome (sym r.3) refl)
+counts-last : (l : Life) (c : Tally) (s n : ℕ) → l ≡ Runs s n → Counts l c → Counts (done l) (record c { installs = 0 + c.installs; lasts = 1 + c.lasts })
+counts-last l c s n runs k = let r : Counts (Runs s n) c = subst (λ z. Counts z c) runs k in
+    subst (λ z. Counts (done z) (record c { installs = 0 + c.installs; lasts = 1 + c.lasts })) (sym runs)
+    (let e : c.installs ≡ 1 = r.0 in omega arith, let e : c.lasts ≡ 0 = r.1 in omega arith, r.2, subst IsSome (sym r.3) refl)
+
+counts-still : (l : Life) (c : Tally) → Counts l c → Counts l (record c { installs = 0 + c.installs; lasts = 0 + c.lasts })
+counts-still Never c k = (let e : c.installs ≡ 0 = k.0 in omega arith, let e : c.lasts ≡ 0 = k.1 in omega arith, k.2, k.3)
+counts-still (Runs s n) c k = (let e : c.installs ≡ 1 = k.0 in omega arith, let e : c.lasts ≡ 0 = k.1 in omega arith, k.2, k.3)
+counts-still (Done n) c k = (let e : c.installs ≡ 1 = k.0 in omega arith, let e : c.lasts ≡ 1 = k.1 in omega arith, k.2, k.3)
 
 -- after one more call, by whether it installs the id and whether it finalises it
-abbrev CountsAfter : Act → Place → ℕ → Life → ℕ → ℕ → Option ℕ → Option ℕ → Bool → Bool → Type 0
-CountsAfter a p id l installs lasts total slot installed last =
-    Counts (cond installed (Runs (slot_of p) (unwrap_or (held_at p).total 0)) (cond last (done l) l))
-    (cond installed 1 0 + installs) (cond last 1 0 + lasts) (cond installed (held_at p).total total) (cond installed (Some (slot_of p)) slot)
+abbrev tally_after : Place → Tally → Bool → Bool → Tally
+tally_after p c installed last = record {
+  installs = cond installed 1 0 + c.installs;
+  lasts = cond last 1 0 + c.lasts;
+  total = cond installed (held_at p).total c.total;
+  slot = cond installed (Some (slot_of p)) c.slot;
+}
 
-counts-next : (a : Act) (p : Place) (id : ℕ) (l : Life) (installs lasts : ℕ) (total slot : Option ℕ)
+abbrev CountsAfter : Place → Life → Tally → Bool → Bool → Type 0
+CountsAfter p l c installed last =
+    Counts (cond installed (Runs (slot_of p) (unwrap_or (held_at p).total 0)) (cond last (done l) l)) (tally_after p c installed last)
+
+counts-next : (a : Act) (p : Place) (id : ℕ) (l : Life) (c : Tally)
     → (is_install a id ≡ true → (l ≡ Never) × IsSome (held_at p).total)
     → ((is_last a && eqb (id_at p) id) ≡ true → (s : ℕ) × (n : ℕ) × (l ≡ Runs s n))
-    → Counts l installs lasts total slot → CountsAfter a p id l installs lasts total slot (is_install a id) (is_last a && eqb (id_at p) id)
-counts-next a p id l installs lasts total slot new runs k = ⊎_elim
+    → Counts l c → CountsAfter p l c (is_install a id) (is_last a && eqb (id_at p) id)
+counts-next a p id l c new runs k = ⊎_elim
     (λ this. let r = new this in
     let not_last : (is_last a && eqb (id_at p) id) ≡ false = and_left (is_last a) (eqb (id_at p) id) (install-not-last a id this) in
-    subst (λ b. CountsAfter a p id l installs lasts total slot b (is_last a && eqb (id_at p) id)) (sym this)
-    (subst (CountsAfter a p id l installs lasts total slot true) (sym not_last)
-    (subst (λ n. Counts (Runs (slot_of p) (unwrap_or (held_at p).total 0)) (1 + installs) n (held_at p).total (Some (slot_of p))) (let z : lasts ≡ 0 + lasts = omega arith in z)
-    (counts-installed l installs lasts (slot_of p) total slot (held_at p).total r.0 r.1 k))))
-    (λ other. subst (λ b. CountsAfter a p id l installs lasts total slot b (is_last a && eqb (id_at p) id)) (sym other)
-    (⊎_elim
-    (λ last. let r = runs last in subst (CountsAfter a p id l installs lasts total slot false) (sym last)
-    (subst (λ n. Counts (done l) n (1 + lasts) total slot) (let z : installs ≡ 0 + installs = omega arith in z) (counts-last l installs lasts r.0 r.1 total slot r.2 k)))
-    (λ none. subst (CountsAfter a p id l installs lasts total slot false) (sym none)
-    (subst (λ n. Counts l n (0 + lasts) total slot) (let z : installs ≡ 0 + installs = omega arith in z) (subst (λ n. Counts l installs n total slot) (let z : lasts ≡ 0 + lasts = omega arith in z) k)))
+    subst (λ b. CountsAfter p l c b (is_last a && eqb (id_at p) id)) (sym this)
+    (subst (CountsAfter p l c true) (sym not_last) (counts-installed l c (slot_of p) (held_at p).total r.0 r.1 k)))
+    (λ other. subst (λ b. CountsAfter p l c b (is_last a && eqb (id_at p) id)) (sym other) (⊎_elim
+    (λ last. let r = runs last in subst (CountsAfter p l c false) (sym last) (counts-last l c r.0 r.1 r.2 k))
+    (λ none. subst (CountsAfter p l c false) (sym none) (counts-still l c k))
     (cases_Bool (is_last a && eqb (id_at p) id))))
     (cases_Bool (is_install a id))
 
-pub counts : (d : Shape) (id : ℕ) (h : List Entry) → IsLegal d h → Counts (life_of d id h) (installs_of id h) (lasts_of d id h) (total_of d id h) (slot_with d id h)
-counts d id [] legal = (refl, refl, refl, refl)
-counts d id (e ∷ es) legal = counts-next e.act (place_of d es e.worker) id (life_of d id es) (installs_of id es) (lasts_of d id es) (total_of d id es) (slot_with d id es)
+pub counts : (d : Shape) (h : List Entry) → IsLegal d h → CountsOf d h
+counts d [] legal id = (refl, refl, refl, refl)
+counts d (e ∷ es) legal id = let p : Place = place_of d es e.worker in counts-next e.act p id (life_of d id es) (tally_of d id es)
     (λ this. install-never d es e.worker e.act id legal.2 legal.0 legal.1 this)
-    (λ last. let both = and_parts (is_last e.act) (eqb (id_at (place_of d es e.worker)) id) last in
-    let r = last-runs d es e.worker e.act id legal.2 legal.0 legal.1 both.0 (eqb-true (id_at (place_of d es e.worker)) id both.1) in
-    (slot_of (place_of d es e.worker), r.0.total, r.1))
-    (counts d id es legal.2)
+    (λ last. let both = and_parts (is_last e.act) (eqb (id_at p) id) last in
+    let r = last-runs d es e.worker e.act id legal.2 legal.0 legal.1 both.0 (eqb-true (id_at p) id both.1) in
+    (slot_of p, r.0.total, r.1))
+    (counts d es legal.2 id)
 
-pub counts-most : (l : Life) (installs lasts : ℕ) (total slot : Option ℕ) → Counts l installs lasts total slot → (installs ≤ 1) × (lasts ≤ 1)
-counts-most Never installs lasts total slot k = (let e : installs ≡ 0 = k.0 in omega arith, let e : lasts ≡ 0 = k.1 in omega arith)
-counts-most (Runs s n) installs lasts total slot k = (let e : installs ≡ 1 = k.0 in omega arith, let e : lasts ≡ 0 = k.1 in omega arith)
-counts-most (Done n) installs lasts total slot k = (let e : installs ≡ 1 = k.0 in omega arith, let e : lasts ≡ 1 = k.1 in omega arith)
+-- ---- what counts say of a life, and a life of counts
 
-pub counts-never : (l : Life) (installs lasts : ℕ) (total slot : Option ℕ) → Counts l installs lasts total slot → installs ≡ 0 → l ≡ Never
-counts-never Never installs lasts total slot k none = refl
-counts-never (Runs s n) installs lasts total slot k none = absurd (let e : installs ≡ 1 = k.0 in let z : installs ≡ 0 = none in omega arith)
-counts-never (Done n) installs lasts total slot k none = absurd (let e : installs ≡ 1 = k.0 in let z : installs ≡ 0 = none in omega arith)
+most : (l : Life) (c : Tally) → Counts l c → (c.installs ≤ 1) × (c.lasts ≤ 1)
+most Never c k = (let e : c.installs ≡ 0 = k.0 in omega arith, let e : c.lasts ≡ 0 = k.1 in omega arith)
+most (Runs s n) c k = (let e : c.installs ≡ 1 = k.0 in omega arith, let e : c.lasts ≡ 0 = k.1 in omega arith)
+most (Done n) c k = (let e : c.installs ≡ 1 = k.0 in omega arith, let e : c.lasts ≡ 1 = k.1 in omega arith)
 
-pub counts-done : (l : Life) (installs lasts : ℕ) (total slot : Option ℕ) → Counts l installs lasts total slot → 0 < lasts → (n : ℕ) × (l ≡ Done n) × (total ≡ Some n) × IsSome slot
-counts-done Never installs lasts total slot k some_last = absurd (let e : lasts ≡ 0 = k.1 in omega arith)
-counts-done (Runs s n) installs lasts total slot k some_last = absurd (let e : lasts ≡ 0 = k.1 in omega arith)
-counts-done (Done n) installs lasts total slot k some_last = (n, refl, k.2, k.3)
+done-by : (l : Life) (c : Tally) → Counts l c → 0 < c.lasts → (n : ℕ) × (l ≡ Done n) × (c.total ≡ Some n) × IsSome c.slot
+done-by Never c k past = absurd (let e : c.lasts ≡ 0 = k.1 in omega arith)
+done-by (Runs s n) c k past = absurd (let e : c.lasts ≡ 0 = k.1 in omega arith)
+done-by (Done n) c k past = (n, refl, k.2, k.3)
 
-pub counts-runs : (l : Life) (installs lasts s : ℕ) (total slot : Option ℕ) → Counts l installs lasts total slot → lasts ≡ 0 → slot ≡ Some s → (n : ℕ) × (l ≡ Runs s n)
-counts-runs Never installs lasts s total slot k none at = absurd (let e : None ≡ Some s = sym k.3 ∙ at in cc)
-counts-runs (Runs r n) installs lasts s total slot k none at = (n, let e : Some r ≡ Some s = sym k.3 ∙ at in ap (λ j. Runs j n) (cc))
-counts-runs (Done n) installs lasts s total slot k none at = absurd (let e : lasts ≡ 1 = k.1 in let z : lasts ≡ 0 = none in omega arith)
+runs-by : (l : Life) (c : Tally) (s : ℕ) → Counts l c → c.lasts ≡ 0 → c.slot ≡ Some s → (n : ℕ) × (l ≡ Runs s n)
+runs-by Never c s k none at = absurd (let e : None ≡ Some s = sym k.3 ∙ at in cc)
+runs-by (Runs r n) c s k none at = (n, let e : Some r ≡ Some s = sym k.3 ∙ at in ap (λ j. Runs j n) (cc))
+runs-by (Done n) c s k none at = absurd (let e : c.lasts ≡ 1 = k.1 in let z : c.lasts ≡ 0 = none in omega arith)
+
+-- a task set was never installed, or was so once, with a total
+data IsInstalled (l : Life) (c : Tally) : Type 0 where
+  never : l ≡ Never → c.installs ≡ 0 → c.total ≡ None → c.slot ≡ None → IsInstalled l c
+  once : (n : ℕ) → l ≢ Never → c.installs ≡ 1 → c.total ≡ Some n → IsInstalled l c
+
+installed-by : (l : Life) (c : Tally) → Counts l c → IsInstalled l c
+installed-by Never c k = never refl k.0 k.2 k.3
+installed-by (Runs s n) c k = once n (λ e. absurd (cc)) k.0 k.2
+installed-by (Done n) c k = once n (λ e. absurd (cc)) k.0 k.2
+
+module _ (d : Shape) (id : ℕ) (h : List Entry) (legal : IsLegal d h) where
+  abbrev c : Tally
+  c = tally_of d id h
+
+  pub counts-most : (installs_of id h ≤ 1) × (lasts_of d id h ≤ 1)
+  counts-most = most (life_of d id h) c (counts d h legal id)
+
+  pub counts-done : 0 < lasts_of d id h → (n : ℕ) × (life_of d id h ≡ Done n) × (total_of d id h ≡ Some n) × IsSome (slot_with d id h)
+  counts-done past = done-by (life_of d id h) c (counts d h legal id) past
+
+  pub counts-runs : (s : ℕ) → lasts_of d id h ≡ 0 → slot_with d id h ≡ Some s → (n : ℕ) × (life_of d id h ≡ Runs s n)
+  counts-runs s none at = runs-by (life_of d id h) c s (counts d h legal id) none at
+
+  -- by the life of the task set
+  pub counts-as : (l : Life) → life_of d id h ≡ l → Counts l c
+  counts-as l is = subst (λ z. Counts z c) is (counts d h legal id)
+
+  installed : IsInstalled (life_of d id h) c
+  installed = installed-by (life_of d id h) c (counts d h legal id)
+
+  pub counts-never : installs_of id h ≡ 0 → life_of d id h ≡ Never
+  counts-never none = elim installed as (λ i. life_of d id h ≡ Never) [
+    | never is none' total slot ↦ is
+    | once n lives one total ↦ absurd (omega arith)
+  ]
+
+  pub lives-installed : life_of d id h ≢ Never → 0 < installs_of id h
+  lives-installed lives = elim installed as (λ i. 0 < installs_of id h) [
+    | never is none total slot ↦ absurd (lives is)
+    | once n lives' one total ↦ omega arith
+  ]
+
+  pub total-installed : (n : ℕ) → total_of d id h ≡ Some n → 0 < installs_of id h
+  total-installed n is = elim installed as (λ i. 0 < installs_of id h) [
+    | never e none total slot ↦ absurd (let r : None ≡ Some n = sym total ∙ is in cc)
+    | once m lives one total ↦ omega arith
+  ]
+
+  pub slot-installed : (s : ℕ) → slot_with d id h ≡ Some s → 0 < installs_of id h
+  slot-installed s is = elim installed as (λ i. 0 < installs_of id h) [
+    | never e none total slot ↦ absurd (let r : None ≡ Some s = sym slot ∙ is in cc)
+    | once m lives one total ↦ omega arith
+  ]
+
+  pub installed-total : 0 < installs_of id h → (n : ℕ) × (total_of d id h ≡ Some n)
+  installed-total was = elim installed as (λ i. (n : ℕ) × (total_of d id h ≡ Some n)) [
+    | never e none total slot ↦ absurd (omega arith)
+    | once n lives one total ↦ (n, total)
+  ]
 
 -- ---- each query is admitted once
 
@@ -162,6 +226,6 @@ admits-most q m n k = ⊎_elim (λ low. let e : n ≡ 1 = k.0 low in omega arith
 
 pub only-once : (d : Shape) (h : List Entry) → IsLegal d h → OnlyOnce d h
 only-once d h legal = (
-  λ id. (counts-most (life_of d id h) (installs_of id h) (lasts_of d id h) (total_of d id h) (slot_with d id h) (counts d id h legal)).0,
+  λ id. (counts-most d id h legal).0,
   λ q. admits-most q (state_after d h).admitted (admits_of q h) (admits d q h legal),
 )

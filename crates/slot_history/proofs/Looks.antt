@@ -1,5 +1,5 @@
 -- Where a query is seen, and where the answer Last comes.
-use Rattle.std.proofs.Common.{◌≡◌, ℕ, ◌+◌, ◌/◌, ◌<◌, ◌≤◌, ⊎_elim, ◌&&◌, cond, eqb, true, false, List, [], ◌∷◌, Option, Some, refl, sym, ap, ◌∙◌, subst, arith}
+use Rattle.std.proofs.Common.{◌≡◌, ℕ, ◌+◌, ◌/◌, ◌<◌, ◌≤◌, ⊎_elim, ◌&&◌, cond, eqb, true, false, List, [], ◌∷◌, Some, refl, sym, ap, ◌∙◌, subst, arith}
 use Rattle.std.specs.Prelude.{unwrap_or}
 use Rattle.std.proofs.lemmas.Bool.{cases_Bool}
 use Rattle.slot_history.specs.declared.shape.Shape.{Shape}
@@ -11,15 +11,15 @@ use Rattle.slot_history.specs.declared.place.Place.TheVariants.{Entered}
 use Rattle.slot_history.specs.States.{TaskSet, SlotState, Open, Shut, Finishing, ObjectState, slot_of, id_at, id_of, is_open, task_at}
 use Rattle.slot_history.specs.Steps.{site, state_after}
 use Rattle.slot_history.specs.Allowed.{IsAllowed}
-use Rattle.slot_history.specs.Histories.{IsLegal, entry, place_of, claims_of, installs_of, lasts_of, total_of, slot_with, task_in, task_given, renews, is_install}
-use Rattle.slot_history.specs.Lives.{Life, Runs, Counts, life_of, query_in}
+use Rattle.slot_history.specs.Histories.{IsLegal, entry, place_of, claims_of, installs_of, lasts_of, slot_with, task_in, task_given, renews, is_install}
+use Rattle.slot_history.specs.Lives.{Runs, query_in}
 use Rattle.slot_history.specs.Looks.{TaskKeepsSlot, LastInSlot, FinishingInSlot, OneSlotSeen, SameQuerySeen, StageBefore}
 use Rattle.slot_history.proofs.Beginnings.{begins-legal, begins-less, begins-cases}
-use Rattle.slot_history.proofs.TaskSetsKept.{installs-grow, slot-installed, not-again, slot-stays, last-stays}
+use Rattle.slot_history.proofs.TaskSetsKept.{installs-grow, not-again, slot-stays, last-stays}
 use Rattle.slot_history.proofs.SlotTasks.{task-at, serving-slot, given-install}
 use Rattle.slot_history.proofs.Book.{book}
 use Rattle.slot_history.proofs.BookSteps.{tiles-spent}
-use Rattle.slot_history.proofs.Counts.{counts, install-is, last-runs}
+use Rattle.slot_history.proofs.Counts.{install-is, last-runs, counts-as, slot-installed}
 use Rattle.slot_history.proofs.Claims.{tiles-total, finishing-last}
 use Rattle.slot_history.proofs.Stages.{stages-in-order, query-keeps-slot}
 
@@ -46,7 +46,7 @@ look-serves d w s id h legal at =
 -- a task set that a slot serves was installed
 pub serving-installed : (d : Shape) (h : List Entry) (s id : ℕ) → IsLegal d h → task_in d s h ≡ Some id → 0 < installs_of id h
 serving-installed d h s id legal serves =
-    slot-installed (life_of d id h) (installs_of id h) (lasts_of d id h) s (total_of d id h) (slot_with d id h) (counts d id h legal) (serving-slot d h legal s id serves)
+    slot-installed d id h legal s (serving-slot d h legal s id serves)
 
 -- and the slot is one of its query
 pub serving-query : (d : Shape) (h : List Entry) (s id : ℕ) → IsLegal d h → task_in d s h ≡ Some id → query_in ((state_after d h).slots s) ≡ Some (id / STAGES)
@@ -85,16 +85,13 @@ task-keeps-slot d (e ∷ es) mid s id legal serving begins was = ⊎_elim
 
 -- ---- where the answer Last comes
 
-running-slot : (l : Life) (installs lasts s n : ℕ) (total slot : Option ℕ) → l ≡ Runs s n → Counts l installs lasts total slot → (slot ≡ Some s) × (total ≡ Some n)
-running-slot l installs lasts s n total slot runs k = let r : Counts (Runs s n) installs lasts total slot = subst (λ z. Counts z installs lasts total slot) runs k in (r.3, r.2)
-
 pub last-in-slot : LastInSlot
 last-in-slot d w a h legal last =
     let id : ℕ = id_at (place_of d h w) in
     let r = last-runs d h w a id legal.2 legal.0 legal.1 last refl in
     let t : TaskSet = r.0 in
-    let k = running-slot (life_of d id h) (installs_of id h) (lasts_of d id h) (slot_of (place_of d h w)) t.total (total_of d id h) (slot_with d id h) r.1 (counts d id h legal.2) in
-    (k.0, (t.total, k.1, tiles-spent (claims_of d id h) t.cursor t.total t.total r.3 refl r.2))
+    let k = counts-as d id h legal.2 (Runs (slot_of (place_of d h w)) t.total) r.1 in
+    (k.3, (t.total, k.2, tiles-spent (claims_of d id h) t.cursor t.total t.total r.3 refl r.2))
 
 pub finishing-in-slot : (d : Shape) (h : List Entry) → IsLegal d h → FinishingInSlot d h
 finishing-in-slot d h legal s id w k is =

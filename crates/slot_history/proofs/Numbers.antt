@@ -1,5 +1,5 @@
 -- The numbers that a history names lie within its shape.
-use Rattle.std.proofs.Common.{◌≡◌, ◌≢◌, ℕ, ◌*◌, ◌/◌, ◌<◌, true, cond, List, [], ◌∷◌, Option, Some, refl, sym, ap, ◌∙◌, subst, eq-eqb, arith}
+use Rattle.std.proofs.Common.{◌≡◌, ◌≢◌, ℕ, ◌*◌, ◌/◌, ◌<◌, true, cond, List, [], ◌∷◌, Some, refl, sym, ap, ◌∙◌, subst, eq-eqb, arith}
 use Rattle.std.specs.Prelude.{All, unwrap_or}
 use Rattle.std.proofs.lemmas.Bool.{cond_both}
 use Rattle.std.proofs.lemmas.List.Elements.{All-nil, All-cons}
@@ -13,8 +13,8 @@ use Rattle.slot_history.specs.declared.place.Place.TheVariants.{Inside, Used, Be
 use Rattle.slot_history.specs.States.{SlotState, Open, Shut, Finishing, ObjectState, slot_of, id_at, id_of, has_id, is_open, owes, is_inside, has_own_cell}
 use Rattle.slot_history.specs.Steps.{state_after}
 use Rattle.slot_history.specs.Allowed.{IsAllowed}
-use Rattle.slot_history.specs.Histories.{IsLegal, Called, Morsel, entry, place_of, claims_of, claims_after, is_install, installs_of, lasts_of, total_of, slot_with}
-use Rattle.slot_history.specs.Lives.{Life, Never, Runs, Done, Counts, IsSlotBook, life_of}
+use Rattle.slot_history.specs.Histories.{IsLegal, Called, Morsel, entry, place_of, claims_of, claims_after, is_install, installs_of, slot_with}
+use Rattle.slot_history.specs.Lives.{Life, Never, IsSlotBook, life_of}
 use Rattle.slot_history.specs.Table.{IsTable}
 use Rattle.slot_history.specs.Bounds.{IsPlaceWithin}
 use Rattle.slot_history.specs.Numbers.{names_id, named_id, PlacesNameIds, AreIdsWithin, AreInstallsWithin, AreClaimsWithin}
@@ -24,7 +24,7 @@ use Rattle.slot_history.proofs.Places.{inside-slots}
 use Rattle.slot_history.proofs.Growth.{open-has}
 use Rattle.slot_history.proofs.Book.{book, paying-slot, asking-slot}
 use Rattle.slot_history.proofs.BookSteps.{running-low}
-use Rattle.slot_history.proofs.Counts.{counts, install-is}
+use Rattle.slot_history.proofs.Counts.{install-is, counts-as, lives-installed}
 use Rattle.slot_history.proofs.Beginnings.{begins-legal}
 
 -- ---- ids
@@ -42,24 +42,14 @@ life-low d h legal id lives =
     let low : id / STAGES < S.admitted = running-low S.admitted S.slots (λ j. life_of d j h) (λ j. claims_of d j h) (book d h legal) id lives in
     let most = (within d h legal).admitted in omega arith
 
-installs-never : (installs lasts : ℕ) (total slot : Option ℕ) (l : Life) → l ≡ Never → Counts l installs lasts total slot → installs ≡ 0
-installs-never installs lasts total slot l never k = (let r : Counts Never installs lasts total slot = subst (λ z. Counts z installs lasts total slot) never k in r).0
-
 pub installed-low : (d : Shape) (h : List Entry) → IsLegal d h → (id : ℕ) → 0 < installs_of id h → id < STAGES * d.queries
-installed-low d h legal id some_install = life-low d h legal id (λ never.
-    let none : installs_of id h ≡ 0 = installs-never (installs_of id h) (lasts_of d id h) (total_of d id h) (slot_with d id h) (life_of d id h) never (counts d id h legal) in omega arith)
-
-life-installed : (l : Life) (installs lasts : ℕ) (total slot : Option ℕ) → l ≢ Never → Counts l installs lasts total slot → 0 < installs
-life-installed Never installs lasts total slot some k = absurd (some refl)
-life-installed (Runs s n) installs lasts total slot some k = let e : installs ≡ 1 = k.0 in omega arith
-life-installed (Done n) installs lasts total slot some k = let e : installs ≡ 1 = k.0 in omega arith
+installed-low d h legal id was = life-low d h legal id (λ never. let none : installs_of id h ≡ 0 = (counts-as d id h legal Never never).0 in omega arith)
 
 -- the task set of a slot was installed
 pub slot-id-installed : (d : Shape) (h : List Entry) → IsLegal d h → (s : ℕ) → has_id ((state_after d h).slots s) ≡ true → 0 < installs_of (id_of ((state_after d h).slots s)) h
 slot-id-installed d h legal s has =
     let S : ObjectState = state_after d h in let id : ℕ = id_of (S.slots s) in
-    life-installed (life_of d id h) (installs_of id h) (lasts_of d id h) (total_of d id h) (slot_with d id h)
-    (some-life S.admitted (λ j. life_of d j h) (λ j. claims_of d j h) s (S.slots s) has ((book d h legal).slot s)) (counts d id h legal)
+    lives-installed d id h legal (some-life S.admitted (λ j. life_of d j h) (λ j. claims_of d j h) s (S.slots s) has ((book d h legal).slot s))
 
 pub id-low : (d : Shape) (h : List Entry) → IsLegal d h → (s : ℕ) → has_id ((state_after d h).slots s) ≡ true → id_of ((state_after d h).slots s) < STAGES * d.queries
 id-low d h legal s has = installed-low d h legal (id_of ((state_after d h).slots s)) (slot-id-installed d h legal s has)

@@ -3,7 +3,9 @@
 use Rattle.std.proofs.Common.{◌≡◌, ◌≢◌, ℕ, cond, List, [], ◌∷◌, refl, sym, ap, ap₂, ◌∙◌, subst, eq-eqb, ne_eqb}
 use native.Mathlib.Decide.{ℕ_discrete}
 use Rattle.slot_history.specs.declared.shape.Shape.{Shape}
+use Rattle.slot_history.specs.declared.act.Act.{Act}
 use Rattle.slot_history.specs.declared.act.Entry.{Entry}
+use Rattle.slot_history.specs.declared.place.Place.{Place}
 use Rattle.slot_history.specs.Steps.{moved, state_after}
 use Rattle.slot_history.specs.Histories.{IsLegal, entry, own_calls, place_of, ranges_after, ranges_of, own_record, own_record_after}
 use Rattle.slot_history.specs.Laws.{OwnEntries, CallsGoOn}
@@ -31,21 +33,28 @@ pub place-own : (d : Shape) (w : ℕ) (h : List Entry) → place_of d h w ≡ pl
 place-own d w [] = refl
 place-own d w (e ∷ es) = place-own-step d w e es (place-own d w es) (ℕ_discrete w e.worker)
 
+-- what only the worker's own calls change, by its place, is given by these
+module _ {A : Type 0} (d : Shape) (w : ℕ) (f : List Entry → A) (after : Act → Place → A → A)
+    (same-place : (h : List Entry) → place_of d h w ≡ place_of d (own_calls w h) w)
+    (mine : (e : Entry) (h : List Entry) → w ≡ e.worker → f (e ∷ h) ≡ after e.act (place_of d h w) (f h))
+    (other : (e : Entry) (h : List Entry) → w ≢ e.worker → f (e ∷ h) ≡ f h) where
+  own-step : (e : Entry) (es : List Entry) → f es ≡ f (own_calls w es) → Dec (w ≡ e.worker) → f (e ∷ es) ≡ f (own_calls w (e ∷ es))
+  own-step e es ih (yes same) = mine e es same ∙ ap₂ (after e.act) (same-place es) ih
+      ∙ sym (ap f (own-mine e es w same) ∙ mine e (own_calls w es) same)
+  own-step e es ih (no differs) = other e es differs ∙ ih ∙ sym (ap f (own-other e es w differs))
+
+  by-own-calls : (h : List Entry) → f h ≡ f (own_calls w h)
+  by-own-calls [] = refl
+  by-own-calls (e ∷ es) = own-step e es (by-own-calls es) (ℕ_discrete w e.worker)
+
 pub ranges-mine : (d : Shape) (w id : ℕ) (e : Entry) (h : List Entry) → w ≡ e.worker → ranges_of d w id (e ∷ h) ≡ ranges_after e.act (place_of d h w) id (ranges_of d w id h)
 ranges-mine d w id e h same = ap (λ b. cond b (ranges_after e.act (place_of d h w) id (ranges_of d w id h)) (ranges_of d w id h)) (eq-eqb w e.worker same)
 
 pub ranges-other : (d : Shape) (w id : ℕ) (e : Entry) (h : List Entry) → w ≢ e.worker → ranges_of d w id (e ∷ h) ≡ ranges_of d w id h
 ranges-other d w id e h other = ap (λ b. cond b (ranges_after e.act (place_of d h w) id (ranges_of d w id h)) (ranges_of d w id h)) (ne_eqb w e.worker other)
 
-ranges-own-step : (d : Shape) (w id : ℕ) (e : Entry) (es : List Entry) → ranges_of d w id es ≡ ranges_of d w id (own_calls w es) → Dec (w ≡ e.worker)
-    → ranges_of d w id (e ∷ es) ≡ ranges_of d w id (own_calls w (e ∷ es))
-ranges-own-step d w id e es ih (yes same) =
-    ranges-mine d w id e es same ∙ ap₂ (λ p rs. ranges_after e.act p id rs) (place-own d w es) ih ∙ sym (ap (ranges_of d w id) (own-mine e es w same) ∙ ranges-mine d w id e (own_calls w es) same)
-ranges-own-step d w id e es ih (no other) = ranges-other d w id e es other ∙ ih ∙ sym (ap (ranges_of d w id) (own-other e es w other))
-
 pub ranges-own : (d : Shape) (w id : ℕ) (h : List Entry) → ranges_of d w id h ≡ ranges_of d w id (own_calls w h)
-ranges-own d w id [] = refl
-ranges-own d w id (e ∷ es) = ranges-own-step d w id e es (ranges-own d w id es) (ℕ_discrete w e.worker)
+ranges-own d w id = by-own-calls d w (ranges_of d w id) (λ a p rs. ranges_after a p id rs) (place-own d w) (ranges-mine d w id) (ranges-other d w id)
 
 pub record-mine : (d : Shape) (w s : ℕ) (e : Entry) (h : List Entry) → w ≡ e.worker → own_record d w s (e ∷ h) ≡ own_record_after e.act (place_of d h w) s (own_record d w s h)
 record-mine d w s e h same = ap (λ b. cond b (own_record_after e.act (place_of d h w) s (own_record d w s h)) (own_record d w s h)) (eq-eqb w e.worker same)
@@ -53,15 +62,8 @@ record-mine d w s e h same = ap (λ b. cond b (own_record_after e.act (place_of 
 pub record-other : (d : Shape) (w s : ℕ) (e : Entry) (h : List Entry) → w ≢ e.worker → own_record d w s (e ∷ h) ≡ own_record d w s h
 record-other d w s e h other = ap (λ b. cond b (own_record_after e.act (place_of d h w) s (own_record d w s h)) (own_record d w s h)) (ne_eqb w e.worker other)
 
-record-own-step : (d : Shape) (w s : ℕ) (e : Entry) (es : List Entry) → own_record d w s es ≡ own_record d w s (own_calls w es) → Dec (w ≡ e.worker)
-    → own_record d w s (e ∷ es) ≡ own_record d w s (own_calls w (e ∷ es))
-record-own-step d w s e es ih (yes same) =
-    record-mine d w s e es same ∙ ap₂ (λ p r. own_record_after e.act p s r) (place-own d w es) ih ∙ sym (ap (own_record d w s) (own-mine e es w same) ∙ record-mine d w s e (own_calls w es) same)
-record-own-step d w s e es ih (no other) = record-other d w s e es other ∙ ih ∙ sym (ap (own_record d w s) (own-other e es w other))
-
 pub record-own : (d : Shape) (w s : ℕ) (h : List Entry) → own_record d w s h ≡ own_record d w s (own_calls w h)
-record-own d w s [] = refl
-record-own d w s (e ∷ es) = record-own-step d w s e es (record-own d w s es) (ℕ_discrete w e.worker)
+record-own d w s = by-own-calls d w (own_record d w s) (λ a p r. own_record_after a p s r) (place-own d w) (record-mine d w s) (record-other d w s)
 
 pub own-entries : (d : Shape) (h : List Entry) → OwnEntries d h
 own-entries d h w = record { place = place-own d w h; ranges = λ id. ranges-own d w id h; records = λ s. record-own d w s h }

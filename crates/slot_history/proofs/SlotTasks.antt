@@ -10,14 +10,14 @@ use Rattle.slot_history.specs.declared.place.Place.{Place}
 use Rattle.slot_history.specs.States.{SlotState, Open, ObjectState, slot_of, task_at}
 use Rattle.slot_history.specs.Steps.{site, slot_after, claimed, shut_by, ended, finalised_by, held_on, opened, state_after}
 use Rattle.slot_history.specs.Allowed.{IsAllowed}
-use Rattle.slot_history.specs.Histories.{IsLegal, place_of, is_install, installs_of, lasts_of, total_of, slot_with, renews, task_given, task_in}
+use Rattle.slot_history.specs.Histories.{IsLegal, place_of, is_install, slot_with, renews, task_given, task_in}
 use Rattle.slot_history.specs.Table.{IsTable}
-use Rattle.slot_history.specs.Lives.{Counts}
+use Rattle.slot_history.specs.Lives.{Never}
 use Rattle.slot_history.proofs.Sets.{upd-cases}
 use Rattle.slot_history.proofs.Duties.{IsHeldBy}
 use Rattle.slot_history.proofs.Table.{table}
 use Rattle.slot_history.proofs.Holdings.{holder-slot}
-use Rattle.slot_history.proofs.Counts.{install-never, counts}
+use Rattle.slot_history.proofs.Counts.{install-never, counts-as}
 
 -- ---- the task set that a slot serves, by its state
 
@@ -95,9 +95,7 @@ given-site _ p id e = absurd (cc)
 
 -- what is installed now was in no slot before
 pub install-new : (d : Shape) (h : List Entry) (w : ℕ) (a : Act) (id : ℕ) → IsLegal d h → w < d.workers → IsAllowed d (state_after d h) w a → is_install a id ≡ true → slot_with d id h ≡ None
-install-new d h w a id legal low ok this =
-    let k : (installs_of id h ≡ 0) × (lasts_of d id h ≡ 0) × (total_of d id h ≡ None) × (slot_with d id h ≡ None) =
-    subst (λ l. Counts l (installs_of id h) (lasts_of d id h) (total_of d id h) (slot_with d id h)) (install-never d h w a id legal low ok this).0 (counts d id h legal) in k.3
+install-new d h w a id legal low ok this = (counts-as d id h legal Never (install-never d h w a id legal low ok this).0).3
 
 pub serving-slot : (d : Shape) (h : List Entry) → IsLegal d h → (s id : ℕ) → task_in d s h ≡ Some id → slot_with d id h ≡ Some s
 serving-slot d [] legal s id at = absurd (cc)

@@ -1,6 +1,6 @@
 -- Stages come in order, and a query keeps its slot. It rules out a finisher that installs a stage past the next, or in
 -- another slot.
-use Rattle.std.proofs.Common.{◌≡◌, ◌≢◌, ℕ, ◌+◌, ◌-◌, ◌*◌, ◌/◌, ◌%◌, ◌<◌, ◌≤◌, cond, eqb, ◌&&◌, List, [], ◌∷◌, Some, None, refl, sym, ap, ap₂, ◌∙◌, subst, ⊎_elim, arith, eqb-true}
+use Rattle.std.proofs.Common.{◌≡◌, ◌≢◌, ℕ, ◌+◌, ◌-◌, ◌*◌, ◌/◌, ◌%◌, ◌<◌, ◌≤◌, cond, eqb, ◌&&◌, List, [], ◌∷◌, Some, refl, sym, ap, ap₂, ◌∙◌, subst, ⊎_elim, arith, eqb-true}
 use Rattle.std.specs.Prelude.{unwrap_or}
 use mathlib.Core.Logic.{dite}
 use native.Mathlib.Decide.{ℕ_discrete}
@@ -15,10 +15,10 @@ use Rattle.slot_history.specs.declared.place.Place.{Place}
 use Rattle.slot_history.specs.States.{Finishing, ObjectState, slot_of, next_id, task_at}
 use Rattle.slot_history.specs.Steps.{site, state_after}
 use Rattle.slot_history.specs.Allowed.{IsAllowed}
-use Rattle.slot_history.specs.Histories.{IsLegal, Begins, place_of, claims_of, installs_of, lasts_of, total_of, slot_with, renews, task_given, task_in}
+use Rattle.slot_history.specs.Histories.{IsLegal, Begins, place_of, claims_of, installs_of, lasts_of, slot_with, renews, task_given, task_in}
 use Rattle.slot_history.specs.Table.{IsTable}
 use Rattle.slot_history.specs.Bounds.{IsReservation, IsFinalisation, IsSlotSound, AreSlotsSound}
-use Rattle.slot_history.specs.Lives.{Never, life_of, Counts}
+use Rattle.slot_history.specs.Lives.{Never, life_of}
 use Rattle.slot_history.specs.Laws.{StagesInOrder, QueryKeepsSlot}
 use Rattle.slot_history.proofs.Beginnings.{begins-cases}
 use Rattle.slot_history.proofs.TaskSetsKept.{installs-grow}
@@ -26,7 +26,7 @@ use Rattle.slot_history.proofs.SlotTasks.{task-at, given-site, serving-slot}
 use Rattle.slot_history.proofs.Table.{table}
 use Rattle.slot_history.proofs.Holdings.{holder-slot, slots-sound}
 use Rattle.slot_history.proofs.Book.{book, install-fresh}
-use Rattle.slot_history.proofs.Counts.{counts, counts-most}
+use Rattle.slot_history.proofs.Counts.{counts-as, counts-most}
 use Rattle.slot_history.proofs.Claims.{finishing-last}
 
 -- ---- an install that goes on with a query
@@ -51,7 +51,7 @@ stages-in-order d w id h legal later =
     let is = goes-on d S w id legal.0 (table d h legal.2) (slots-sound d h legal.2) ok later in
     let at : task_in d ok.0 h ≡ Some id = task-at d h legal.2 ok.0 ∙ ap task_at is in
     let some_last : 0 < lasts_of d id h = finishing-last d h legal.2 ok.0 id w ok.1 is in
-    let most : lasts_of d id h ≤ 1 = (counts-most (life_of d id h) (installs_of id h) (lasts_of d id h) (total_of d id h) (slot_with d id h) (counts d id h legal.2)).1 in
+    let most : lasts_of d id h ≤ 1 = (counts-most d id h legal.2).1 in
     subst (λ p. (lasts_of d id h ≡ 1) × (slot_with d id h ≡ Some (slot_of p)) × (task_in d (slot_of p) h ≡ Some id)) (sym ok.2)
     (omega arith, serving-slot d h legal.2 ok.0 id at, at)
 
@@ -66,8 +66,10 @@ first-new : (d : Shape) (h : List Entry) (w id jd : ℕ) → IsLegal d h → w <
 first-new d h w id jd legal low ok first same =
     let fresh = install-fresh d (state_after d h) w id (λ j. life_of d j h) (λ j. claims_of d j h) low (table d h legal) (slots-sound d h legal) ok (book d h legal) in
     let never : life_of d jd h ≡ Never = dite (ℕ_discrete jd id) (λ e. ap (λ j. life_of d j h) e ∙ fresh.never) (λ ne. fresh.later jd (omega arith) same) in
-    let k : (installs_of jd h ≡ 0) × (lasts_of d jd h ≡ 0) × (total_of d jd h ≡ None) × (slot_with d jd h ≡ None) =
-    subst (λ l. Counts l (installs_of jd h) (lasts_of d jd h) (total_of d jd h) (slot_with d jd h)) never (counts d jd h legal) in k.0
+    (counts-as d jd h legal Never never).0
+
+same-query : (i j k : ℕ) → i / STAGES ≡ j / STAGES → j / STAGES ≡ k / STAGES → i / STAGES ≡ k / STAGES
+same-query i j k first then = first ∙ then
 
 -- what an install goes on with served the slot
 kept-by-install : (d : Shape) (h early : List Entry) (w s id jd : ℕ) → IsLegal d h → w < d.workers → IsAllowed d (state_after d h) w (Install id) → slot_of (place_of d h w) ≡ s → QueryKeepsSlot d h
@@ -80,7 +82,7 @@ kept-by-install d h early w s id jd legal low ok at keeps b same was = dite (ℕ
     let here = stages-in-order d w k h (low, subst (λ j. IsAllowed d (state_after d h) w (Install j)) is ok, legal) (subst (λ j. j % STAGES ≢ 0) is later) in
     let whole : k / STAGES ≡ id / STAGES = omega arith in
     let r = keeps s k jd early (subst (λ j. task_in d j h ≡ Some k) at here.2) b (same ∙ sym whole) was in
-    (r.0, r.1, r.2 ∙ whole))
+    (r.0, r.1, same-query r.0 k id r.2 whole))
 
 pub query-keeps-slot : (d : Shape) (h : List Entry) → IsLegal d h → QueryKeepsSlot d h
 query-keeps-slot d [] legal s id jd early at b same was = absurd (cc)

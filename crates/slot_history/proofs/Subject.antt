@@ -1,5 +1,5 @@
 -- A history of a subject shows the subject's task sets.
-use Rattle.std.proofs.Common.{◌≡◌, ℕ, ◌<◌, true, cond, List, ◌∷◌, Option, Some, refl, sym, ap, ◌∙◌, subst, eq-eqb, arith}
+use Rattle.std.proofs.Common.{◌≡◌, ℕ, ◌<◌, true, cond, List, ◌∷◌, Option, Some, refl, sym, ap, ◌∙◌, subst, eq-eqb}
 use Rattle.std.specs.Prelude.{unwrap_or, IsSome}
 use Rattle.std.proofs.lemmas.Bool.{cond_both}
 use Rattle.slot_history.specs.declared.shape.Shape.{Shape}
@@ -8,13 +8,13 @@ use Rattle.slot_history.specs.declared.act.Act.TheVariants.{Install}
 use Rattle.slot_history.specs.declared.act.Entry.{Entry}
 use Rattle.slot_history.specs.States.{held_at, task_of}
 use Rattle.slot_history.specs.Steps.{state_after}
-use Rattle.slot_history.specs.Histories.{IsLegal, IsOfTotals, entry, place_of, is_install, installs_of, lasts_of, total_of, slot_with}
-use Rattle.slot_history.specs.Lives.{Life, Never, Runs, Done, Counts, life_of, has_task}
+use Rattle.slot_history.specs.Histories.{IsLegal, IsOfTotals, entry, place_of, is_install, installs_of, total_of}
+use Rattle.slot_history.specs.Lives.{has_task}
 use Rattle.slot_history.specs.Subject.{InstallsOf, EntryIsOf, SubjectShows, SubjectGoesOn, SubjectBegins}
 use Rattle.slot_history.proofs.Sets.{some-unwrapped}
 use Rattle.slot_history.proofs.Beginnings.{begins-legal}
 use Rattle.slot_history.proofs.TaskSetsKept.{total-stays}
-use Rattle.slot_history.proofs.Counts.{counts, install-is, install-never}
+use Rattle.slot_history.proofs.Counts.{install-is, install-never, installed-total}
 use Rattle.slot_history.proofs.Claims.{tiles-cursor}
 use Rattle.slot_history.proofs.Numbers.{named-installed}
 
@@ -35,15 +35,10 @@ subject-begins totals d h early legal of (more, is) id total at =
 
 -- ---- what was installed
 
-some-total : (l : Life) (installs lasts : ℕ) (total slot : Option ℕ) → Counts l installs lasts total slot → 0 < installs → (n : ℕ) × (total ≡ Some n)
-some-total Never installs lasts total slot k was = absurd (let e : installs ≡ 0 = k.0 in omega arith)
-some-total (Runs s n) installs lasts total slot k was = (n, k.2)
-some-total (Done n) installs lasts total slot k was = (n, k.2)
-
 module _ (totals : ℕ → Option ℕ) (d : Shape) (h : List Entry) (legal : IsLegal d h) (of : IsOfTotals totals d h) where
   pub installed-of : (id : ℕ) → 0 < installs_of id h → IsSome (totals id) × (total_of d id h ≡ totals id)
   installed-of id was =
-      let r = some-total (life_of d id h) (installs_of id h) (lasts_of d id h) (total_of d id h) (slot_with d id h) (counts d id h legal) was in
+      let r = installed-total d id h legal was in
       let is : totals id ≡ Some r.0 = of id r.0 r.1 in
       (subst IsSome (sym is) refl, r.1 ∙ sym is)
 

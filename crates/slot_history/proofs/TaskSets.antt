@@ -12,7 +12,7 @@ use Rattle.slot_history.specs.declared.place.Place.TheVariants.{Inside, Used, As
 use Rattle.slot_history.specs.States.{SlotState, Empty, ObjectState, slot_of, id_at, task_of, is_empty, is_inside}
 use Rattle.slot_history.specs.Steps.{site, state_after}
 use Rattle.slot_history.specs.Allowed.{IsAllowed}
-use Rattle.slot_history.specs.Histories.{IsLegal, place_of, installs_of, lasts_of, total_of, slot_with, touches, renews}
+use Rattle.slot_history.specs.Histories.{IsLegal, place_of, lasts_of, slot_with, touches, renews}
 use Rattle.slot_history.specs.Lives.{Runs, Done, life_of, has_task}
 use Rattle.slot_history.specs.Laws.{OnceInPlace}
 use Rattle.slot_history.proofs.Beginnings.{begins-legal}
@@ -22,14 +22,14 @@ use Rattle.slot_history.proofs.Within.{within}
 use Rattle.slot_history.proofs.Growth.{open-or-shut}
 use Rattle.slot_history.proofs.Holdings.{holder-slot}
 use Rattle.slot_history.proofs.Book.{book, task-id, asking-slot}
-use Rattle.slot_history.proofs.Counts.{slot-runs, counts, counts-most, counts-done, counts-runs}
+use Rattle.slot_history.proofs.Counts.{slot-runs, counts-most, counts-done, counts-runs}
 use Rattle.slot_history.proofs.Claims.{inside-runs, inside-done}
 
 -- ---- finalised once, and in place
 
 -- from its last call on a task set is done
 pub finalised-done : (d : Shape) (id : ℕ) (h : List Entry) → IsLegal d h → 0 < lasts_of d id h → (n : ℕ) × (life_of d id h ≡ Done n)
-finalised-done d id h legal some_last = let k = counts-done (life_of d id h) (installs_of id h) (lasts_of d id h) (total_of d id h) (slot_with d id h) (counts d id h legal) some_last in (k.0, k.1)
+finalised-done d id h legal some_last = let k = counts-done d id h legal some_last in (k.0, k.1)
 
 none-inside : (d : Shape) (id : ℕ) (h : List Entry) → IsLegal d h → 0 < lasts_of d id h → (v : ℕ) → is_inside (place_of d h v) id ≡ false
 none-inside d id h legal some_last v = false_from_ne_true (is_inside (place_of d h v) id) (λ k. ⊎_elim
@@ -86,14 +86,14 @@ in-place d h w a id legal low ok at this = ⊎_elim
     (λ some_last. some_last)
     (λ few. let none : lasts_of d id h ≡ 0 = omega arith in
     let s : ℕ = site a (place_of d h w) in
-    let k = counts-runs (life_of d id h) (installs_of id h) (lasts_of d id h) s (total_of d id h) (slot_with d id h) (counts d id h legal) none at in
+    let k = counts-runs d id h legal s none at in
     let r = (book d h legal).runs id s k.0 k.1 in absurd (true≢false (sym r.0 ∙ renews-idle d h w a legal low ok this)))
     (cases_lt 0 (lasts_of d id h))
 
 pub once-in-place : (d : Shape) (h : List Entry) → IsLegal d h → OnceInPlace d h
 once-in-place d h legal id some_last = record {
-  once = let most : lasts_of d id h ≤ 1 = (counts-most (life_of d id h) (installs_of id h) (lasts_of d id h) (total_of d id h) (slot_with d id h) (counts d id h legal)).1 in omega arith;
-  slot = (counts-done (life_of d id h) (installs_of id h) (lasts_of d id h) (total_of d id h) (slot_with d id h) (counts d id h legal) some_last).3;
+  once = let most : lasts_of d id h ≤ 1 = (counts-most d id h legal).1 in omega arith;
+  slot = (counts-done d id h legal some_last).3;
   none_inside = λ early b past v. none-inside d id early (begins-legal d h early legal b) past v;
   untouched = λ e early b past. let k : IsLegal d (e ∷ early) = begins-legal d h (e ∷ early) legal b in untouched d early e.worker e.act id k.2 k.0 k.1 past;
   in_place = λ e early b at this. let k : IsLegal d (e ∷ early) = begins-legal d h (e ∷ early) legal b in in-place d early e.worker e.act id k.2 k.0 k.1 at this;

@@ -1,13 +1,12 @@
 -- What a beginning says of a task set stays: its total and slot from its install on, and its claims from its last call on.
-use Rattle.std.proofs.Common.{◌≡◌, ℕ, ◌+◌, ◌<◌, ◌≤◌, false, cond, List, [], ◌∷◌, ◌++◌, Option, Some, None, refl, sym, ap, ◌∙◌, subst, arith}
+use Rattle.std.proofs.Common.{◌≡◌, ℕ, ◌+◌, ◌<◌, ◌≤◌, false, cond, List, [], ◌∷◌, ◌++◌, Option, Some, refl, sym, ap, ◌∙◌, subst, arith}
 use Rattle.std.proofs.lemmas.Bool.{false_from_ne_true}
 use Rattle.slot_history.specs.declared.shape.Shape.{Shape}
 use Rattle.slot_history.specs.declared.act.Entry.{Entry}
 use Rattle.slot_history.specs.States.{slot_of, held_at}
 use Rattle.slot_history.specs.Histories.{IsLegal, place_of, claims_of, ranges_by, is_install, installs_of, lasts_of, total_of, slot_with}
-use Rattle.slot_history.specs.Lives.{Life, Never, Runs, Done, Counts, life_of}
 use Rattle.slot_history.specs.Beginnings.{KeepsTaskSets, TaskSetsStay}
-use Rattle.slot_history.proofs.Counts.{counts, counts-most, only-once}
+use Rattle.slot_history.proofs.Counts.{counts-most, only-once, total-installed, slot-installed}
 use Rattle.slot_history.proofs.Claims.{ranges-claims, done-claims}
 use Rattle.slot_history.proofs.TaskSets.{finalised-done}
 
@@ -21,18 +20,7 @@ pub lasts-grow : (d : Shape) (id : ℕ) (more early : List Entry) → lasts_of d
 lasts-grow d id [] early = omega arith
 lasts-grow d id (e ∷ more) early = let r : lasts_of d id early ≤ lasts_of d id (more ++ early) = lasts-grow d id more early in omega arith
 
--- a task set with a total or a slot was installed
-pub total-installed : (l : Life) (installs lasts n : ℕ) (total slot : Option ℕ) → Counts l installs lasts total slot → total ≡ Some n → 0 < installs
-total-installed Never installs lasts n total slot k is = absurd (let e : None ≡ Some n = sym k.2 ∙ is in cc)
-total-installed (Runs s m) installs lasts n total slot k is = let e : installs ≡ 1 = k.0 in omega arith
-total-installed (Done m) installs lasts n total slot k is = let e : installs ≡ 1 = k.0 in omega arith
-
-pub slot-installed : (l : Life) (installs lasts s : ℕ) (total slot : Option ℕ) → Counts l installs lasts total slot → slot ≡ Some s → 0 < installs
-slot-installed Never installs lasts s total slot k is = absurd (let e : None ≡ Some s = sym k.3 ∙ is in cc)
-slot-installed (Runs r m) installs lasts s total slot k is = let e : installs ≡ 1 = k.0 in omega arith
-slot-installed (Done m) installs lasts s total slot k is = let e : installs ≡ 1 = k.0 in omega arith
-
--- and is not installed again
+-- what was installed is not installed again
 pub not-again : (d : Shape) (id : ℕ) (e : Entry) (es : List Entry) → IsLegal d (e ∷ es) → 0 < installs_of id es → is_install e.act id ≡ false
 not-again d id e es legal was = false_from_ne_true (is_install e.act id) (λ this.
     let one : cond {A = ℕ} (is_install e.act id) 1 0 ≡ 1 = ap (λ b. cond b 1 0) this in
@@ -41,21 +29,22 @@ not-again d id e es legal was = false_from_ne_true (is_install e.act id) (λ thi
 module _ (d : Shape) (id : ℕ) where
   -- ---- what stays from its install on
 
-  pub total-stays : (n : ℕ) (more early : List Entry) → IsLegal d (more ++ early) → total_of d id early ≡ Some n → total_of d id (more ++ early) ≡ Some n
-  total-stays n [] early legal is = is
-  total-stays n (e ∷ more) early legal is =
+  -- what an install sets of a task set, and every other call leaves
+  install-stays : (set : Entry → List Entry → Option ℕ) (f : List Entry → Option ℕ)
+      → ((e : Entry) (es : List Entry) → f (e ∷ es) ≡ cond (is_install e.act id) (set e es) (f es))
+      → ((h : List Entry) → IsLegal d h → (n : ℕ) → f h ≡ Some n → 0 < installs_of id h)
+      → (n : ℕ) (more early : List Entry) → IsLegal d (more ++ early) → f early ≡ Some n → f (more ++ early) ≡ Some n
+  install-stays set f after was n [] early legal is = is
+  install-stays set f after was n (e ∷ more) early legal is =
       let h : List Entry = more ++ early in
-      let old : total_of d id h ≡ Some n = total-stays n more early legal.2 is in
-      let was : 0 < installs_of id h = total-installed (life_of d id h) (installs_of id h) (lasts_of d id h) n (total_of d id h) (slot_with d id h) (counts d id h legal.2) old in
-      ap (λ b. cond b (held_at (place_of d h e.worker)).total (total_of d id h)) (not-again d id e h legal was) ∙ old
+      let old : f h ≡ Some n = install-stays set f after was n more early legal.2 is in
+      after e h ∙ ap (λ b. cond b (set e h) (f h)) (not-again d id e h legal (was h legal.2 n old)) ∙ old
+
+  pub total-stays : (n : ℕ) (more early : List Entry) → IsLegal d (more ++ early) → total_of d id early ≡ Some n → total_of d id (more ++ early) ≡ Some n
+  total-stays = install-stays (λ e es. (held_at (place_of d es e.worker)).total) (total_of d id) (λ e es. refl) (λ h legal n. total-installed d id h legal n)
 
   pub slot-stays : (s : ℕ) (more early : List Entry) → IsLegal d (more ++ early) → slot_with d id early ≡ Some s → slot_with d id (more ++ early) ≡ Some s
-  slot-stays s [] early legal is = is
-  slot-stays s (e ∷ more) early legal is =
-      let h : List Entry = more ++ early in
-      let old : slot_with d id h ≡ Some s = slot-stays s more early legal.2 is in
-      let was : 0 < installs_of id h = slot-installed (life_of d id h) (installs_of id h) (lasts_of d id h) s (total_of d id h) (slot_with d id h) (counts d id h legal.2) old in
-      ap (λ b. cond b (Some (slot_of (place_of d h e.worker))) (slot_with d id h)) (not-again d id e h legal was) ∙ old
+  slot-stays = install-stays (λ e es. Some (slot_of (place_of d es e.worker))) (slot_with d id) (λ e es. refl) (λ h legal s. slot-installed d id h legal s)
 
   -- ---- what stays from its last call on
 
@@ -71,7 +60,7 @@ module _ (d : Shape) (id : ℕ) where
   last-stays more early legal past =
       let h : List Entry = more ++ early in
       let grows = lasts-grow d id more early in
-      let most = (counts-most (life_of d id h) (installs_of id h) (lasts_of d id h) (total_of d id h) (slot_with d id h) (counts d id h legal)).1 in omega arith
+      let most = (counts-most d id h legal).1 in omega arith
 
 pub keeps-task-sets : (d : Shape) (more early : List Entry) → IsLegal d (more ++ early) → KeepsTaskSets d (more ++ early) early
 keeps-task-sets d more early legal = record {

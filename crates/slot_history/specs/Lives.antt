@@ -28,15 +28,31 @@ abbrev pub life_of : Shape → ℕ → List Entry → Life
 life_of d id [] = Never
 life_of d id (e ∷ es) = life_after e.act (place_of d es e.worker) id (life_of d id es)
 
--- what the life of a task set says of the numbers of its installs and of its last calls, of its total and of its slot
-abbrev pub Counts : Life → ℕ → ℕ → Option ℕ → Option ℕ → Type 0
-Counts Never installs lasts total slot = (installs ≡ 0) × (lasts ≡ 0) × (total ≡ None) × (slot ≡ None)
-Counts (Runs s n) installs lasts total slot = (installs ≡ 1) × (lasts ≡ 0) × (total ≡ Some n) × (slot ≡ Some s)
-Counts (Done n) installs lasts total slot = (installs ≡ 1) × (lasts ≡ 1) × (total ≡ Some n) × IsSome slot
+-- what a history counts of a task set: its installs and its last calls, and the total and the slot
+-- of its install
+pub record Tally : Type 0 where
+  pub installs : ℕ
+  pub lasts : ℕ
+  pub total : Option ℕ
+  pub slot : Option ℕ
+
+abbrev pub tally_of : Shape → ℕ → List Entry → Tally
+tally_of d id h = record {
+  installs = installs_of id h;
+  lasts = lasts_of d id h;
+  total = total_of d id h;
+  slot = slot_with d id h;
+}
+
+-- what the life of a task set says of this
+abbrev pub Counts : Life → Tally → Type 0
+Counts Never c = (c.installs ≡ 0) × (c.lasts ≡ 0) × (c.total ≡ None) × (c.slot ≡ None)
+Counts (Runs s n) c = (c.installs ≡ 1) × (c.lasts ≡ 0) × (c.total ≡ Some n) × (c.slot ≡ Some s)
+Counts (Done n) c = (c.installs ≡ 1) × (c.lasts ≡ 1) × (c.total ≡ Some n) × IsSome c.slot
 
 -- and so of each task set of a history
 abbrev pub CountsOf : Shape → List Entry → Type 0
-CountsOf d h = (id : ℕ) → Counts (life_of d id h) (installs_of id h) (lasts_of d id h) (total_of d id h) (slot_with d id h)
+CountsOf d h = (id : ℕ) → Counts (life_of d id h) (tally_of d id h)
 
 -- a slot has a task set to claim of while it is open or shut
 abbrev pub has_task : SlotState → Bool

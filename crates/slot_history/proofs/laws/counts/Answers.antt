@@ -2,4 +2,4 @@ use Rattle.slot_history.proofs.laws.counts.Goals as goal
 use Rattle.slot_history.proofs.Counts.{counts}
 
 pub returns : goal.returns
-returns c = λ d h legal id. counts d id h legal
+returns c = counts

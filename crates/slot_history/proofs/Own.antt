@@ -1,6 +1,6 @@
 -- A worker's place, with the numbers of its tokens, its claims and its notice records are given by its own entries
 -- alone: no call of another worker changes them.
-use Rattle.std.proofs.Common.{◌≡◌, ◌≢◌, ℕ, cond, List, [], ◌∷◌, refl, sym, ap, ap₂, ◌∙◌, subst, eq-eqb, ne_eqb}
+use Rattle.std.proofs.Common.{◌≡◌, ◌≢◌, ℕ, cond, eqb, List, [], ◌∷◌, refl, sym, ap, ap₂, ◌∙◌, subst, eq-eqb, ne_eqb}
 use native.Mathlib.Decide.{ℕ_discrete}
 use Rattle.slot_history.specs.declared.shape.Shape.{Shape}
 use Rattle.slot_history.specs.declared.act.Act.{Act}
@@ -11,11 +11,19 @@ use Rattle.slot_history.specs.Histories.{IsLegal, entry, own_calls, place_of, ra
 use Rattle.slot_history.specs.Laws.{OwnEntries, CallsGoOn}
 use Rattle.slot_history.proofs.Sets.{upd-else}
 
+-- a choice by whether a worker made the call
+module _ {A : Type 0} (w u : ℕ) (x y : A) where
+  by-mine : w ≡ u → cond (eqb w u) x y ≡ x
+  by-mine same = ap (λ b. cond b x y) (eq-eqb w u same)
+
+  by-other : w ≢ u → cond (eqb w u) x y ≡ y
+  by-other differs = ap (λ b. cond b x y) (ne_eqb w u differs)
+
 pub own-mine : (e : Entry) (h : List Entry) (w : ℕ) → w ≡ e.worker → own_calls w (e ∷ h) ≡ e ∷ own_calls w h
-own-mine e h w same = ap (λ b. cond b (e ∷ own_calls w h) (own_calls w h)) (eq-eqb w e.worker same)
+own-mine e h w same = by-mine w e.worker (e ∷ own_calls w h) (own_calls w h) same
 
 pub own-other : (e : Entry) (h : List Entry) (w : ℕ) → w ≢ e.worker → own_calls w (e ∷ h) ≡ own_calls w h
-own-other e h w other = ap (λ b. cond b (e ∷ own_calls w h) (own_calls w h)) (ne_eqb w e.worker other)
+own-other e h w other = by-other w e.worker (e ∷ own_calls w h) (own_calls w h) other
 
 -- after a call: the place of its worker, and the places of others
 pub place-mine : (d : Shape) (e : Entry) (h : List Entry) (w : ℕ) → w ≡ e.worker → place_of d (e ∷ h) w ≡ moved d e.act (place_of d h w)
@@ -48,19 +56,19 @@ module _ {A : Type 0} (d : Shape) (w : ℕ) (f : List Entry → A) (after : Act 
   by-own-calls (e ∷ es) = own-step e es (by-own-calls es) (ℕ_discrete w e.worker)
 
 pub ranges-mine : (d : Shape) (w id : ℕ) (e : Entry) (h : List Entry) → w ≡ e.worker → ranges_of d w id (e ∷ h) ≡ ranges_after e.act (place_of d h w) id (ranges_of d w id h)
-ranges-mine d w id e h same = ap (λ b. cond b (ranges_after e.act (place_of d h w) id (ranges_of d w id h)) (ranges_of d w id h)) (eq-eqb w e.worker same)
+ranges-mine d w id e h same = by-mine w e.worker (ranges_after e.act (place_of d h w) id (ranges_of d w id h)) (ranges_of d w id h) same
 
 pub ranges-other : (d : Shape) (w id : ℕ) (e : Entry) (h : List Entry) → w ≢ e.worker → ranges_of d w id (e ∷ h) ≡ ranges_of d w id h
-ranges-other d w id e h other = ap (λ b. cond b (ranges_after e.act (place_of d h w) id (ranges_of d w id h)) (ranges_of d w id h)) (ne_eqb w e.worker other)
+ranges-other d w id e h other = by-other w e.worker (ranges_after e.act (place_of d h w) id (ranges_of d w id h)) (ranges_of d w id h) other
 
 pub ranges-own : (d : Shape) (w id : ℕ) (h : List Entry) → ranges_of d w id h ≡ ranges_of d w id (own_calls w h)
 ranges-own d w id = by-own-calls d w (ranges_of d w id) (λ a p rs. ranges_after a p id rs) (place-own d w) (ranges-mine d w id) (ranges-other d w id)
 
 pub record-mine : (d : Shape) (w s : ℕ) (e : Entry) (h : List Entry) → w ≡ e.worker → own_record d w s (e ∷ h) ≡ own_record_after e.act (place_of d h w) s (own_record d w s h)
-record-mine d w s e h same = ap (λ b. cond b (own_record_after e.act (place_of d h w) s (own_record d w s h)) (own_record d w s h)) (eq-eqb w e.worker same)
+record-mine d w s e h same = by-mine w e.worker (own_record_after e.act (place_of d h w) s (own_record d w s h)) (own_record d w s h) same
 
 pub record-other : (d : Shape) (w s : ℕ) (e : Entry) (h : List Entry) → w ≢ e.worker → own_record d w s (e ∷ h) ≡ own_record d w s h
-record-other d w s e h other = ap (λ b. cond b (own_record_after e.act (place_of d h w) s (own_record d w s h)) (own_record d w s h)) (ne_eqb w e.worker other)
+record-other d w s e h other = by-other w e.worker (own_record_after e.act (place_of d h w) s (own_record d w s h)) (own_record d w s h) other
 
 pub record-own : (d : Shape) (w s : ℕ) (h : List Entry) → own_record d w s h ≡ own_record d w s (own_calls w h)
 record-own d w s = by-own-calls d w (own_record d w s) (λ a p r. own_record_after a p s r) (place-own d w) (record-mine d w s) (record-other d w s)

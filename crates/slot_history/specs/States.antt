@@ -181,21 +181,21 @@ is_at (Behind t id) s = eqb t s
 is_at (Leading t id) s = eqb t s
 is_at _ s = false
 
--- a worker is inside with an id from the look that answered it to the leave; it has its own cell of the slot then
-abbrev pub is_inside : Place → ℕ → Bool
-is_inside (Inside s jd) id = eqb jd id
-is_inside (Used s jd) id = eqb jd id
-is_inside (Behind s jd) id = eqb jd id
-is_inside (Leading s jd) id = eqb jd id
-is_inside _ id = false
+-- the worker is inside at a slot, from the look that answered an id to the leave
+abbrev pub has_cell : Place → Bool
+has_cell (Inside s id) = true
+has_cell (Used s id) = true
+has_cell (Behind s id) = true
+has_cell (Leading s id) = true
+has_cell _ = false
 
--- the worker is inside at a slot, and so has its own cell of it
+-- it is inside with this id
+abbrev pub is_inside : Place → ℕ → Bool
+is_inside p id = has_cell p && eqb (id_at p) id
+
+-- it is inside at this slot, and so has its own cell of it
 abbrev pub has_own_cell : Place → ℕ → Bool
-has_own_cell (Inside t id) s = eqb t s
-has_own_cell (Used t id) s = eqb t s
-has_own_cell (Behind t id) s = eqb t s
-has_own_cell (Leading t id) s = eqb t s
-has_own_cell _ s = false
+has_own_cell p s = has_cell p && eqb (slot_of p) s
 
 -- the worker holds a slot, and so has all cells of it
 abbrev pub holds : Place → ℕ → Bool

@@ -17,38 +17,41 @@ debts d x = count_of d.workers (owes x)
 
 -- the worker that the coordinator of a shut slot asks next is at the slot
 abbrev pub next_is_at : Shape → ObjectState → ℕ → SlotState → Bool
-next_is_at d S s (Shut t e) = is_at (S.places (next_asked d e)) s
+next_is_at d S s (Shut t end) = is_at (S.places (next_asked d end)) s
 next_is_at d S s x = false
 
--- a number of 64 bits whose bit k is set exactly where the slot k of the part has its notice pending
+-- a number of 64 bits whose bit k is set exactly where the slot k of the part has its notice
+-- pending
 pub record IsMask (part : ℕ) (pending : ℕ → Bool) (bits : ℕ) : Type 0 where
   pub small : bits < 2 ^ 64
   pub each : (k : ℕ) → k < 64 → bit_at bits k ≡ cond (pending (part * 64 + k)) 1 0
 
--- whether the task set after this holding is one that the holder may install: its total is set, and after a finalisation
--- that of one stage was noted and the query may have one more
-pub record IsReady (h : Held) : Type 0 where
-  pub has_query : IsSome h.query
-  pub has_total : IsSome h.total
-  pub next_stage : h.again ≡ true → (h.noted ≡ 1) × (h.stage + 1 < STAGES)
+-- whether the task set after this holding is one that the holder may install: its total is set, and
+-- after a finalisation that of one stage was noted and the query may have one more
+pub record IsReady (held : Held) : Type 0 where
+  pub has_query : IsSome held.query
+  pub has_total : IsSome held.total
+  pub next_stage : held.again ≡ true → (held.noted ≡ 1) × (held.stage + 1 < STAGES)
 
--- The call is allowed in this state, and the answer is the one that it has there. Each line names the places at which
--- the call is allowed, then its conditions, then what the answer says.
+-- The call is allowed in this state, and the answer is the one that it has there. Each line names
+-- the places at which the call is allowed, then its conditions, then what the answer says.
 abbrev pub IsAllowed : Shape → ObjectState → ℕ → Act → Type 0
 IsAllowed d S w (Enter s) = (S.places w ≡ Free) × (s < d.slots)
 IsAllowed d S w (LookOpen id) = (s : ℕ) × (S.places w ≡ Entered s) × (is_open (S.slots s) ≡ true)
     × (id ≡ id_of (S.slots s))
 IsAllowed d S w LookInvalid = (s : ℕ) × (S.places w ≡ Entered s) × (is_tagged (S.slots s) ≡ true)
 IsAllowed d S w LookVacant = (s : ℕ) × (S.places w ≡ Entered s) × (is_vacant (S.slots s) ≡ true)
-IsAllowed d S w (ClaimRange n from to) = (s id : ℕ) × (S.places w ≡ Inside s id) × (0 < n) × (n ≤ MOST_CLAIM)
-    × (from ≡ (task_of (S.slots s)).cursor) × (from < (task_of (S.slots s)).total)
-    × (to ≡ min (task_of (S.slots s)).total (from + n))
-IsAllowed d S w (ClaimUsed n) = (s id : ℕ) × (S.places w ≡ Inside s id) × (0 < n) × (n ≤ MOST_CLAIM)
-    × ((task_of (S.slots s)).total ≤ (task_of (S.slots s)).cursor)
+IsAllowed d S w (ClaimRange n from to) = (s id : ℕ) × (S.places w ≡ Inside s id) × (0 < n)
+    × (n ≤ MOST_CLAIM) × (from ≡ (task_of (S.slots s)).cursor)
+    × (from < (task_of (S.slots s)).total) × (to ≡ min (task_of (S.slots s)).total (from + n))
+IsAllowed d S w (ClaimUsed n) = (s id : ℕ) × (S.places w ≡ Inside s id) × (0 < n)
+    × (n ≤ MOST_CLAIM) × ((task_of (S.slots s)).total ≤ (task_of (S.slots s)).cursor)
 IsAllowed d S w ShutWon = (s id : ℕ) × (S.places w ≡ Used s id) × (is_open (S.slots s) ≡ true)
 IsAllowed d S w ShutLost = (s id : ℕ) × (S.places w ≡ Used s id) × (is_shut (S.slots s) ≡ true)
-IsAllowed d S w LeaveLeft = (can_leave (S.places w) ≡ true) × (owes (S.slots (slot_of (S.places w))) w ≡ false)
-IsAllowed d S w (LeaveOwe id) = (can_leave (S.places w) ≡ true) × (owes (S.slots (slot_of (S.places w))) w ≡ true)
+IsAllowed d S w LeaveLeft = (can_leave (S.places w) ≡ true)
+    × (owes (S.slots (slot_of (S.places w))) w ≡ false)
+IsAllowed d S w (LeaveOwe id) = (can_leave (S.places w) ≡ true)
+    × (owes (S.slots (slot_of (S.places w))) w ≡ true)
     × (id ≡ id_of (S.slots (slot_of (S.places w))))
 IsAllowed d S w PayLast = (s id : ℕ) × (S.places w ≡ Owing s id) × (is_swept (S.slots s) ≡ true)
     × (debts d (ended d w PayDone (S.slots s)) ≡ 0)
@@ -63,19 +66,23 @@ IsAllowed d S w SweepLast = (s id asked marked : ℕ) × (S.places w ≡ Asking 
 IsAllowed d S w (SweepOthers n) = (s id asked marked : ℕ) × (S.places w ≡ Asking s id asked marked)
     × (asked + 1 ≡ d.workers) × (0 < n) × (n ≡ debts d (S.slots s))
 IsAllowed d S w (ReserveGot s) = (S.places w ≡ Free) × (s < d.slots) × (is_empty (S.slots s) ≡ true)
-IsAllowed d S w (ReserveTaken s word) = (S.places w ≡ Free) × (s < d.slots) × (is_empty (S.slots s) ≡ false)
-    × (word ≡ slot_word (S.slots s))
-IsAllowed d S w (AdmitGot q) = (s : ℕ) × (h : Held) × (S.places w ≡ Holding s h) × (h.query ≡ None)
-    × (q < d.queries) × (S.admitted ≡ q)
-IsAllowed d S w (AdmitLost q now) = (s : ℕ) × (h : Held) × (S.places w ≡ Holding s h) × (h.query ≡ None)
-    × (q < d.queries) × (now ≡ S.admitted) × (now ≢ q)
+IsAllowed d S w (ReserveTaken s word) = (S.places w ≡ Free) × (s < d.slots)
+    × (is_empty (S.slots s) ≡ false) × (word ≡ slot_word (S.slots s))
+IsAllowed d S w (AdmitGot q) = (s : ℕ) × (held : Held) × (S.places w ≡ Holding s held)
+    × (held.query ≡ None) × (q < d.queries) × (S.admitted ≡ q)
+IsAllowed d S w (AdmitLost q now) = (s : ℕ) × (held : Held) × (S.places w ≡ Holding s held)
+    × (held.query ≡ None) × (q < d.queries) × (now ≡ S.admitted) × (now ≢ q)
 IsAllowed d S w (Arrivals n) = n ≡ S.admitted
 IsAllowed d S w (Finished n) = n ≡ S.finished
-IsAllowed d S w (Note k) = (s : ℕ) × (h : Held) × (S.places w ≡ Holding s h) × IsSome h.query × (h.noted ≡ 0)
-    × (0 < k) × (h.stage + k ≤ STAGES)
-IsAllowed d S w (Total t) = (s : ℕ) × (h : Held) × (S.places w ≡ Holding s h) × IsSome h.query × (t ≤ MOST_TOTAL)
-IsAllowed d S w (Install id) = (s : ℕ) × (h : Held) × (S.places w ≡ Holding s h) × IsReady h × (id ≡ next_id h)
-IsAllowed d S w Release = (s : ℕ) × (h : Held) × (S.places w ≡ Holding s h) × ((h.query ≡ None) ⊎ (0 < h.noted))
-IsAllowed d S w Tell = (s : ℕ) × (again : Bool) × (told : ℕ) × (S.places w ≡ Announcing s again told)
+IsAllowed d S w (Note n) = (s : ℕ) × (held : Held) × (S.places w ≡ Holding s held)
+    × IsSome held.query × (held.noted ≡ 0) × (0 < n) × (held.stage + n ≤ STAGES)
+IsAllowed d S w (Total n) = (s : ℕ) × (held : Held) × (S.places w ≡ Holding s held)
+    × IsSome held.query × (n ≤ MOST_TOTAL)
+IsAllowed d S w (Install id) = (s : ℕ) × (held : Held) × (S.places w ≡ Holding s held)
+    × IsReady held × (id ≡ next_id held)
+IsAllowed d S w Release = (s : ℕ) × (held : Held) × (S.places w ≡ Holding s held)
+    × ((held.query ≡ None) ⊎ (0 < held.noted))
+IsAllowed d S w Tell = (s : ℕ) × (again : Bool) × (told : ℕ)
+    × (S.places w ≡ Announcing s again told)
 IsAllowed d S w (TakeReturn part bits) = (part < PARTS) × IsMask part (S.returns w) bits
 IsAllowed d S w (TakeChange part bits) = (part < PARTS) × IsMask part (S.changes w) bits

@@ -38,8 +38,8 @@ abbrev pub OthersLeaveIt : Type 0
 OthersLeaveIt = (d : Shape) (w : ℕ) (more early : List Entry) → own_calls w more ≡ []
     → StaysWithoutCalls d w more early
 
--- What a beginning says of a task set stays: its total and its slot from its install on, and from its last call on also its
--- claims, and so the ranges of each worker.
+-- What a beginning says of a task set stays: its total and its slot from its install on, and from
+-- its last call on also its claims, and so the ranges of each worker.
 pub record KeepsTaskSets (d : Shape) (h early : List Entry) : Type 0 where
   pub total : (id total : ℕ) → total_of d id early ≡ Some total → total_of d id h ≡ Some total
   pub slot : (id s : ℕ) → slot_with d id early ≡ Some s → slot_with d id h ≡ Some s
@@ -58,13 +58,13 @@ IsTiled d h id = (0 < lasts_of d id h)
 
 -- the task set that a worker finalises is so, by any history in which it is the holder
 abbrev pub HolderTiles : Type 0
-HolderTiles = (d : Shape) (w s : ℕ) (k : Held) (h : List Entry) → IsLegal d h → w < d.workers
-    → place_of d h w ≡ Holding s k → k.again ≡ true → IsTiled d h (finalised_id k)
+HolderTiles = (d : Shape) (w s : ℕ) (held : Held) (h : List Entry) → IsLegal d h → w < d.workers
+    → place_of d h w ≡ Holding s held → held.again ≡ true → IsTiled d h (finalised_id held)
 
 -- and a beginning that has all own calls of the holder has all claims of this task set
 abbrev pub HolderHasClaims : Type 0
-HolderHasClaims = (d : Shape) (w s : ℕ) (k : Held) (h early : List Entry) → IsLegal d h
-    → Begins h early → w < d.workers → place_of d h w ≡ Holding s k → k.again ≡ true
-    → own_calls w h ≡ own_calls w early → let id = finalised_id k in
+HolderHasClaims = (d : Shape) (w s : ℕ) (held : Held) (h early : List Entry) → IsLegal d h
+    → Begins h early → w < d.workers → place_of d h w ≡ Holding s held → held.again ≡ true
+    → own_calls w h ≡ own_calls w early → let id = finalised_id held in
     (claims_of d id early ≡ claims_of d id h)
     × ((v : ℕ) → ranges_of d v id early ≡ ranges_of d v id h)

@@ -57,8 +57,8 @@ call_of (AdmitGot q) = Admitting q
 call_of (AdmitLost q now) = Admitting q
 call_of (Arrivals n) = AskingArrivals
 call_of (Finished n) = AskingFinished
-call_of (Note k) = Noting k
-call_of (Total t) = Totalling t
+call_of (Note n) = Noting n
+call_of (Total n) = Totalling n
 call_of (Install id) = Installing id
 call_of Release = Releasing
 call_of Tell = Telling
@@ -78,16 +78,18 @@ MayAt d p Marking = (s id asked marked : ℕ) × (p ≡ Asking s id asked marked
 MayAt d p Sweeping = (s id asked marked : ℕ) × (p ≡ Asking s id asked marked)
     × (asked + 1 ≡ d.workers)
 MayAt d p (Reserving s) = (p ≡ Free) × (s < d.slots)
-MayAt d p (Admitting q) = (s : ℕ) × (h : Held) × (p ≡ Holding s h) × (h.query ≡ None)
+MayAt d p (Admitting q) = (s : ℕ) × (held : Held) × (p ≡ Holding s held) × (held.query ≡ None)
     × (q < d.queries)
 MayAt d p AskingArrivals = Unit {0}
 MayAt d p AskingFinished = Unit {0}
-MayAt d p (Noting k) = (s : ℕ) × (h : Held) × (p ≡ Holding s h) × IsSome h.query × (h.noted ≡ 0)
-    × (0 < k) × (h.stage + k ≤ STAGES)
-MayAt d p (Totalling t) = (s : ℕ) × (h : Held) × (p ≡ Holding s h) × IsSome h.query
-    × (t ≤ MOST_TOTAL)
-MayAt d p (Installing id) = (s : ℕ) × (h : Held) × (p ≡ Holding s h) × IsReady h × (id ≡ next_id h)
-MayAt d p Releasing = (s : ℕ) × (h : Held) × (p ≡ Holding s h) × ((h.query ≡ None) ⊎ (0 < h.noted))
+MayAt d p (Noting n) = (s : ℕ) × (held : Held) × (p ≡ Holding s held) × IsSome held.query
+    × (held.noted ≡ 0) × (0 < n) × (held.stage + n ≤ STAGES)
+MayAt d p (Totalling n) = (s : ℕ) × (held : Held) × (p ≡ Holding s held) × IsSome held.query
+    × (n ≤ MOST_TOTAL)
+MayAt d p (Installing id) = (s : ℕ) × (held : Held) × (p ≡ Holding s held) × IsReady held
+    × (id ≡ next_id held)
+MayAt d p Releasing = (s : ℕ) × (held : Held) × (p ≡ Holding s held)
+    × ((held.query ≡ None) ⊎ (0 < held.noted))
 MayAt d p Telling = (s : ℕ) × (again : Bool) × (told : ℕ) × (p ≡ Announcing s again told)
 MayAt d p (TakingReturn part) = part < PARTS
 MayAt d p (TakingChange part) = part < PARTS
@@ -103,32 +105,36 @@ mask_of (suc n) f = cond (f n) 1 0 * 2 ^ n + mask_of n f
 
 abbrev pub looked_at : SlotState → Act
 looked_at Empty = LookVacant
-looked_at (Reserved w h) = LookVacant
+looked_at (Reserved w held) = LookVacant
 looked_at (Open t) = LookOpen t.id
-looked_at (Shut t e) = LookInvalid
-looked_at (Finishing id w h) = LookInvalid
+looked_at (Shut t end) = LookInvalid
+looked_at (Finishing id w held) = LookInvalid
 
 -- the call with its answer, where w makes it at the slot x
 abbrev pub answer_at : Shape → ObjectState → ℕ → Call → SlotState → Act
 answer_at d S w (Entering s) x = Enter s
 answer_at d S w Looking x = looked_at x
-answer_at d S w (Claiming n) x = let t = task_of x in cond (ltb t.cursor t.total) (ClaimRange n t.cursor (min t.total (t.cursor + n))) (ClaimUsed n)
+answer_at d S w (Claiming n) x = let t = task_of x in
+    cond (ltb t.cursor t.total) (ClaimRange n t.cursor (min t.total (t.cursor + n))) (ClaimUsed n)
 answer_at d S w Shutting x = cond (is_open x) ShutWon ShutLost
 answer_at d S w Leaving x = cond (owes x w) (LeaveOwe (id_of x)) LeaveLeft
-answer_at d S w Paying x = cond (is_swept x && eqb (debts d (ended d w PayDone x)) 0) PayLast PayDone
+answer_at d S w Paying x =
+    cond (is_swept x && eqb (debts d (ended d w PayDone x)) 0) PayLast PayDone
 answer_at d S w Marking x = cond (next_is_at d S (slot_of (S.places w)) x) MarkMarked MarkMissed
 answer_at d S w Sweeping x = cond (eqb (debts d x) 0) SweepLast (SweepOthers (debts d x))
 answer_at d S w (Reserving s) x = cond (is_empty x) (ReserveGot s) (ReserveTaken s (slot_word x))
 answer_at d S w (Admitting q) x = cond (eqb S.admitted q) (AdmitGot q) (AdmitLost q S.admitted)
 answer_at d S w AskingArrivals x = Arrivals S.admitted
 answer_at d S w AskingFinished x = Finished S.finished
-answer_at d S w (Noting k) x = Note k
-answer_at d S w (Totalling t) x = Total t
+answer_at d S w (Noting n) x = Note n
+answer_at d S w (Totalling n) x = Total n
 answer_at d S w (Installing id) x = Install id
 answer_at d S w Releasing x = Release
 answer_at d S w Telling x = Tell
-answer_at d S w (TakingReturn part) x = TakeReturn part (mask_of 64 (λ k. S.returns w (part * 64 + k)))
-answer_at d S w (TakingChange part) x = TakeChange part (mask_of 64 (λ k. S.changes w (part * 64 + k)))
+answer_at d S w (TakingReturn part) x =
+    TakeReturn part (mask_of 64 (λ k. S.returns w (part * 64 + k)))
+answer_at d S w (TakingChange part) x =
+    TakeChange part (mask_of 64 (λ k. S.changes w (part * 64 + k)))
 
 -- the slot that a call is about
 abbrev pub call_site : Call → Place → ℕ
@@ -140,10 +146,11 @@ call_site _ p = slot_of p
 abbrev pub reply_of : Shape → ObjectState → ℕ → Call → Act
 reply_of d S w c = answer_at d S w c (S.slots (call_site c (S.places w)))
 
--- an allowed call has one answer, that of `reply_of`, which is an answer of this call; and the calls that have an allowed
--- answer are allowed
+-- an allowed call has one answer, that of `reply_of`, which is an answer of this call; and the
+-- calls that have an allowed answer are allowed
 pub record IsAnswered (d : Shape) (S : ObjectState) : Type 0 where
-  pub always : (w : ℕ) (c : Call) → w < d.workers → MayCall d S w c → IsAllowed d S w (reply_of d S w c)
+  pub always : (w : ℕ) (c : Call) → w < d.workers → MayCall d S w c
+      → IsAllowed d S w (reply_of d S w c)
   pub only : (w : ℕ) (a : Act) → IsAllowed d S w a → a ≡ reply_of d S w (call_of a)
   pub of_call : (w : ℕ) (c : Call) → call_of (reply_of d S w c) ≡ c
   pub may : (w : ℕ) (a : Act) → IsAllowed d S w a → MayCall d S w (call_of a)

@@ -1,4 +1,5 @@
--- Legal histories, what a trail knows of them, and what they did with each task set. Newest entries come first.
+-- Legal histories, what a trail knows of them, and what they did with each task set. Newest entries
+-- come first.
 use Rattle.std.specs.Prelude.{◌≡◌, ℕ, ◌+◌, ◌/◌, ◌%◌, ◌<◌, Bool, true, false, cond, eqb, ◌&&◌, List, [], ◌∷◌, ◌++◌, Option, Some, None, IsSome}
 use Rattle.std.specs.Int.{bit_at}
 use Rattle.slot_history.specs.declared.shape.Shape.{Shape}
@@ -14,7 +15,8 @@ use Rattle.slot_history.specs.Allowed.{IsAllowed}
 -- each call was allowed where it was made, and had its answer
 abbrev pub IsLegal : Shape → List Entry → Type 0
 IsLegal d [] = Unit {0}
-IsLegal d (e ∷ es) = (e.worker < d.workers) × IsAllowed d (state_after d es) e.worker e.act × IsLegal d es
+IsLegal d (e ∷ es) = (e.worker < d.workers) × IsAllowed d (state_after d es) e.worker e.act
+    × IsLegal d es
 
 abbrev pub entry : ℕ → Act → Entry
 entry w a = record { worker = w; act = a }
@@ -32,11 +34,11 @@ place_of d h w = (state_after d h).places w
 abbrev pub Begins : List Entry → List Entry → Type 0
 Begins h t = (more : List Entry) × (h ≡ more ++ t)
 
--- After the call a of w, its trail `new` ends with this call and begins with the trail `old`; of w it has just its own
--- calls, and it is a legal history.
+-- After the call a of w, its trail `new` ends with this call and begins with the trail `old`; of w
+-- it has just its own calls, and it is a legal history.
 abbrev pub Called : Shape → ℕ → Act → List Entry → List Entry → Type 0
-Called d w a old new = (h : List Entry) × (new ≡ entry w a ∷ h) × Begins h old × (own_calls w h ≡ own_calls w old)
-    × IsLegal d new
+Called d w a old new = (h : List Entry) × (new ≡ entry w a ∷ h) × Begins h old
+    × (own_calls w h ≡ own_calls w old) × IsLegal d new
 
 -- ---- claims
 
@@ -48,14 +50,15 @@ pub record Morsel : Type 0 where
 
 -- one more where the call is a claim that got a range, by a worker that is inside with the id
 abbrev pub claims_after : ℕ → Act → Place → ℕ → List Morsel → List Morsel
-claims_after w (ClaimRange n from to) p id ms = cond (is_inside p id) (record { worker = w; from = from; to = to }
-    ∷ ms) ms
+claims_after w (ClaimRange n from to) p id ms =
+    cond (is_inside p id) (record { worker = w; from = from; to = to } ∷ ms) ms
 claims_after w _ p id ms = ms
 
 -- the ranges that were claimed of an id, newest first
 abbrev pub claims_of : Shape → ℕ → List Entry → List Morsel
 claims_of d id [] = []
-claims_of d id (e ∷ es) = claims_after e.worker e.act (place_of d es e.worker) id (claims_of d id es)
+claims_of d id (e ∷ es) =
+    claims_after e.worker e.act (place_of d es e.worker) id (claims_of d id es)
 
 abbrev pub ranges_after : Act → Place → ℕ → List (ℕ × ℕ) → List (ℕ × ℕ)
 ranges_after (ClaimRange n from to) p id rs = cond (is_inside p id) ((from, to) ∷ rs) rs
@@ -64,15 +67,17 @@ ranges_after _ p id rs = rs
 -- the ranges that w claimed of an id, newest first, each from one number up to below another
 abbrev pub ranges_of : Shape → ℕ → ℕ → List Entry → List (ℕ × ℕ)
 ranges_of d w id [] = []
-ranges_of d w id (e ∷ es) = cond (eqb w e.worker) (ranges_after e.act (place_of d es w) id (ranges_of d w id es)) (ranges_of d w id es)
+ranges_of d w id (e ∷ es) =
+    let before = ranges_of d w id es in
+    cond (eqb w e.worker) (ranges_after e.act (place_of d es w) id before) before
 
 -- the ranges of claims that are by w
 abbrev pub ranges_by : ℕ → List Morsel → List (ℕ × ℕ)
 ranges_by w [] = []
 ranges_by w (m ∷ ms) = cond (eqb w m.worker) ((m.from, m.to) ∷ ranges_by w ms) (ranges_by w ms)
 
--- Claims, newest first, tile a total: the newest ends at the total and is not empty, and the earlier ones tile the
--- number at which it begins. Without claims the total is 0.
+-- Claims, newest first, tile a total: the newest ends at the total and is not empty, and the
+-- earlier ones tile the number at which it begins. Without claims the total is 0.
 abbrev pub Tiles : List Morsel → ℕ → Type 0
 Tiles [] total = total ≡ 0
 Tiles (m ∷ ms) total = (m.to ≡ total) × (m.from < m.to) × Tiles ms m.from
@@ -90,14 +95,18 @@ own_record_after LookInvalid p s r = cond (eqb s (slot_of p)) (dropped r) r
 own_record_after LookVacant p s r = cond (eqb s (slot_of p)) (dropped r) r
 own_record_after ShutWon p s r = cond (eqb s (slot_of p)) (dropped r) r
 own_record_after ShutLost p s r = cond (eqb s (slot_of p)) (dropped r) r
-own_record_after (TakeReturn part bits) p s r = cond (is_in_mask part bits s) (record r { active = true }) r
-own_record_after (TakeChange part bits) p s r = cond (is_in_mask part bits s) (record { active = true; group = None }) r
+own_record_after (TakeReturn part bits) p s r =
+    cond (is_in_mask part bits s) (record r { active = true }) r
+own_record_after (TakeChange part bits) p s r =
+    cond (is_in_mask part bits s) (record { active = true; group = None }) r
 own_record_after _ p s r = r
 
 -- the record that w has of the slot s
 abbrev pub own_record : Shape → ℕ → ℕ → List Entry → NoticeRecord
 own_record d w s [] = record { active = false; group = None }
-own_record d w s (e ∷ es) = cond (eqb w e.worker) (own_record_after e.act (place_of d es w) s (own_record d w s es)) (own_record d w s es)
+own_record d w s (e ∷ es) =
+    let before = own_record d w s es in
+    cond (eqb w e.worker) (own_record_after e.act (place_of d es w) s before) before
 
 -- ---- task sets
 
@@ -113,19 +122,22 @@ installs_of id (e ∷ es) = cond (is_install e.act id) 1 0 + installs_of id es
 -- the total with which an id was installed, if it was
 abbrev pub total_of : Shape → ℕ → List Entry → Option ℕ
 total_of d id [] = None
-total_of d id (e ∷ es) = cond (is_install e.act id) (held_at (place_of d es e.worker)).total (total_of d id es)
+total_of d id (e ∷ es) =
+    cond (is_install e.act id) (held_at (place_of d es e.worker)).total (total_of d id es)
 
 -- the slot in which an id was installed, if it was
 abbrev pub slot_with : Shape → ℕ → List Entry → Option ℕ
 slot_with d id [] = None
-slot_with d id (e ∷ es) = cond (is_install e.act id) (Some (slot_of (place_of d es e.worker))) (slot_with d id es)
+slot_with d id (e ∷ es) =
+    cond (is_install e.act id) (Some (slot_of (place_of d es e.worker))) (slot_with d id es)
 
--- each install is of a task set that the subject has, with its total; `totals` gives the totals of the subject
+-- each install is of a task set that the subject has, with its total; `totals` gives the totals of
+-- the subject
 abbrev pub IsOfTotals : (ℕ → Option ℕ) → Shape → List Entry → Type 0
 IsOfTotals totals d h = (id total : ℕ) → total_of d id h ≡ Some total → totals id ≡ Some total
 
 abbrev pub is_admit : Act → ℕ → Bool
-is_admit (AdmitGot p) q = eqb p q
+is_admit (AdmitGot got) q = eqb got q
 is_admit _ q = false
 
 -- how many times a query was admitted
@@ -141,7 +153,8 @@ is_last _ = false
 -- how many calls were answered that the task set of an id is finalised now
 abbrev pub lasts_of : Shape → ℕ → List Entry → ℕ
 lasts_of d id [] = 0
-lasts_of d id (e ∷ es) = cond (is_last e.act && eqb (id_at (place_of d es e.worker)) id) 1 0 + lasts_of d id es
+lasts_of d id (e ∷ es) =
+    cond (is_last e.act && eqb (id_at (place_of d es e.worker)) id) 1 0 + lasts_of d id es
 
 -- a look that answers an id, or a claim, a shut or a mark of it, by a worker at this place
 abbrev pub touches : Act → Place → ℕ → Bool
@@ -166,13 +179,16 @@ abbrev pub task_given : Act → Option ℕ
 task_given (Install id) = Some id
 task_given _ = None
 
--- the task set that a slot serves: that of its newest install, if it was not released or reserved since
+-- the task set that a slot serves: that of its newest install, if it was not released or reserved
+-- since
 abbrev pub task_in : Shape → ℕ → List Entry → Option ℕ
 task_in d s [] = None
-task_in d s (e ∷ es) = cond (renews e.act && eqb (site e.act (place_of d es e.worker)) s) (task_given e.act) (task_in d s es)
+task_in d s (e ∷ es) = let here = site e.act (place_of d es e.worker) in
+    cond (renews e.act && eqb here s) (task_given e.act) (task_in d s es)
 
--- A task set that was finalised was so once, and in place: it was installed in a slot, at every moment from then on nobody
--- is inside with it and no call touches it, and no call gives its slot away between its install and then.
+-- A task set that was finalised was so once, and in place: it was installed in a slot, at every
+-- moment from then on nobody is inside with it and no call touches it, and no call gives its slot
+-- away between its install and then.
 pub record FinalisedOnce (d : Shape) (id : ℕ) (h : List Entry) : Type 0 where
   pub once : lasts_of d id h ≡ 1
   pub slot : IsSome (slot_with d id h)

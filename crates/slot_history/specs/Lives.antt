@@ -9,7 +9,8 @@ use Rattle.slot_history.specs.States.{TaskSet, SlotState, Empty, Reserved, Open,
 use Rattle.slot_history.specs.Steps.{state_after}
 use Rattle.slot_history.specs.Histories.{Morsel, Tiles, claims_of, is_install, is_last, place_of, installs_of, lasts_of, total_of, slot_with}
 
--- a task set was never installed, or runs in a slot with a total, or was finalised, with the total that it had
+-- a task set was never installed, or runs in a slot with a total, or was finalised, with the total
+-- that it had
 pub data Life : Type 0 where
   Never : Life
   Runs : ℕ → ℕ → Life
@@ -21,7 +22,9 @@ done (Runs s total) = Done total
 done (Done total) = Done total
 
 abbrev pub life_after : Act → Place → ℕ → Life → Life
-life_after a p id l = cond (is_install a id) (Runs (slot_of p) (unwrap_or (held_at p).total 0)) (cond (is_last a && eqb (id_at p) id) (done l) l)
+life_after a p id l =
+    cond (is_install a id) (Runs (slot_of p) (unwrap_or (held_at p).total 0))
+    (cond (is_last a && eqb (id_at p) id) (done l) l)
 
 -- what a history made of a task set
 abbrev pub life_of : Shape → ℕ → List Entry → Life
@@ -46,9 +49,12 @@ tally_of d id h = record {
 
 -- what the life of a task set says of this
 abbrev pub Counts : Life → Tally → Type 0
-Counts Never c = (c.installs ≡ 0) × (c.lasts ≡ 0) × (c.total ≡ None) × (c.slot ≡ None)
-Counts (Runs s n) c = (c.installs ≡ 1) × (c.lasts ≡ 0) × (c.total ≡ Some n) × (c.slot ≡ Some s)
-Counts (Done n) c = (c.installs ≡ 1) × (c.lasts ≡ 1) × (c.total ≡ Some n) × IsSome c.slot
+Counts Never tally = (tally.installs ≡ 0) × (tally.lasts ≡ 0) × (tally.total ≡ None)
+    × (tally.slot ≡ None)
+Counts (Runs s n) tally = (tally.installs ≡ 1) × (tally.lasts ≡ 0) × (tally.total ≡ Some n)
+    × (tally.slot ≡ Some s)
+Counts (Done n) tally = (tally.installs ≡ 1) × (tally.lasts ≡ 1) × (tally.total ≡ Some n)
+    × IsSome tally.slot
 
 -- and so of each task set of a history
 abbrev pub CountsOf : Shape → List Entry → Type 0
@@ -57,23 +63,24 @@ CountsOf d h = (id : ℕ) → Counts (life_of d id h) (tally_of d id h)
 -- a slot has a task set to claim of while it is open or shut
 abbrev pub has_task : SlotState → Bool
 has_task (Open t) = true
-has_task (Shut t e) = true
+has_task (Shut t end) = true
 has_task _ = false
 
 -- the query that a slot serves, if there is one
 abbrev pub query_in : SlotState → Option ℕ
 query_in Empty = None
-query_in (Reserved w h) = h.query
+query_in (Reserved w held) = held.query
 query_in (Open t) = Some (t.id / STAGES)
-query_in (Shut t e) = Some (t.id / STAGES)
-query_in (Finishing id w h) = Some (id / STAGES)
+query_in (Shut t end) = Some (t.id / STAGES)
+query_in (Finishing id w held) = Some (id / STAGES)
 
 -- the later task sets of its query were never installed
 abbrev pub AreLaterNever : (ℕ → Life) → ℕ → Type 0
 AreLaterNever life id = (j : ℕ) → id < j → j / STAGES ≡ id / STAGES → life j ≡ Never
 
 -- the task set t runs in the slot s, and its claims tile what was claimed of it
-pub record IsRunning (life : ℕ → Life) (claims : ℕ → List Morsel) (s : ℕ) (t : TaskSet) : Type 0 where
+pub record IsRunning (life : ℕ → Life) (claims : ℕ → List Morsel) (s : ℕ) (t : TaskSet)
+    : Type 0 where
   pub lives : life t.id ≡ Runs s t.total
   pub tiles : Tiles (claims t.id) (min t.cursor t.total)
   pub later : AreLaterNever life t.id
@@ -81,21 +88,27 @@ pub record IsRunning (life : ℕ → Life) (claims : ℕ → List Morsel) (s : �
 -- what a slot knows of the task sets of its query, where so many queries were admitted
 abbrev pub IsSlotBook : ℕ → (ℕ → Life) → (ℕ → List Morsel) → ℕ → SlotState → Type 0
 IsSlotBook admitted life claims s Empty = Unit {0}
-IsSlotBook admitted life claims s (Reserved w h) = (q : ℕ) → h.query ≡ Some q → (q < admitted)
+IsSlotBook admitted life claims s (Reserved w held) = (q : ℕ) → held.query ≡ Some q → (q < admitted)
     × ((id : ℕ) → id / STAGES ≡ q → life id ≡ Never)
 IsSlotBook admitted life claims s (Open t) = IsRunning life claims s t
-IsSlotBook admitted life claims s (Shut t e) = IsRunning life claims s t
-IsSlotBook admitted life claims s (Finishing id w h) = (total : ℕ) × (life id ≡ Done total) × AreLaterNever life id
+IsSlotBook admitted life claims s (Shut t end) = IsRunning life claims s t
+IsSlotBook admitted life claims s (Finishing id w held) = (total : ℕ) × (life id ≡ Done total)
+    × AreLaterNever life id
 
--- The book of task sets: each slot runs its own; a task set that runs is in its slot, one that was never installed has no
--- claims, none of a query that was not admitted was installed, and no two slots serve one query.
-pub record IsBook (admitted : ℕ) (slots : ℕ → SlotState) (life : ℕ → Life) (claims : ℕ → List Morsel) : Type 0 where
+-- The book of task sets: each slot runs its own; a task set that runs is in its slot, one that was
+-- never installed has no claims, none of a query that was not admitted was installed, and no two
+-- slots serve one query.
+pub record IsBook (admitted : ℕ) (slots : ℕ → SlotState) (life : ℕ → Life)
+    (claims : ℕ → List Morsel) : Type 0 where
   pub slot : (s : ℕ) → IsSlotBook admitted life claims s (slots s)
-  pub runs : (id s total : ℕ) → life id ≡ Runs s total → (has_task (slots s) ≡ true) × ((task_of (slots s)).id ≡ id)
+  pub runs : (id s total : ℕ) → life id ≡ Runs s total
+      → (has_task (slots s) ≡ true) × ((task_of (slots s)).id ≡ id)
   pub never : (id : ℕ) → life id ≡ Never → claims id ≡ []
   pub late : (id : ℕ) → admitted ≤ id / STAGES → life id ≡ Never
-  pub apart : (s t q : ℕ) → query_in (slots s) ≡ Some q → query_in (slots t) ≡ Some q → s ≡ t
+  pub apart : (s other q : ℕ) → query_in (slots s) ≡ Some q → query_in (slots other) ≡ Some q
+      → s ≡ other
 
 -- the book of a history
 abbrev pub IsBookOf : Shape → List Entry → Type 0
-IsBookOf d h = IsBook (state_after d h).admitted (state_after d h).slots (λ id. life_of d id h) (λ id. claims_of d id h)
+IsBookOf d h = let S = state_after d h in
+    IsBook S.admitted S.slots (λ id. life_of d id h) (λ id. claims_of d id h)

@@ -25,7 +25,8 @@ TellsNobody (e ∷ es) = (e.act ≢ Tell) × TellsNobody es
 abbrev pub AdmitsNone : List Entry → Type 0
 AdmitsNone h = (q : ℕ) → admits_of q h ≡ 0
 
--- every other worker is free, and this one is marked nowhere: a free worker may have left it a debt before
+-- every other worker is free, and this one is marked nowhere: a free worker may have left it a debt
+-- before
 pub record IsLone (d : Shape) (S : ObjectState) (w : ℕ) : Type 0 where
   pub others : (v : ℕ) → v < d.workers → v ≢ w → S.places v ≡ Free
   pub unmarked : (s : ℕ) → owes (S.slots s) w ≡ false
@@ -49,13 +50,15 @@ NeedsNobody (e ∷ es) = (needs_another e.act ≡ false) × NeedsNobody es
 -- the worker's record of the slot is active and lets it in, or a pending notice will make it so
 abbrev pub IsKnown : ObjectState → ℕ → ℕ → Type 0
 IsKnown S s v = let q = id_of (S.slots s) / STAGES in
-    (((S.records v s).active ≡ true) × MayBe (S.records v s) q) ⊎ ((S.changes v s ≡ true) ⊎ ((S.returns v s ≡ true) × MayBe (S.records v s) q))
+    (((S.records v s).active ≡ true) × MayBe (S.records v s) q)
+    ⊎ ((S.changes v s ≡ true) ⊎ ((S.returns v s ≡ true) × MayBe (S.records v s) q))
 
 -- ---- the laws, as the functions of module `laws::lone_turns` state them
 
 -- from a quiet state on, while only one worker calls, it is lone
 abbrev pub StaysLone : Type 0
-StaysLone = (d : Shape) (w : ℕ) (more old : List Entry) → w < d.workers → IsLegal d (more ++ old) → IsQuiet d (state_after d old) → IsOnlyBy w more
+StaysLone = (d : Shape) (w : ℕ) (more old : List Entry) → w < d.workers → IsLegal d (more ++ old)
+    → IsQuiet d (state_after d old) → IsOnlyBy w more
     → IsLone d (state_after d (more ++ old)) w
 
 -- once a lone worker is free the state is quiet
@@ -64,35 +67,46 @@ EndsQuiet = (d : Shape) (S : ObjectState) (w : ℕ) → IsLone d S w → S.place
 
 -- a lone worker gets no answer that takes another one
 abbrev pub MeetsNobody : Type 0
-MeetsNobody = (d : Shape) (w : ℕ) (a : Act) (h : List Entry) → IsLegal d (entry w a ∷ h) → IsLone d (state_after d h) w → needs_another a ≡ false
+MeetsNobody = (d : Shape) (w : ℕ) (a : Act) (h : List Entry) → IsLegal d (entry w a ∷ h)
+    → IsLone d (state_after d h) w → needs_another a ≡ false
 
 -- and so none at all from a quiet state on, while only that worker calls
 abbrev pub RunMeetsNobody : Type 0
-RunMeetsNobody = (d : Shape) (w : ℕ) (more old : List Entry) → w < d.workers → IsLegal d (more ++ old) → IsQuiet d (state_after d old) → IsOnlyBy w more → NeedsNobody more
+RunMeetsNobody = (d : Shape) (w : ℕ) (more old : List Entry) → w < d.workers
+    → IsLegal d (more ++ old) → IsQuiet d (state_after d old) → IsOnlyBy w more → NeedsNobody more
 
--- where a lone worker sees its slot open, and no change notice of it is pending, its record allows the query
+-- where a lone worker sees its slot open, and no change notice of it is pending, its record allows
+-- the query
 abbrev pub LookIsKnown : Type 0
-LookIsKnown = (d : Shape) (w id : ℕ) (h : List Entry) → IsLegal d (entry w (LookOpen id) ∷ h) → let S = state_after d h in let s = slot_of (S.places w) in
+LookIsKnown = (d : Shape) (w id : ℕ) (h : List Entry) → IsLegal d (entry w (LookOpen id) ∷ h)
+    → let S = state_after d h in let s = slot_of (S.places w) in
     IsLone d S w → S.changes w s ≡ false → MayBe (S.records w s) (id / STAGES)
 
 -- in a quiet state every worker knows every open slot
 abbrev pub QuietIsKnown : Shape → ObjectState → Type 0
-QuietIsKnown d S = IsQuiet d S → (s v : ℕ) → v < d.workers → is_open (S.slots s) ≡ true → IsKnown S s v
+QuietIsKnown d S = IsQuiet d S → (s v : ℕ) → v < d.workers → is_open (S.slots s) ≡ true
+    → IsKnown S s v
 
 -- notices that a worker took are not pending before somebody is told
 abbrev pub ChangesStayTaken : Type 0
-ChangesStayTaken = (d : Shape) (w bits s : ℕ) (more old : List Entry) → TellsNobody more → (state_after d (more ++ entry w (TakeChange (s / 64) bits) ∷ old)).changes w s ≡ false
+ChangesStayTaken = (d : Shape) (w bits s : ℕ) (more old : List Entry) → TellsNobody more
+    → (state_after d (more ++ entry w (TakeChange (s / 64) bits) ∷ old)).changes w s ≡ false
 
 abbrev pub ReturnsStayTaken : Type 0
-ReturnsStayTaken = (d : Shape) (w bits s : ℕ) (more old : List Entry) → TellsNobody more → (state_after d (more ++ entry w (TakeReturn (s / 64) bits) ∷ old)).returns w s ≡ false
+ReturnsStayTaken = (d : Shape) (w bits s : ℕ) (more old : List Entry) → TellsNobody more
+    → (state_after d (more ++ entry w (TakeReturn (s / 64) bits) ∷ old)).returns w s ≡ false
 
 -- what `arrivals` answered stays the number of queries as long as none is admitted
 abbrev pub ArrivalsStay : Type 0
-ArrivalsStay = (d : Shape) (v n : ℕ) (more old : List Entry) → let h = more ++ entry v (Arrivals n) ∷ old in IsLegal d h → AdmitsNone more → (state_after d h).admitted ≡ n
+ArrivalsStay = (d : Shape) (v n : ℕ) (more old : List Entry)
+    → let h = more ++ entry v (Arrivals n) ∷ old in
+    IsLegal d h → AdmitsNone more → (state_after d h).admitted ≡ n
 
 -- and so an admit of that number is not lost
 abbrev pub AdmitIsGot : Type 0
-AdmitIsGot = (d : Shape) (v w q now : ℕ) (more old : List Entry) → IsLegal d (entry w (AdmitLost q now) ∷ more ++ entry v (Arrivals q) ∷ old) → AdmitsNone more → ⊥
+AdmitIsGot = (d : Shape) (v w q now : ℕ) (more old : List Entry)
+    → IsLegal d (entry w (AdmitLost q now) ∷ more ++ entry v (Arrivals q) ∷ old)
+    → AdmitsNone more → ⊥
 
 -- the call takes notices
 abbrev pub is_take : Act → Bool

@@ -27,7 +27,8 @@ abbrev pub TaskKeepsSlot : Type 0
 TaskKeepsSlot = (d : Shape) (h mid : List Entry) (s id : ℕ) → IsLegal d h
     → task_in d s h ≡ Some id → Begins h mid → 0 < installs_of id mid → task_in d s mid ≡ Some id
 
--- The answer Last comes in the slot of the task set's install, and once its claims tile the total of this install.
+-- The answer Last comes in the slot of the task set's install, and once its claims tile the total
+-- of this install.
 abbrev pub LastInSlot : Type 0
 LastInSlot = (d : Shape) (w : ℕ) (a : Act) (h : List Entry) → IsLegal d (entry w a ∷ h)
     → is_last a ≡ true → let id = id_at (place_of d h w) in
@@ -36,25 +37,26 @@ LastInSlot = (d : Shape) (w : ℕ) (a : Act) (h : List Entry) → IsLegal d (ent
 
 -- and a slot that is finishing is that of the install of its task set
 abbrev pub FinishingInSlot : Shape → List Entry → Type 0
-FinishingInSlot d h = (s id w : ℕ) (k : Held) → (state_after d h).slots s ≡ Finishing id w k
+FinishingInSlot d h = (s id w : ℕ) (held : Held) → (state_after d h).slots s ≡ Finishing id w held
     → (slot_with d id h ≡ Some s) × IsTiled d h id
 
 -- a query is seen open in one slot only: looks that answer task sets of one query are at one slot
 abbrev pub OneSlotSeen : Type 0
-OneSlotSeen = (d : Shape) (w v s t id jd : ℕ) (h early : List Entry)
+OneSlotSeen = (d : Shape) (w v s other id jd : ℕ) (h early : List Entry)
     → IsLegal d (entry w (LookOpen id) ∷ h) → Begins h (entry v (LookOpen jd) ∷ early)
-    → place_of d h w ≡ Entered s → place_of d early v ≡ Entered t
-    → jd / STAGES ≡ id / STAGES → s ≡ t
+    → place_of d h w ≡ Entered s → place_of d early v ≡ Entered other
+    → jd / STAGES ≡ id / STAGES → s ≡ other
 
--- Once a task set of a query was installed, and until a look sees this query open, each look that sees that slot open sees
--- this query.
+-- Once a task set of a query was installed, and until a look sees this query open, each look that
+-- sees that slot open sees this query.
 abbrev pub SameQuerySeen : Type 0
 SameQuerySeen = (d : Shape) (w u s id jd kd : ℕ) (h mid : List Entry)
     → IsLegal d (entry w (LookOpen id) ∷ h) → Begins h (entry u (LookOpen kd) ∷ mid)
     → place_of d h w ≡ Entered s → place_of d mid u ≡ Entered s
     → jd / STAGES ≡ id / STAGES → 0 < installs_of jd mid → kd / STAGES ≡ id / STAGES
 
--- of a task set other than the first of its query that was installed, the one before it was finalised, in the same slot
+-- of a task set other than the first of its query that was installed, the one before it was
+-- finalised, in the same slot
 abbrev pub StageBefore : Shape → List Entry → Type 0
 StageBefore d h = (id s : ℕ) → slot_with d (id + 1) h ≡ Some s → (id + 1) % STAGES ≢ 0
     → (lasts_of d id h ≡ 1) × (slot_with d id h ≡ Some s)

@@ -26,7 +26,8 @@ pub record IsNoticedAt (S : ObjectState) (s v : ℕ) : Type 0 where
   pub open_slot : is_open (S.slots s) ≡ true → let q = id_of (S.slots s) / STAGES in
       (((S.records v s).active ≡ true) × MayBe (S.records v s) q)
       ⊎ (ChangeComes S s v ⊎ (ReturnComes S s v × MayBe (S.records v s) q))
-  pub group : has_id (S.slots s) ≡ true → MayBe (S.records v s) (id_of (S.slots s) / STAGES) ⊎ ChangeComes S s v
+  pub group : has_id (S.slots s) ≡ true
+      → MayBe (S.records v s) (id_of (S.slots s) / STAGES) ⊎ ChangeComes S s v
 
 -- every worker knows of each open slot, or will be told
 abbrev pub IsNoticed : Shape → ObjectState → Type 0

@@ -33,7 +33,8 @@ abbrev pub PlacesNameIds : Shape → ObjectState → Type 0
 PlacesNameIds d S = (w : ℕ) → w < d.workers → names_id (S.places w) ≡ true
     → let x = S.slots (slot_of (S.places w)) in (has_id x ≡ true) × (id_of x ≡ id_at (S.places w))
 
--- each id is one of the shape's queries: in slots, at places, of installs, and in calls and their answers
+-- each id is one of the shape's queries: in slots, at places, of installs, and in calls and their
+-- answers
 pub record AreIdsWithin (d : Shape) (h : List Entry) : Type 0 where
   pub slots : (s : ℕ) → has_id ((state_after d h).slots s) ≡ true
       → id_of ((state_after d h).slots s) < STAGES * d.queries

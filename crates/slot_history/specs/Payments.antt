@@ -9,11 +9,11 @@ use Rattle.slot_history.specs.Allowed.{IsAllowed, debts}
 
 -- how many workers paid at a slot, and how many were marked there
 abbrev pub payments : Shape → SlotState → ℕ
-payments d (Shut t e) = count_of d.workers e.paid
+payments d (Shut t end) = count_of d.workers end.paid
 payments d x = 0
 
 abbrev pub marks : Shape → SlotState → ℕ
-marks d (Shut t e) = count_of d.workers e.marked
+marks d (Shut t end) = count_of d.workers end.marked
 marks d x = 0
 
 -- from x to y one worker more has paid
@@ -26,7 +26,8 @@ abbrev pub IsOneMarked : Shape → SlotState → SlotState → Type 0
 IsOneMarked d x y = (payments d y ≡ payments d x) × (debts d y ≡ debts d x + 1)
     × (marks d y ≡ marks d x + 1)
 
--- a mark is one mark more, a payment that is not the last one payment more, and before the last payment there is one debt
+-- a mark is one mark more, a payment that is not the last one payment more, and before the last
+-- payment there is one debt
 abbrev pub DebtsGoOn : Shape → ObjectState → Type 0
 DebtsGoOn d S = (w : ℕ) → w < d.workers → let x = S.slots (slot_of (S.places w)) in
     (IsAllowed d S w MarkMarked → IsOneMarked d x (slot_after d w MarkMarked x))

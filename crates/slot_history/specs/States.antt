@@ -11,8 +11,8 @@ pub record TaskSet : Type 0 where
   pub total : ℕ
   pub cursor : ℕ
 
--- the end of a task set that is shut: who shut it, the sets of workers that were asked, that were marked and that
--- paid, and whether the coordinator has swept
+-- the end of a task set that is shut: who shut it, the sets of workers that were asked, that were
+-- marked and that paid, and whether the coordinator has swept
 pub record Ending : Type 0 where
   pub coordinator : ℕ
   pub asked : ℕ → Bool
@@ -30,13 +30,15 @@ pub data SlotState : Type 0 where
   -- the id that is finalised, by whom, and what it noted and set in this holding
   Finishing : ℕ → ℕ → Held → SlotState
 
--- what a worker knows of a slot: whether its task set may want work, and of which query it is, if that is known
+-- what a worker knows of a slot: whether its task set may want work, and of which query it is, if
+-- that is known
 pub record NoticeRecord : Type 0 where
   pub active : Bool
   pub group : Option ℕ
 
--- the object: its slots; the places of its workers; by worker and slot the change notices and the return notices that
--- are pending, and the notice records; the numbers of admitted queries and of task sets noted as done
+-- the object: its slots; the places of its workers; by worker and slot the change notices and the
+-- return notices that are pending, and the notice records; the numbers of admitted queries and of
+-- task sets noted as done
 pub record ObjectState : Type 0 where
   pub slots : ℕ → SlotState
   pub places : ℕ → Place
@@ -69,7 +71,7 @@ slot_of (Behind s id) = s
 slot_of (Leading s id) = s
 slot_of (Asking s id asked marked) = s
 slot_of (Owing s id) = s
-slot_of (Holding s h) = s
+slot_of (Holding s held) = s
 slot_of (Announcing s again told) = s
 
 -- the id that a place names, else 0
@@ -88,46 +90,52 @@ reservation = record { query = None; stage = 0; again = false; noted = 0; total 
 
 -- what the holder of a slot has when it begins to finalise a task set
 abbrev pub finalisation : ℕ → Held
-finalisation id = record { query = Some (id / STAGES); stage = id % STAGES; again = true; noted = 0; total = None }
+finalisation id = record {
+  query = Some (id / STAGES);
+  stage = id % STAGES;
+  again = true;
+  noted = 0;
+  total = None;
+}
 
 -- what a holder has in hand; at other places nothing
 abbrev pub held_at : Place → Held
-held_at (Holding s h) = h
+held_at (Holding s held) = held
 held_at _ = reservation
 
--- the id of the task set that comes next in a holding with a query: that of stage 0 after a reservation, and after a
--- finalisation that of the next stage
+-- the id of the task set that comes next in a holding with a query: that of stage 0 after a
+-- reservation, and after a finalisation that of the next stage
 abbrev pub next_id : Held → ℕ
-next_id h = STAGES * unwrap_or h.query 0 + cond h.again (h.stage + 1) 0
+next_id held = STAGES * unwrap_or held.query 0 + cond held.again (held.stage + 1) 0
 
 -- the id of the task set that a holder finalises
 abbrev pub finalised_id : Held → ℕ
-finalised_id h = STAGES * unwrap_or h.query 0 + h.stage
+finalised_id held = STAGES * unwrap_or held.query 0 + held.stage
 
 -- the task set of a slot that is open or shut
 abbrev pub task_of : SlotState → TaskSet
 task_of (Open t) = t
-task_of (Shut t e) = t
+task_of (Shut t end) = t
 task_of _ = record { id = 0; total = 0; cursor = 0 }
 
 -- the id of the task set of a slot, which it has while it is open, shut or being finalised; else 0
 abbrev pub id_of : SlotState → ℕ
 id_of (Open t) = t.id
-id_of (Shut t e) = t.id
-id_of (Finishing id w h) = id
+id_of (Shut t end) = t.id
+id_of (Finishing id w held) = id
 id_of _ = 0
 
 -- that task set, if there is one
 abbrev pub task_at : SlotState → Option ℕ
 task_at (Open t) = Some t.id
-task_at (Shut t e) = Some t.id
-task_at (Finishing id w h) = Some id
+task_at (Shut t end) = Some t.id
+task_at (Finishing id w held) = Some id
 task_at _ = None
 
 abbrev pub has_id : SlotState → Bool
 has_id (Open t) = true
-has_id (Shut t e) = true
-has_id (Finishing id w h) = true
+has_id (Shut t end) = true
+has_id (Finishing id w held) = true
 has_id _ = false
 
 abbrev pub is_empty : SlotState → Bool
@@ -137,7 +145,7 @@ is_empty _ = false
 -- a look finds no task set there
 abbrev pub is_vacant : SlotState → Bool
 is_vacant Empty = true
-is_vacant (Reserved w h) = true
+is_vacant (Reserved w held) = true
 is_vacant _ = false
 
 abbrev pub is_open : SlotState → Bool
@@ -145,40 +153,40 @@ is_open (Open t) = true
 is_open _ = false
 
 abbrev pub is_shut : SlotState → Bool
-is_shut (Shut t e) = true
+is_shut (Shut t end) = true
 is_shut _ = false
 
 -- a look finds that the task set may not be worked on any more
 abbrev pub is_tagged : SlotState → Bool
-is_tagged (Shut t e) = true
-is_tagged (Finishing id w h) = true
+is_tagged (Shut t end) = true
+is_tagged (Finishing id w held) = true
 is_tagged _ = false
 
 abbrev pub is_swept : SlotState → Bool
-is_swept (Shut t e) = e.swept
+is_swept (Shut t end) = end.swept
 is_swept _ = false
 
 -- a worker that was marked at a shut slot and has not paid
 abbrev pub owes : SlotState → ℕ → Bool
-owes (Shut t e) v = e.marked v && not (e.paid v)
+owes (Shut t end) v = end.marked v && not (end.paid v)
 owes _ v = false
 
 -- the word of a slot: 0 empty, 1 reserved, (id + 1) * 4 + 2 open, and that plus 1 once it is shut
 abbrev pub slot_word : SlotState → ℕ
 slot_word Empty = 0
-slot_word (Reserved w h) = 1
+slot_word (Reserved w held) = 1
 slot_word (Open t) = (t.id + 1) * 4 + 2
-slot_word (Shut t e) = (t.id + 1) * 4 + 3
-slot_word (Finishing id w h) = (id + 1) * 4 + 3
+slot_word (Shut t end) = (t.id + 1) * 4 + 3
+slot_word (Finishing id w held) = (id + 1) * 4 + 3
 
 -- a worker is at a slot from its enter to its leave
 abbrev pub is_at : Place → ℕ → Bool
-is_at (Entered t) s = eqb t s
-is_at (Astray t) s = eqb t s
-is_at (Inside t id) s = eqb t s
-is_at (Used t id) s = eqb t s
-is_at (Behind t id) s = eqb t s
-is_at (Leading t id) s = eqb t s
+is_at (Entered at) s = eqb at s
+is_at (Astray at) s = eqb at s
+is_at (Inside at id) s = eqb at s
+is_at (Used at id) s = eqb at s
+is_at (Behind at id) s = eqb at s
+is_at (Leading at id) s = eqb at s
 is_at _ s = false
 
 -- the worker is inside at a slot, from the look that answered an id to the leave
@@ -199,7 +207,7 @@ has_own_cell p s = has_cell p && eqb (slot_of p) s
 
 -- the worker holds a slot, and so has all cells of it
 abbrev pub holds : Place → ℕ → Bool
-holds (Holding t h) s = eqb t s
+holds (Holding at held) s = eqb at s
 holds _ s = false
 
 -- the cell of worker v at slot s is with worker u, who alone may exchange it

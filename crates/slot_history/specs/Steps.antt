@@ -20,10 +20,10 @@ site _ p = slot_of p
 
 -- what a holder has in hand after a call
 abbrev pub held_after : Act → Held → Held
-held_after (AdmitGot q) h = record h { query = Some q }
-held_after (Note k) h = record h { noted = k }
-held_after (Total t) h = record h { total = Some t }
-held_after _ h = h
+held_after (AdmitGot q) held = record held { query = Some q }
+held_after (Note n) held = record held { noted = n }
+held_after (Total n) held = record held { total = Some n }
+held_after _ held = held
 
 -- ---- the place of the worker that calls
 
@@ -34,19 +34,21 @@ left _ = Free
 
 -- a coordinator asked one more, and marked so many
 abbrev pub asked_one : Place → ℕ → Place
-asked_one (Asking s id asked marked) k = Asking s id (asked + 1) (marked + k)
-asked_one p k = p
+asked_one (Asking s id asked marked) n = Asking s id (asked + 1) (marked + n)
+asked_one p n = p
 
 abbrev pub holding_after : Act → Place → Place
-holding_after a (Holding s h) = Holding s (held_after a h)
+holding_after a (Holding s held) = Holding s (held_after a held)
 holding_after a p = p
 
 -- who has told all workers is free
 abbrev pub told_one : Shape → Place → Place
-told_one d (Announcing s again told) = cond (eqb (told + 1) d.workers) Free (Announcing s again (told + 1))
+told_one d (Announcing s again told) =
+    cond (eqb (told + 1) d.workers) Free (Announcing s again (told + 1))
 told_one d p = p
 
--- the worker's place after its call, by its place before; a call that is not named leaves it where it is
+-- the worker's place after its call, by its place before; a call that is not named leaves it where
+-- it is
 abbrev pub moved : Shape → Act → Place → Place
 moved d (Enter s) p = Entered s
 moved d (LookOpen id) p = Inside (slot_of p) id
@@ -65,8 +67,8 @@ moved d SweepLast p = Holding (slot_of p) (finalisation (id_at p))
 moved d (SweepOthers n) p = Free
 moved d (ReserveGot s) p = Holding s reservation
 moved d (AdmitGot q) p = holding_after (AdmitGot q) p
-moved d (Note k) p = holding_after (Note k) p
-moved d (Total t) p = holding_after (Total t) p
+moved d (Note n) p = holding_after (Note n) p
+moved d (Total n) p = holding_after (Total n) p
 moved d (Install id) p = Announcing (slot_of p) (held_at p).again 0
 moved d Release p = Free
 moved d Tell p = told_one d p
@@ -80,12 +82,18 @@ grown t n = record t { cursor = t.cursor + n }
 -- n more tuples were asked for
 abbrev pub claimed : SlotState → ℕ → SlotState
 claimed (Open t) n = Open (grown t n)
-claimed (Shut t e) n = Shut (grown t n) e
+claimed (Shut t end) n = Shut (grown t n) end
 claimed x n = x
 
 -- a task set that w just shut: nobody was asked
 abbrev pub first_ending : ℕ → Ending
-first_ending w = record { coordinator = w; asked = λ v. false; marked = λ v. false; paid = λ v. false; swept = false }
+first_ending w = record {
+  coordinator = w;
+  asked = λ v. false;
+  marked = λ v. false;
+  paid = λ v. false;
+  swept = false;
+}
 
 abbrev pub shut_by : ℕ → SlotState → SlotState
 shut_by w (Open t) = Shut t (first_ending w)
@@ -93,33 +101,40 @@ shut_by w x = x
 
 -- the worker that a coordinator asks next: the least that is neither asked nor the coordinator
 abbrev pub next_asked : Shape → Ending → ℕ
-next_asked d e = least d.workers (λ v. not (e.asked v) && not (eqb v e.coordinator))
+next_asked d end = least d.workers (λ v. not (end.asked v) && not (eqb v end.coordinator))
 
 -- the end of a task set after a call of w about it
 abbrev pub ending_after : Shape → ℕ → Act → Ending → Ending
-ending_after d w MarkMarked e = record e { asked = upd e.asked (next_asked d e) true; marked = upd e.marked (next_asked d e) true }
-ending_after d w MarkMissed e = record e { asked = upd e.asked (next_asked d e) true }
-ending_after d w (SweepOthers n) e = record e { swept = true }
-ending_after d w PayDone e = record e { paid = upd e.paid w true }
-ending_after d w _ e = e
+ending_after d w MarkMarked end = record end {
+  asked = upd end.asked (next_asked d end) true;
+  marked = upd end.marked (next_asked d end) true;
+}
+ending_after d w MarkMissed end = record end { asked = upd end.asked (next_asked d end) true }
+ending_after d w (SweepOthers n) end = record end { swept = true }
+ending_after d w PayDone end = record end { paid = upd end.paid w true }
+ending_after d w _ end = end
 
 abbrev pub ended : Shape → ℕ → Act → SlotState → SlotState
-ended d w a (Shut t e) = Shut t (ending_after d w a e)
+ended d w a (Shut t end) = Shut t (ending_after d w a end)
 ended d w a x = x
 
 abbrev pub finalised_by : ℕ → SlotState → SlotState
-finalised_by w (Shut t e) = Finishing t.id w (finalisation t.id)
+finalised_by w (Shut t end) = Finishing t.id w (finalisation t.id)
 finalised_by w x = x
 
 abbrev pub held_on : Act → SlotState → SlotState
-held_on a (Reserved w h) = Reserved w (held_after a h)
-held_on a (Finishing id w h) = Finishing id w (held_after a h)
+held_on a (Reserved w held) = Reserved w (held_after a held)
+held_on a (Finishing id w held) = Finishing id w (held_after a held)
 held_on a x = x
 
--- the slot opens with an id and the total that was set
+-- the task set of an id with the total that its holder set
+abbrev pub first_of : ℕ → Held → TaskSet
+first_of id held = record { id = id; total = unwrap_or held.total 0; cursor = 0 }
+
+-- the slot opens with this task set
 abbrev pub opened : ℕ → SlotState → SlotState
-opened id (Reserved w h) = Open (record { id = id; total = unwrap_or h.total 0; cursor = 0 })
-opened id (Finishing jd w h) = Open (record { id = id; total = unwrap_or h.total 0; cursor = 0 })
+opened id (Reserved w held) = Open (first_of id held)
+opened id (Finishing jd w held) = Open (first_of id held)
 opened id x = x
 
 -- the slot after a call of w that is about it; a call that is not named leaves it as it is
@@ -135,18 +150,19 @@ slot_after d w SweepLast x = finalised_by w x
 slot_after d w (SweepOthers n) x = ended d w (SweepOthers n) x
 slot_after d w (ReserveGot s) x = Reserved w reservation
 slot_after d w (AdmitGot q) x = held_on (AdmitGot q) x
-slot_after d w (Note k) x = held_on (Note k) x
-slot_after d w (Total t) x = held_on (Total t) x
+slot_after d w (Note n) x = held_on (Note n) x
+slot_after d w (Total n) x = held_on (Total n) x
 slot_after d w (Install id) x = opened id x
 slot_after d w Release x = Empty
 slot_after d w _ x = x
 
 -- ---- notices
 
--- the notices of one kind after an announcer at this place told one more worker; `again` is the kind
+-- the notices of one kind after an announcer at this place told one more worker; `again` is the
+-- kind
 abbrev pub told : Bool → Place → (ℕ → ℕ → Bool) → ℕ → ℕ → Bool
-told true (Announcing s true k) f = upd f k (upd (f k) s true)
-told false (Announcing s false k) f = upd f k (upd (f k) s true)
+told true (Announcing s true v) f = upd f v (upd (f v) s true)
+told false (Announcing s false v) f = upd f v (upd (f v) s true)
 told again p f = f
 
 -- whether a slot is one of the 64 of a mask word
@@ -172,7 +188,8 @@ returns_after w _ p f = f
 abbrev pub dropped : NoticeRecord → NoticeRecord
 dropped r = record r { active = false }
 
--- a look that found a task set of query q: an unknown group becomes q, and a record of another group is dropped
+-- a look that found a task set of query q: an unknown group becomes q, and a record of another
+-- group is dropped
 abbrev pub looked_group : Option ℕ → ℕ → NoticeRecord → NoticeRecord
 looked_group None q r = record r { group = Some q }
 looked_group (Some g) q r = cond (eqb g q) r (dropped r)
@@ -180,23 +197,34 @@ looked_group (Some g) q r = cond (eqb g q) r (dropped r)
 abbrev pub looked : ℕ → NoticeRecord → NoticeRecord
 looked q r = looked_group r.group q r
 
--- the records after a taken return notice and after a taken change notice, of the slots whose notice was pending
+-- the records after a taken return notice and after a taken change notice, of the slots whose
+-- notice was pending
 abbrev pub joined_by_return : ℕ → (ℕ → Bool) → (ℕ → NoticeRecord) → ℕ → NoticeRecord
-joined_by_return part pending r s = cond (is_in_part part s && pending s) (record (r s) { active = true }) (r s)
+joined_by_return part pending records s = let r = records s in
+    cond (is_in_part part s && pending s) (record r { active = true }) r
 
 abbrev pub joined_by_change : ℕ → (ℕ → Bool) → (ℕ → NoticeRecord) → ℕ → NoticeRecord
-joined_by_change part pending r s = cond (is_in_part part s && pending s) (record { active = true; group = None }) (r s)
+joined_by_change part pending records s =
+    cond (is_in_part part s && pending s) (record { active = true; group = None }) (records s)
+
+-- the records with that of the slot at this place dropped
+abbrev pub dropped_at : Place → (ℕ → NoticeRecord) → ℕ → NoticeRecord
+dropped_at p records = upd records (slot_of p) (dropped (records (slot_of p)))
 
 -- the records of the worker that calls; the pending notices are those before the call
-abbrev pub records_after : Act → Place → (ℕ → Bool) → (ℕ → Bool) → (ℕ → NoticeRecord) → ℕ → NoticeRecord
-records_after (LookOpen id) p changes returns r = upd r (slot_of p) (looked (id / STAGES) (r (slot_of p)))
-records_after LookInvalid p changes returns r = upd r (slot_of p) (dropped (r (slot_of p)))
-records_after LookVacant p changes returns r = upd r (slot_of p) (dropped (r (slot_of p)))
-records_after ShutWon p changes returns r = upd r (slot_of p) (dropped (r (slot_of p)))
-records_after ShutLost p changes returns r = upd r (slot_of p) (dropped (r (slot_of p)))
-records_after (TakeReturn part bits) p changes returns r = joined_by_return part returns r
-records_after (TakeChange part bits) p changes returns r = joined_by_change part changes r
-records_after _ p changes returns r = r
+abbrev pub records_after : Act → Place → (ℕ → Bool) → (ℕ → Bool)
+    → (ℕ → NoticeRecord) → ℕ → NoticeRecord
+records_after (LookOpen id) p changes returns records =
+    upd records (slot_of p) (looked (id / STAGES) (records (slot_of p)))
+records_after LookInvalid p changes returns records = dropped_at p records
+records_after LookVacant p changes returns records = dropped_at p records
+records_after ShutWon p changes returns records = dropped_at p records
+records_after ShutLost p changes returns records = dropped_at p records
+records_after (TakeReturn part bits) p changes returns records =
+    joined_by_return part returns records
+records_after (TakeChange part bits) p changes returns records =
+    joined_by_change part changes records
+records_after _ p changes returns records = records
 
 -- ---- the whole object
 
@@ -205,11 +233,11 @@ admitted_after (AdmitGot q) n = n + 1
 admitted_after _ n = n
 
 abbrev pub finished_after : Act → ℕ → ℕ
-finished_after (Note k) n = n + k
+finished_after (Note more) n = n + more
 finished_after _ n = n
 
--- the state after a call of w, which is at p: one slot changes, one place, one worker's records, and the notices of one
--- worker; what is not named here stays
+-- the state after a call of w, which is at p: one slot changes, one place, one worker's records,
+-- and the notices of one worker; what is not named here stays
 abbrev pub next_at : Shape → ObjectState → ℕ → Act → Place → ObjectState
 next_at d S w a p = record {
   slots = upd S.slots (site a p) (slot_after d w a (S.slots (site a p)));

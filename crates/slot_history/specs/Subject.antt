@@ -10,7 +10,8 @@ use Rattle.slot_history.specs.Histories.{IsLegal, IsOfTotals, Begins, place_of, 
 use Rattle.slot_history.specs.Lives.{has_task}
 use Rattle.slot_history.specs.Numbers.{named_id}
 
--- a call with this total set, if it is an install, is of a task set that the subject has, with its total
+-- a call with this total set, if it is an install, is of a task set that the subject has, with its
+-- total
 abbrev pub InstallsOf : (ℕ → Option ℕ) → Act → Option ℕ → Type 0
 InstallsOf totals (Install id) total = IsSome total × (totals id ≡ total)
 InstallsOf totals a total = Unit {0}
@@ -19,8 +20,8 @@ InstallsOf totals a total = Unit {0}
 abbrev pub EntryIsOf : (ℕ → Option ℕ) → Shape → Entry → List Entry → Type 0
 EntryIsOf totals d e early = InstallsOf totals e.act (held_at (place_of d early e.worker)).total
 
--- What a history of the subject shows is the subject's: each call, the total of what was installed, what a call or its
--- answer names, and the task sets in the slots.
+-- What a history of the subject shows is the subject's: each call, the total of what was installed,
+-- what a call or its answer names, and the task sets in the slots.
 pub record ShowsSubject (totals : ℕ → Option ℕ) (d : Shape) (h : List Entry) : Type 0 where
   pub each : (e : Entry) (early : List Entry) → Begins h (e ∷ early) → EntryIsOf totals d e early
   pub installed : (id : ℕ) → 0 < installs_of id h

@@ -14,7 +14,8 @@ pub data Duty : Type 0 where
   Visits : Duty
   -- it may work on the task set of this id
   Works : ℕ → Duty
-  -- the task set of this id is shut, and the worker was not asked yet: it may still be at work or find it shut
+  -- the task set of this id is shut, and the worker was not asked yet: it may still be at work or
+  -- find it shut
   Unasked : ℕ → Duty
   -- it is marked for this id: it is still at the slot or has to pay
   Owes : ℕ → Duty
@@ -25,20 +26,20 @@ pub data Duty : Type 0 where
 
 -- marked, and not paid
 abbrev pub owing : Ending → ℕ → Bool
-owing e v = e.marked v && not (e.paid v)
+owing end v = end.marked v && not (end.paid v)
 
 -- the duty of a worker to a slot whose task set is shut
 abbrev pub duty_at_end : ℕ → Ending → ℕ → Duty
-duty_at_end id e v = cond (eqb v e.coordinator) (cond e.swept Visits (Leads id e))
-    (cond (e.asked v) (cond (owing e v) (Owes id) Visits) (Unasked id))
+duty_at_end id end v = cond (eqb v end.coordinator) (cond end.swept Visits (Leads id end))
+    (cond (end.asked v) (cond (owing end v) (Owes id) Visits) (Unasked id))
 
 -- the duty of a worker to a slot
 abbrev pub duty_of : SlotState → ℕ → Duty
 duty_of Empty v = Visits
-duty_of (Reserved w h) v = cond (eqb v w) (Holds h) Visits
+duty_of (Reserved w held) v = cond (eqb v w) (Holds held) Visits
 duty_of (Open t) v = Works t.id
-duty_of (Shut t e) v = duty_at_end t.id e v
-duty_of (Finishing id w h) v = cond (eqb v w) (Holds h) Visits
+duty_of (Shut t end) v = duty_at_end t.id end v
+duty_of (Finishing id w held) v = cond (eqb v w) (Holds held) Visits
 
 -- the places that tie a worker to the task set of the slot that they name
 abbrev pub binds : Place → Bool
@@ -48,7 +49,7 @@ binds (Behind s id) = true
 binds (Leading s id) = true
 binds (Asking s id asked marked) = true
 binds (Owing s id) = true
-binds (Holding s h) = true
+binds (Holding s held) = true
 binds _ = false
 
 abbrev pub works : Place → Bool
@@ -77,15 +78,16 @@ abbrev pub nth_other : ℕ → ℕ → ℕ
 nth_other c n = cond (ltb n c) n (n + 1)
 
 -- the coordinator has asked the first n of the others, and marked m of them
-pub record HasAsked (d : Shape) (e : Ending) (n m : ℕ) : Type 0 where
-  pub first : (v : ℕ) → e.asked v ≡ (not (eqb v e.coordinator) && ltb v (nth_other e.coordinator n))
-  pub marks : count_of d.workers e.marked ≡ m
+pub record HasAsked (d : Shape) (end : Ending) (n m : ℕ) : Type 0 where
+  pub first : (v : ℕ)
+      → end.asked v ≡ (not (eqb v end.coordinator) && ltb v (nth_other end.coordinator n))
+  pub marks : count_of d.workers end.marked ≡ m
   pub within : n < d.workers
 
 abbrev pub IsLeading : Shape → Ending → Place → Type 0
-IsLeading d e (Leading s id) = HasAsked d e 0 0
-IsLeading d e (Asking s id n m) = HasAsked d e n m
-IsLeading d e _ = ⊥
+IsLeading d end (Leading s id) = HasAsked d end 0 0
+IsLeading d end (Asking s id n m) = HasAsked d end n m
+IsLeading d end _ = ⊥
 
 -- a place at which a worker meets its duty to the slot s
 abbrev pub Meets : Shape → ℕ → Duty → Place → Type 0
@@ -93,24 +95,26 @@ Meets d s Visits p = binds p ≡ true → slot_of p ≢ s
 Meets d s (Works id) p = binds p ≡ true → slot_of p ≡ s → (works p ≡ true) × (id_at p ≡ id)
 Meets d s (Unasked id) p = binds p ≡ true → slot_of p ≡ s → (lags p ≡ true) × (id_at p ≡ id)
 Meets d s (Owes id) p = (slot_of p ≡ s) × (stays p ≡ true) × (binds p ≡ true → id_at p ≡ id)
-Meets d s (Leads id e) p = (slot_of p ≡ s) × (id_at p ≡ id) × IsLeading d e p
-Meets d s (Holds h) p = p ≡ Holding s h
+Meets d s (Leads id end) p = (slot_of p ≡ s) × (id_at p ≡ id) × IsLeading d end p
+Meets d s (Holds held) p = p ≡ Holding s held
 
--- who paid was marked, who was marked was asked, and who was asked is not the coordinator; after the sweep all others
--- were asked, and one of them has still to pay
-pub record IsChain (d : Shape) (e : Ending) : Type 0 where
-  pub coordinator : e.coordinator < d.workers
-  pub paid : (v : ℕ) → e.paid v ≡ true → e.marked v ≡ true
-  pub marked : (v : ℕ) → e.marked v ≡ true → e.asked v ≡ true
-  pub asked : (v : ℕ) → e.asked v ≡ true → v ≢ e.coordinator
-  pub all_asked : e.swept ≡ true → (v : ℕ) → v < d.workers → v ≢ e.coordinator → e.asked v ≡ true
-  pub one_owes : e.swept ≡ true → (v : ℕ) × (v < d.workers) × (owing e v ≡ true)
+-- who paid was marked, who was marked was asked, and who was asked is not the coordinator; after
+-- the sweep all others were asked, and one of them has still to pay
+pub record IsChain (d : Shape) (end : Ending) : Type 0 where
+  pub coordinator : end.coordinator < d.workers
+  pub paid : (v : ℕ) → end.paid v ≡ true → end.marked v ≡ true
+  pub marked : (v : ℕ) → end.marked v ≡ true → end.asked v ≡ true
+  pub asked : (v : ℕ) → end.asked v ≡ true → v ≢ end.coordinator
+  pub all_asked : end.swept ≡ true → (v : ℕ) → v < d.workers → v ≢ end.coordinator
+      → end.asked v ≡ true
+  pub one_owes : end.swept ≡ true → (v : ℕ) × (v < d.workers) × (owing end v ≡ true)
 
--- of a slot that is held, the holder is a worker; of one that is shut, the sets lie within one another
+-- of a slot that is held, the holder is a worker; of one that is shut, the sets lie within one
+-- another
 abbrev pub IsChainOf : Shape → SlotState → Type 0
-IsChainOf d (Reserved w h) = w < d.workers
-IsChainOf d (Shut t e) = IsChain d e
-IsChainOf d (Finishing id w h) = w < d.workers
+IsChainOf d (Reserved w held) = w < d.workers
+IsChainOf d (Shut t end) = IsChain d end
+IsChainOf d (Finishing id w held) = w < d.workers
 IsChainOf d _ = Unit {0}
 
 -- every worker meets its duty to every slot, and only workers have duties that bind
@@ -118,8 +122,8 @@ pub record IsTable (d : Shape) (S : ObjectState) : Type 0 where
   pub chain : (s : ℕ) → IsChainOf d (S.slots s)
   pub duty : (s v : ℕ) → v < d.workers → Meets d s (duty_of (S.slots s) v) (S.places v)
 
--- The slot of a coordinator w that asked n of the others for this id and marked m of them: it is shut with the id, w shut it
--- and has not swept, and whom it asks next is number n of the others.
+-- The slot of a coordinator w that asked n of the others for this id and marked m of them: it is
+-- shut with the id, w shut it and has not swept, and whom it asks next is number n of the others.
 pub record IsLed (d : Shape) (x : SlotState) (w id n m : ℕ) : Type 0 where
   pub task : TaskSet
   pub ending : Ending

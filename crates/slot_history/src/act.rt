@@ -2,7 +2,8 @@
 
 /// A call of a worker with its reply: one variant for each pair that has an entry in a history.
 ///
-/// Slots, ids, queries and workers are numbers; ids are those of task sets, tuples are counted from 0 within one.
+/// Slots, ids, queries and workers are numbers; ids are those of task sets, tuples are counted from
+/// 0 within one.
 #[derive(Clone, Copy, Debug, PartialEq, Eq)]
 pub enum Act {
     /// The worker went to a slot.

@@ -1,7 +1,7 @@
 //! The laws of legal histories: what holds whatever the interleaving of the workers was.
 //!
-//! Each function does nothing, and its contract is a law. Crates above cite the lemmas in `proofs/` that it stands on. Most
-//! laws say which fault of the protocol they rule out.
+//! Each function does nothing, and its contract is a law. Crates above cite the lemmas in `proofs/`
+//! that it stands on. Most laws say which fault of the protocol they rule out.
 
 ghost use Rattle.std.specs.Prelude.{◌≡◌, ◌*◌};
 ghost use Rattle.slot_history.specs.Laws.{Always, AfterAll, QuietSlots, InsideSlots, OneDebt, ShutInside, CoordinatorOwesNothing, CoordinatorLeaves, OneOwner, OwnEntries, OwnRecords, CallsGoOn, OnlyOnce, RangesOfClaims, ClaimsGoOn, RangesGoOn, AreApart, NoEarlyClaims, TilesCursor, TilesTotal, FinishingLast, OnceInPlace, StagesInOrder, QueryKeepsSlot};
@@ -20,7 +20,8 @@ pub mod notices;
 pub mod slots;
 pub mod subject;
 
-/// The limits that every crate cites, by their numbers. The slots of all mask words are the most slots.
+/// The limits that every crate cites, by their numbers. The slots of all mask words are the most
+/// slots.
 ///
 /// Ruled out: a limit that was shifted in one place.
 pub fn limits()
@@ -34,15 +35,18 @@ pub fn limits()
     ensures most_total { MOST_TOTAL ≡ 1048576 }
 {}
 
-/// Every worker is at a place that the state of each slot allows it, and of a shut slot those that paid were marked,
-/// those that were marked were asked, and those that were asked are the first of the others.
+/// Every worker is at a place that the state of each slot allows it, and of a shut slot those that
+/// paid were marked, those that were marked were asked, and those that were asked are the first of
+/// the others.
 ///
-/// Ruled out: a sweep before the last worker was asked, a mark that carries no id, a leave that forgets the debt.
+/// Ruled out: a sweep before the last worker was asked, a mark that carries no id, a leave that
+/// forgets the debt.
 pub fn table()
     ensures { Always IsTable }
 {}
 
-/// Only the workers, slots and queries of the shape take part, and notices are of slots of the shape.
+/// Only the workers, slots and queries of the shape take part, and notices are of slots of the
+/// shape.
 ///
 /// Ruled out: an announcement of a slot that is not there, to which a worker would then go.
 pub fn within()
@@ -51,28 +55,33 @@ pub fn within()
 
 /// While all workers are free, every slot is empty or open.
 ///
-/// Ruled out: a leave that forgets the debt, after which a shut slot has nobody left to finalise it.
+/// Ruled out: a leave that forgets the debt, after which a shut slot has nobody left to finalise
+/// it.
 pub fn quiet_slots()
     ensures { Always QuietSlots }
 {}
 
 /// A worker that is inside a slot with an id is so at a slot that is open or shut with this id.
 ///
-/// Ruled out: a state word that is published after the look, by which a worker could come inside unseen by the marks.
+/// Ruled out: a state word that is published after the look, by which a worker could come inside
+/// unseen by the marks.
 pub fn inside_slots()
     ensures { Always InsideSlots }
 {}
 
 /// A marked worker that has not paid is so at one slot.
 ///
-/// Ruled out: a leave that forgets the debt, after which its worker could be marked at a second slot.
+/// Ruled out: a leave that forgets the debt, after which its worker could be marked at a second
+/// slot.
 pub fn one_debt()
     ensures { Always OneDebt }
 {}
 
-/// A worker that is inside a shut slot is marked and has not paid, or was not asked yet, or is the coordinator.
+/// A worker that is inside a shut slot is marked and has not paid, or was not asked yet, or is the
+/// coordinator.
 ///
-/// Ruled out: a state word that is published after the look, by which a worker that was asked could still come inside.
+/// Ruled out: a state word that is published after the look, by which a worker that was asked could
+/// still come inside.
 pub fn shut_inside()
     ensures { Always ShutInside }
 {}
@@ -84,8 +93,8 @@ pub fn coordinator_owes_nothing()
     ensures { Always CoordinatorOwesNothing }
 {}
 
-/// The leave of a coordinator answers `LeaveLeft`: a worker whose leave answered `LeaveOwe` was not at `Leading`
-/// before.
+/// The leave of a coordinator answers `LeaveLeft`: a worker whose leave answered `LeaveOwe` was not
+/// at `Leading` before.
 ///
 /// Ruled out: the same, after which a worker would leave with two duties.
 pub fn coordinator_leaves()
@@ -99,9 +108,9 @@ pub fn one_owner()
     ensures { Always OneOwner }
 {}
 
-/// A worker that found all tuples of a slot claimed is right for as long as it is there, and a task set is shut only then. No
-/// cursor goes further past its total than one claim, and one more for each worker that found all tuples claimed; once the
-/// slot is shut, for each that claims no more.
+/// A worker that found all tuples of a slot claimed is right for as long as it is there, and a task
+/// set is shut only then. No cursor goes further past its total than one claim, and one more for
+/// each worker that found all tuples claimed; once the slot is shut, for each that claims no more.
 ///
 /// Ruled out: a claim that answers a range past the total, and a cursor that wraps.
 pub fn cursors()
@@ -113,39 +122,42 @@ pub fn slots_sound()
     ensures { Always AreSlotsSound }
 {}
 
-/// The number of task sets noted as done, with all that slots may still note, is at most 72 for each admitted query.
+/// The number of task sets noted as done, with all that slots may still note, is at most 72 for
+/// each admitted query.
 ///
-/// Ruled out: a holder that notes twice in one holding, after which the number would wrap in the end.
+/// Ruled out: a holder that notes twice in one holding, after which the number would wrap in the
+/// end.
 pub fn finished_bound()
     ensures { Always IsFinishedBound }
 {}
 
-/// A worker's place, with the numbers of its tokens, its claims and its notice records are given by its own entries
-/// alone.
+/// A worker's place, with the numbers of its tokens, its claims and its notice records are given by
+/// its own entries alone.
 ///
 /// Ruled out: a call of another worker that moves this one, or takes its claims away.
 pub fn own_entries()
     ensures { AfterAll OwnEntries }
 {}
 
-/// The notice records of every state are those that the workers' own calls give: a worker's by its looks, its shuts and
-/// the bits that it took.
+/// The notice records of every state are those that the workers' own calls give: a worker's by its
+/// looks, its shuts and the bits that it took.
 ///
 /// Ruled out: a take that answers other bits than those of the notices that it clears.
 pub fn own_records()
     ensures { AfterAll OwnRecords }
 {}
 
-/// After a call, by the clause of every call, its worker's place, claims and notice records go on from those that the
-/// trail before gave; and the call was allowed there, with its answer.
+/// After a call, by the clause of every call, its worker's place, claims and notice records go on
+/// from those that the trail before gave; and the call was allowed there, with its answer.
 ///
 /// Ruled out: a trail that leaves out a call of its own worker.
 pub fn calls_go_on()
     ensures { CallsGoOn }
 {}
 
-/// Each task set that runs is in its slot, one that was never installed has no claims, no later task set of a query is
-/// installed before an earlier one, none of a query that was not admitted, and no two slots serve one query.
+/// Each task set that runs is in its slot, one that was never installed has no claims, no later
+/// task set of a query is installed before an earlier one, none of a query that was not admitted,
+/// and no two slots serve one query.
 ///
 /// Ruled out: a query that two slots serve.
 pub fn book()
@@ -159,8 +171,8 @@ pub fn only_once()
     ensures { AfterAll OnlyOnce }
 {}
 
-/// A task set was neither installed nor finalised; or it was installed once, with a total, and runs in the slot of its
-/// install; or it was finalised once too.
+/// A task set was neither installed nor finalised; or it was installed once, with a total, and runs
+/// in the slot of its install; or it was finalised once too.
 ///
 /// Ruled out: an install without a total, and a last call of a task set that was never installed.
 pub fn counts()
@@ -174,17 +186,18 @@ pub fn ranges_claims()
     ensures { AfterAll RangesOfClaims }
 {}
 
-/// What a claim gets begins where all ranges that were claimed of its id before ended, or later: those of all workers,
-/// and, by the clause of every call, those that the worker's own trail gave.
+/// What a claim gets begins where all ranges that were claimed of its id before ended, or later:
+/// those of all workers, and, by the clause of every call, those that the worker's own trail gave.
 ///
-/// Ruled out: a claim that reads the cursor and adds to it in two steps, between which another worker gets the same
-/// range.
+/// Ruled out: a claim that reads the cursor and adds to it in two steps, between which another
+/// worker gets the same range.
 pub fn ranges_go_on()
     ensures claims { ClaimsGoOn }
     ensures ranges { RangesGoOn }
 {}
 
-/// No two ranges that were claimed of one id share a tuple: the later begins where the earlier ended, or later.
+/// No two ranges that were claimed of one id share a tuple: the later begins where the earlier
+/// ended, or later.
 ///
 /// Ruled out: a cursor that is set back while its task set is open.
 pub fn ranges_apart()
@@ -198,19 +211,19 @@ pub fn no_early_claims()
     ensures { AfterAll NoEarlyClaims }
 {}
 
-/// The task set of a slot that is open or shut has the total of its install, and its claims tile the lesser of its cursor
-/// and its total.
+/// The task set of a slot that is open or shut has the total of its install, and its claims tile
+/// the lesser of its cursor and its total.
 ///
 /// Ruled out: a claim that is not cut at the total.
 pub fn tiles_cursor()
     ensures { AfterAll TilesCursor }
 {}
 
-/// The claims of a task set that is shut or was finalised tile the total with which it was installed; and one that was
-/// finalised was installed, with a total.
+/// The claims of a task set that is shut or was finalised tile the total with which it was
+/// installed; and one that was finalised was installed, with a total.
 ///
-/// Ruled out: a shut before all tuples were claimed, a claim after the last call of the task set, and a last call of one
-/// that was never installed.
+/// Ruled out: a shut before all tuples were claimed, a claim after the last call of the task set,
+/// and a last call of one that was never installed.
 pub fn tiles_total()
     ensures { AfterAll TilesTotal }
 {}
@@ -222,27 +235,30 @@ pub fn finishing_last()
     ensures { AfterAll FinishingLast }
 {}
 
-/// Each task set that was finalised was so once, and in place: it was installed in a slot, which was given to no other task
-/// set before, and from then on nobody is inside with it and no call touches it.
+/// Each task set that was finalised was so once, and in place: it was installed in a slot, which
+/// was given to no other task set before, and from then on nobody is inside with it and no call
+/// touches it.
 ///
-/// Ruled out: a shut that two workers win, a sweep before the last worker was asked, a state word that is published after
-/// the look.
+/// Ruled out: a shut that two workers win, a sweep before the last worker was asked, a state word
+/// that is published after the look.
 pub fn once_in_place()
     ensures { AfterAll OnceInPlace }
 {}
 
-/// Where a task set other than the first of its query is installed, the one before it was finalised once, in the slot of
-/// this install, and this slot was not reserved, released or given to another task set since.
+/// Where a task set other than the first of its query is installed, the one before it was finalised
+/// once, in the slot of this install, and this slot was not reserved, released or given to another
+/// task set since.
 ///
-/// Ruled out: a finisher that installs a stage past the next, one that installs the next stage in another slot, and one
-/// that goes on with its query after it released the slot.
+/// Ruled out: a finisher that installs a stage past the next, one that installs the next stage in
+/// another slot, and one that goes on with its query after it released the slot.
 pub fn stages_in_order()
     ensures { StagesInOrder }
 {}
 
-/// A slot that serves a task set served one of the same query at each moment since a task set of this query was installed.
-/// So once a slot serves another query, no task set of the former is installed there again; nor elsewhere, since by
-/// `stages_in_order` each task set of a query is installed in the slot of the one before.
+/// A slot that serves a task set served one of the same query at each moment since a task set of
+/// this query was installed. So once a slot serves another query, no task set of the former is
+/// installed there again; nor elsewhere, since by `stages_in_order` each task set of a query is
+/// installed in the slot of the one before.
 ///
 /// Ruled out: a slot that serves another query between two stages of one.
 pub fn query_keeps_slot()
@@ -256,33 +272,34 @@ pub fn cursor_limit()
     ensures { Always IsCursorLimit }
 {}
 
-/// Of a shut slot, those that paid and those that still owe are the marked workers, which are fewer than the workers; so a
-/// counter of debts never reaches the number of workers on either side of 0.
+/// Of a shut slot, those that paid and those that still owe are the marked workers, which are fewer
+/// than the workers; so a counter of debts never reaches the number of workers on either side of 0.
 ///
 /// Ruled out: a coordinator that marks itself.
 pub fn debts_within()
     ensures { Always AreDebtsWithin }
 {}
 
-/// A mark adds one mark and one debt. A payment that is not the last adds one payment and takes one debt. Before the last
-/// payment there is one debt.
+/// A mark adds one mark and one debt. A payment that is not the last adds one payment and takes one
+/// debt. Before the last payment there is one debt.
 ///
 /// Ruled out: a pay that is answered Last while another worker still owes.
 pub fn debts_go_on()
     ensures { Always DebtsGoOn }
 {}
 
-/// The slot of a coordinator that asks is shut with the id that the coordinator names. The coordinator shut it itself and
-/// has not swept. If it asked *n* of the others, it asks number *n* of them next.
+/// The slot of a coordinator that asks is shut with the id that the coordinator names. The
+/// coordinator shut it itself and has not swept. If it asked *n* of the others, it asks number *n*
+/// of them next.
 ///
 /// Ruled out: a coordinator that asks a worker twice, or passes over one.
 pub fn coordinator_slot()
     ensures { Always AreLed }
 {}
 
-/// Every id in a slot, at a place, of an install, in a call or in its answer is one of the queries of the shape: below eight
-/// times their number. The slot of a worker that names an id has this id. Task sets are installed in slots of the shape,
-/// and claims are by its workers.
+/// Every id in a slot, at a place, of an install, in a call or in its answer is one of the queries
+/// of the shape: below eight times their number. The slot of a worker that names an id has this id.
+/// Task sets are installed in slots of the shape, and claims are by its workers.
 ///
 /// Ruled out: a mark that carries the id of another task set.
 pub fn numbers_within()
@@ -292,11 +309,12 @@ pub fn numbers_within()
     ensures claims { AfterAll AreClaimsWithin }
 {}
 
-/// A call that is allowed has an answer, one of this call, and no other than the state gives; and only a call that is
-/// allowed has an answer.
+/// A call that is allowed has an answer, one of this call, and no other than the state gives; and
+/// only a call that is allowed has an answer.
 ///
-/// Ruled out: a shut that two workers win, a leave that forgets the debt, a pay that is answered Last at any counter at or
-/// below 0, and an answer that a call gets at a place where it is not allowed.
+/// Ruled out: a shut that two workers win, a leave that forgets the debt, a pay that is answered
+/// Last at any counter at or below 0, and an answer that a call gets at a place where it is not
+/// allowed.
 pub fn is_answered()
     ensures { Always IsAnswered }
 {}

@@ -15,7 +15,8 @@ pub struct Held {
     pub total: Option<u32>,
 }
 
-/// Where a worker is. A worker's own entries give its place, and the numbers here are those of the tokens that it has.
+/// Where a worker is. A worker's own entries give its place, and the numbers here are those of the
+/// tokens that it has.
 #[derive(Clone, Copy, Debug, PartialEq, Eq)]
 pub enum Place {
     /// At no slot and with nothing in hand.
@@ -32,12 +33,14 @@ pub enum Place {
     Behind(u32, u32),
     /// At a slot, with an id that it shut itself.
     Leading(u32, u32),
-    /// It left the slot whose id it shut, and asks the others: slot, id, how many were asked, how many were marked.
+    /// It left the slot whose id it shut, and asks the others: slot, id, how many were asked, how
+    /// many were marked.
     Asking(u32, u32, u32, u32),
     /// It left a slot where it was marked for an id, and has to pay.
     Owing(u32, u32),
     /// It holds a slot that is reserved or being finalised.
     Holding(u32, Held),
-    /// It tells every worker of a task set that it installed: slot, whether as a return, how many are told.
+    /// It tells every worker of a task set that it installed: slot, whether as a return, how many
+    /// are told.
     Announcing(u32, bool, u32),
 }

@@ -12,7 +12,8 @@ pub const MOST_WORKERS: u32 = 64;
 /// The most queries of a subject.
 pub const MOST_QUERIES: u32 = 4096;
 
-/// The number of stages that a query's ids are spaced by: stage `k` of query `q` has the id `STAGES * q + k`.
+/// The number of stages that a query's ids are spaced by: stage `k` of query `q` has the id `STAGES
+/// * q + k`.
 pub const STAGES: u32 = 8;
 
 /// The most tuples that one claim asks for.

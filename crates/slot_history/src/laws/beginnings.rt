@@ -10,8 +10,8 @@ pub fn beginnings_nest()
     ensures nest { BeginningsNest }
 {}
 
-/// A beginning that has all own calls of every worker is the whole history. What lies between a beginning that has all own
-/// calls of a worker and the whole, has them too.
+/// A beginning that has all own calls of every worker is the whole history. What lies between a
+/// beginning that has all own calls of a worker and the whole, has them too.
 ///
 /// Ruled out: a call by no worker of the shape.
 pub fn whole_by_own_calls()
@@ -26,16 +26,17 @@ pub fn others_leave_it()
     ensures { OthersLeaveIt }
 {}
 
-/// What a beginning says of a task set stays: its total and its slot from its install on, and from its last call on also its
-/// claims, and so the ranges of each worker.
+/// What a beginning says of a task set stays: its total and its slot from its install on, and from
+/// its last call on also its claims, and so the ranges of each worker.
 ///
 /// Ruled out: a second install of one task set, and a claim after its last call.
 pub fn task_sets_stay()
     ensures { TaskSetsStay }
 {}
 
-/// The task set that a worker finalises had its last call, and its claims tile the total of its install. A beginning that
-/// has all own calls of this worker has all claims of the task set, whoever made them.
+/// The task set that a worker finalises had its last call, and its claims tile the total of its
+/// install. A beginning that has all own calls of this worker has all claims of the task set,
+/// whoever made them.
 ///
 /// Ruled out: a worker that finalises before it has seen every claim of its task set.
 pub fn holder_has_claims()

@@ -3,8 +3,8 @@
 ghost use Rattle.slot_history.specs.Laws.{AfterAll};
 ghost use Rattle.slot_history.specs.Looks.{TaskInSlot, ServingSlot, TaskKeepsSlot, LastInSlot, FinishingInSlot, OneSlotSeen, SameQuerySeen, StageBefore};
 
-/// The task set that a slot serves, by the history, is the one that its state has, and was installed in this slot. The slot
-/// has served it at each moment since.
+/// The task set that a slot serves, by the history, is the one that its state has, and was
+/// installed in this slot. The slot has served it at each moment since.
 ///
 /// Ruled out: a shut or a release that changes the id of a slot.
 pub fn task_set_keeps_slot()
@@ -13,25 +13,28 @@ pub fn task_set_keeps_slot()
     ensures keeps { TaskKeepsSlot }
 {}
 
-/// The answer `Last` comes in the slot of the task set's install, when its claims tile the total of this install. A slot that
-/// is being finalised is that of the install of its task set.
+/// The answer `Last` comes in the slot of the task set's install, when its claims tile the total of
+/// this install. A slot that is being finalised is that of the install of its task set.
 ///
-/// Ruled out: a mark that carries a slot or an id of another task set, so that its worker finalises elsewhere.
+/// Ruled out: a mark that carries a slot or an id of another task set, so that its worker finalises
+/// elsewhere.
 pub fn last_in_slot()
     ensures last { LastInSlot }
     ensures finishing { AfterAll FinishingInSlot }
 {}
 
-/// A query is seen open in one slot only: looks that answer task sets of one query are at one slot. Between two looks that
-/// see a query open, each look that sees its slot open sees this query.
+/// A query is seen open in one slot only: looks that answer task sets of one query are at one slot.
+/// Between two looks that see a query open, each look that sees its slot open sees this query.
 ///
-/// Ruled out: a query that two slots serve, and a slot that serves another query between two stages of one.
+/// Ruled out: a query that two slots serve, and a slot that serves another query between two stages
+/// of one.
 pub fn query_seen()
     ensures one { OneSlotSeen }
     ensures same { SameQuerySeen }
 {}
 
-/// Of a task set other than the first of its query that was installed, the one before it was finalised, in the same slot.
+/// Of a task set other than the first of its query that was installed, the one before it was
+/// finalised, in the same slot.
 ///
 /// Ruled out: a finisher that installs a stage past the next, or in another slot.
 pub fn stage_before()

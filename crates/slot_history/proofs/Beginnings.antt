@@ -86,7 +86,8 @@ first-empty (x ∷ xs) m e = absurd (cc)
 pub own-between : OwnCallsBetween
 own-between w h mid early (more, is) (rest, was) same =
     let whole : h ≡ (more ++ rest) ++ early = is ∙ ap (λ l. more ++ l) was ∙ sym (append_assoc more rest early) in
-    let none : own_calls w more ++ own_calls w rest ≡ [] = sym (own-append w more rest) ∙ none-since w (more ++ rest) early (sym (ap (own_calls w) whole) ∙ same) in
+    let none : own_calls w more ++ own_calls w rest ≡ [] = sym (own-append w more rest)
+    ∙ none-since w (more ++ rest) early (sym (ap (own_calls w) whole) ∙ same) in
     ap (own_calls w) is ∙ own-still w more mid (first-empty (own_calls w more) (own_calls w rest) none)
 
 whole-of : (d : Shape) (more early : List Entry) → IsLegal d (more ++ early) → ((w : ℕ) → w < d.workers → own_calls w (more ++ early) ≡ own_calls w early)

@@ -54,8 +54,24 @@ pub tiles-spent : (ms : List Morsel) (c total n : ℕ) → total ≤ c → total
 tiles-spent ms c total n spent same k = subst (Tiles ms) (let r : min c total ≡ n = omega arith in r) k
 
 pub alike-used : (x : SlotState) (n : ℕ) → (task_of x).total ≤ (task_of x).cursor → Alike x (claimed x n)
-alike-used (Open t) n spent = record { book = λ m life claims s k. record { lives = k.lives; tiles = tiles-spent (claims t.id) t.cursor t.total (min (t.cursor + n) t.total) spent (omega arith) k.tiles; later = k.later }; query = λ q k. k; task = λ k. (refl, refl) }
-alike-used (Shut t e) n spent = record { book = λ m life claims s k. record { lives = k.lives; tiles = tiles-spent (claims t.id) t.cursor t.total (min (t.cursor + n) t.total) spent (omega arith) k.tiles; later = k.later }; query = λ q k. k; task = λ k. (refl, refl) }
+alike-used (Open t) n spent = record {
+  book = λ m life claims s k. record {
+    lives = k.lives;
+    tiles = tiles-spent (claims t.id) t.cursor t.total (min (t.cursor + n) t.total) spent (omega arith) k.tiles;
+    later = k.later;
+  };
+  query = λ q k. k;
+  task = λ k. (refl, refl);
+}
+alike-used (Shut t e) n spent = record {
+  book = λ m life claims s k. record {
+    lives = k.lives;
+    tiles = tiles-spent (claims t.id) t.cursor t.total (min (t.cursor + n) t.total) spent (omega arith) k.tiles;
+    later = k.later;
+  };
+  query = λ q k. k;
+  task = λ k. (refl, refl);
+}
 alike-used Empty n spent = alike-self Empty
 alike-used (Reserved u h) n spent = alike-self (Reserved u h)
 alike-used (Finishing id u h) n spent = alike-self (Finishing id u h)
@@ -69,11 +85,14 @@ alike-released x w h how = ⊎_elim
     (λ e. record { book = λ m life claims s k. tt; query = λ q k. absurd (cc); task = λ k. absurd (true≢false (sym k ∙ ap has_task e)) })
     (λ r. record { book = λ m life claims s k. tt; query = λ q k. absurd (cc); task = λ k. absurd (true≢false (sym k ∙ ap has_task r.1)) }) how
 
-pub book-alike : (m : ℕ) (slots : ℕ → SlotState) (life : ℕ → Life) (claims : ℕ → List Morsel) (k : ℕ) (y : SlotState) → Alike (slots k) y → IsBook m slots life claims → IsBook m (upd slots k y) life claims
+pub book-alike : (m : ℕ) (slots : ℕ → SlotState) (life : ℕ → Life) (claims : ℕ → List Morsel) (k : ℕ) (y : SlotState) → Alike (slots k) y
+    → IsBook m slots life claims → IsBook m (upd slots k y) life claims
 book-alike m slots life claims k y same ok =
     let back : (j q : ℕ) → query_in (upd slots k y j) ≡ Some q → query_in (slots j) ≡ Some q =
-    λ j q. upd-cases slots k y j (λ z. query_in z ≡ Some q → query_in (slots j) ≡ Some q) (λ e h. ap (λ i. query_in (slots i)) e ∙ same.query q h) (λ n h. h) in record {
-      slot = λ s. upd-cases slots k y s (IsSlotBook m life claims s) (λ e. same.book m life claims s (subst (λ j. IsSlotBook m life claims s (slots j)) e (ok.slot s))) (λ n. ok.slot s);
+    λ j q. upd-cases slots k y j (λ z. query_in z ≡ Some q → query_in (slots j) ≡ Some q) (λ e h. ap (λ i. query_in (slots i)) e ∙ same.query q h)
+    (λ n h. h) in record {
+      slot = λ s. upd-cases slots k y s (IsSlotBook m life claims s)
+          (λ e. same.book m life claims s (subst (λ j. IsSlotBook m life claims s (slots j)) e (ok.slot s))) (λ n. ok.slot s);
       runs = λ id s total h. let r = ok.runs id s total h in upd-cases slots k y s (λ z. (has_task z ≡ true) × ((task_of z).id ≡ id))
           (λ e. let t = same.task (ap (λ j. has_task (slots j)) (sym e) ∙ r.0) in (t.0, t.1 ∙ ap (λ j. (task_of (slots j)).id) (sym e) ∙ r.1)) (λ n. r);
       never = ok.never;
@@ -84,26 +103,44 @@ book-alike m slots life claims k y same ok =
 -- ---- a claim that got a range
 
 -- claims of other task sets than those that run in this slot do not matter to it
-book-claims : (m : ℕ) (life : ℕ → Life) (claims more : ℕ → List Morsel) (s : ℕ) (x : SlotState) → ((id total : ℕ) → life id ≡ Runs s total → more id ≡ claims id) → IsSlotBook m life claims s x → IsSlotBook m life more s x
-book-claims m life claims more s (Open t) same k = record { lives = k.lives; tiles = subst (λ ms. Tiles ms (min t.cursor t.total)) (sym (same t.id t.total k.lives)) k.tiles; later = k.later }
-book-claims m life claims more s (Shut t e) same k = record { lives = k.lives; tiles = subst (λ ms. Tiles ms (min t.cursor t.total)) (sym (same t.id t.total k.lives)) k.tiles; later = k.later }
+book-claims : (m : ℕ) (life : ℕ → Life) (claims more : ℕ → List Morsel) (s : ℕ) (x : SlotState)
+    → ((id total : ℕ) → life id ≡ Runs s total → more id ≡ claims id) → IsSlotBook m life claims s x → IsSlotBook m life more s x
+book-claims m life claims more s (Open t) same k = record {
+  lives = k.lives;
+  tiles = subst (λ ms. Tiles ms (min t.cursor t.total)) (sym (same t.id t.total k.lives)) k.tiles;
+  later = k.later;
+}
+book-claims m life claims more s (Shut t e) same k = record {
+  lives = k.lives;
+  tiles = subst (λ ms. Tiles ms (min t.cursor t.total)) (sym (same t.id t.total k.lives)) k.tiles;
+  later = k.later;
+}
 book-claims m life claims more s _ same k = k
 
 -- one more claim, which begins at the cursor
-tiles-more : (life : ℕ → Life) (claims more : ℕ → List Morsel) (s w n from to : ℕ) (t : TaskSet) → from ≡ t.cursor → from < t.total → to ≡ min t.total (from + n) → 0 < n
+tiles-more : (life : ℕ → Life) (claims more : ℕ → List Morsel) (s w n from to : ℕ) (t : TaskSet) → from ≡ t.cursor → from < t.total
+    → to ≡ min t.total (from + n) → 0 < n
     → more t.id ≡ (record { worker = w; from = from; to = to }) ∷ claims t.id → IsRunning life claims s t → IsRunning life more s (grown t n)
 tiles-more life claims more s w n from to t at below upto some_tuples is k =
     let c : ℕ = t.cursor in let m : ℕ = t.total in
     let a : from ≡ c = at in let b : from < m = below in let e : to ≡ min m (from + n) = upto in record {
       lives = k.lives;
-      tiles = subst (λ ms. Tiles ms (min (c + n) m)) (sym is) (let r : to ≡ min (c + n) m = omega arith in r, let r : from < to = omega arith in r, subst (Tiles (claims t.id)) (let r : min c m ≡ from = omega arith in r) k.tiles);
+      tiles = subst (λ ms. Tiles ms (min (c + n) m)) (sym is) (
+        let r : to ≡ min (c + n) m = omega arith in r,
+        let r : from < to = omega arith in r,
+        subst (Tiles (claims t.id)) (let r : min c m ≡ from = omega arith in r) k.tiles,
+      );
       later = k.later;
     }
 
-slot-more : (m : ℕ) (life : ℕ → Life) (claims more : ℕ → List Morsel) (s w n from to : ℕ) (x : SlotState) → has_task x ≡ true → from ≡ (task_of x).cursor → from < (task_of x).total → to ≡ min (task_of x).total (from + n) → 0 < n
-    → more (task_of x).id ≡ (record { worker = w; from = from; to = to }) ∷ claims (task_of x).id → IsSlotBook m life claims s x → IsSlotBook m life more s (claimed x n)
-slot-more m life claims more s w n from to (Open t) has at below upto some_tuples is k = tiles-more life claims more s w n from to t at below upto some_tuples is k
-slot-more m life claims more s w n from to (Shut t e) has at below upto some_tuples is k = tiles-more life claims more s w n from to t at below upto some_tuples is k
+slot-more : (m : ℕ) (life : ℕ → Life) (claims more : ℕ → List Morsel) (s w n from to : ℕ) (x : SlotState) → has_task x ≡ true → from ≡ (task_of x).cursor
+    → from < (task_of x).total → to ≡ min (task_of x).total (from + n) → 0 < n
+    → more (task_of x).id ≡ (record { worker = w; from = from; to = to }) ∷ claims (task_of x).id → IsSlotBook m life claims s x
+    → IsSlotBook m life more s (claimed x n)
+slot-more m life claims more s w n from to (Open t) has at below upto some_tuples is k =
+    tiles-more life claims more s w n from to t at below upto some_tuples is k
+slot-more m life claims more s w n from to (Shut t e) has at below upto some_tuples is k =
+    tiles-more life claims more s w n from to t at below upto some_tuples is k
 slot-more m life claims more s w n from to _ has at below upto some_tuples is k = absurd (cc)
 
 claimed-query : (x : SlotState) (n : ℕ) → query_in (claimed x n) ≡ query_in x
@@ -115,14 +152,17 @@ claimed-task Empty n = (refl, refl)
 claimed-task _ n = (refl, refl)
 
 -- a slot that has a task set knows its life
-pub running-life : (m : ℕ) (life : ℕ → Life) (claims : ℕ → List Morsel) (s : ℕ) (x : SlotState) → has_task x ≡ true → IsSlotBook m life claims s x → life (task_of x).id ≡ Runs s (task_of x).total
+pub running-life : (m : ℕ) (life : ℕ → Life) (claims : ℕ → List Morsel) (s : ℕ) (x : SlotState) → has_task x ≡ true → IsSlotBook m life claims s x
+    → life (task_of x).id ≡ Runs s (task_of x).total
 running-life m life claims s (Open t) has k = k.lives
 running-life m life claims s (Shut t e) has k = k.lives
 running-life m life claims s _ has k = absurd (cc)
 
-pub book-range : (m : ℕ) (slots : ℕ → SlotState) (life : ℕ → Life) (claims : ℕ → List Morsel) (k w n from to : ℕ) → has_task (slots k) ≡ true → from ≡ (task_of (slots k)).cursor → from < (task_of (slots k)).total → to ≡ min (task_of (slots k)).total (from + n) → 0 < n
+pub book-range : (m : ℕ) (slots : ℕ → SlotState) (life : ℕ → Life) (claims : ℕ → List Morsel) (k w n from to : ℕ) → has_task (slots k) ≡ true
+    → from ≡ (task_of (slots k)).cursor → from < (task_of (slots k)).total → to ≡ min (task_of (slots k)).total (from + n) → 0 < n
     → IsBook m slots life claims
-    → IsBook m (upd slots k (claimed (slots k) n)) life (λ id. cond (eqb (task_of (slots k)).id id) ((record { worker = w; from = from; to = to }) ∷ claims id) (claims id))
+    → IsBook m (upd slots k (claimed (slots k) n)) life (λ id. cond (eqb (task_of (slots k)).id id) ((record { worker = w; from = from; to = to }) ∷ claims id)
+    (claims id))
 book-range m slots life claims k w n from to has at below upto some_tuples ok =
     let x : SlotState = slots k in
     let jd : ℕ = (task_of x).id in
@@ -132,11 +172,16 @@ book-range m slots life claims k w n from to has at below upto some_tuples ok =
     let here : more jd ≡ new ∷ claims jd = ap (λ b. cond b (new ∷ claims jd) (claims jd)) (eq-eqb jd jd refl) in
     let else_ : (id : ℕ) → jd ≢ id → more id ≡ claims id = λ id n. ap (λ b. cond b (new ∷ claims id) (claims id)) (ne_eqb jd id n) in
     let back : (j q : ℕ) → query_in (upd slots k (claimed x n) j) ≡ Some q → query_in (slots j) ≡ Some q =
-    λ j q. upd-cases slots k (claimed x n) j (λ z. query_in z ≡ Some q → query_in (slots j) ≡ Some q) (λ e h. ap (λ i. query_in (slots i)) e ∙ sym (claimed-query x n) ∙ h) (λ n h. h) in record {
+    λ j q. upd-cases slots k (claimed x n) j (λ z. query_in z ≡ Some q → query_in (slots j) ≡ Some q)
+    (λ e h. ap (λ i. query_in (slots i)) e ∙ sym (claimed-query x n) ∙ h) (λ n h. h) in record {
       slot = λ s. upd-cases slots k (claimed x n) s (IsSlotBook m life more s)
-          (λ e. subst (λ j. IsSlotBook m life more j (claimed x n)) (sym e) (slot-more m life claims more k w n from to x has at below upto some_tuples here (ok.slot k)))
-          (λ far. book-claims m life claims more s (slots s) (λ id total h. else_ id (λ i. far (let r : Runs k (task_of x).total ≡ Runs s total = sym lives ∙ ap life i ∙ h in let q : k ≡ s = cc in sym q))) (ok.slot s));
-      runs = λ id s total h. let r = ok.runs id s total h in let t = claimed-task x n in upd-cases slots k (claimed x n) s (λ z. (has_task z ≡ true) × ((task_of z).id ≡ id))
+          (λ e. subst (λ j. IsSlotBook m life more j (claimed x n)) (sym e)
+          (slot-more m life claims more k w n from to x has at below upto some_tuples here (ok.slot k)))
+          (λ far. book-claims m life claims more s (slots s)
+          (λ id total h. else_ id (λ i. far (let r : Runs k (task_of x).total ≡ Runs s total = sym lives ∙ ap life i ∙ h in let q : k ≡ s = cc in sym q)))
+          (ok.slot s));
+      runs = λ id s total h. let r = ok.runs id s total h in let t = claimed-task x n in upd-cases slots k (claimed x n) s
+          (λ z. (has_task z ≡ true) × ((task_of z).id ≡ id))
           (λ e. (t.0 ∙ ap (λ j. has_task (slots j)) (sym e) ∙ r.0, t.1 ∙ ap (λ j. (task_of (slots j)).id) (sym e) ∙ r.1)) (λ n. r);
       never = λ id h. else_ id (λ i. let r : Runs k (task_of x).total ≡ Never = sym lives ∙ ap life i ∙ h in absurd (cc)) ∙ ok.never id h;
       late = ok.late;
@@ -150,16 +195,21 @@ book-more m life claims s (Reserved w h) k = λ q e. let r = k q e in (let a : q
 book-more m life claims s _ k = k
 
 -- a task set that was installed is of an admitted query
-pub running-low : (m : ℕ) (slots : ℕ → SlotState) (life : ℕ → Life) (claims : ℕ → List Morsel) → IsBook m slots life claims → (id : ℕ) → life id ≢ Never → id / STAGES < m
+pub running-low : (m : ℕ) (slots : ℕ → SlotState) (life : ℕ → Life) (claims : ℕ → List Morsel) → IsBook m slots life claims → (id : ℕ) → life id ≢ Never
+    → id / STAGES < m
 running-low m slots life claims ok id was = ⊎_elim (λ h. h) (λ h. absurd (was (ok.late id h))) (cases_lt (id / STAGES) m)
 
 -- the query of a slot was admitted
-query-admitted : (m : ℕ) (slots : ℕ → SlotState) (life : ℕ → Life) (claims : ℕ → List Morsel) → IsBook m slots life claims → (s : ℕ) (x : SlotState) (q : ℕ) → IsSlotBook m life claims s x → query_in x ≡ Some q → q < m
+query-admitted : (m : ℕ) (slots : ℕ → SlotState) (life : ℕ → Life) (claims : ℕ → List Morsel) → IsBook m slots life claims → (s : ℕ) (x : SlotState) (q : ℕ)
+    → IsSlotBook m life claims s x → query_in x ≡ Some q → q < m
 query-admitted m slots life claims ok s Empty q k e = absurd (cc)
 query-admitted m slots life claims ok s (Reserved w h) q k e = (k q e).0
-query-admitted m slots life claims ok s (Open t) q k e = let i : t.id / STAGES ≡ q = cc in subst (λ j. j < m) i (running-low m slots life claims ok t.id (λ n. let r : Runs s t.total ≡ Never = sym k.lives ∙ n in absurd (cc)))
-query-admitted m slots life claims ok s (Shut t g) q k e = let i : t.id / STAGES ≡ q = cc in subst (λ j. j < m) i (running-low m slots life claims ok t.id (λ n. let r : Runs s t.total ≡ Never = sym k.lives ∙ n in absurd (cc)))
-query-admitted m slots life claims ok s (Finishing id w h) q k e = let i : id / STAGES ≡ q = cc in subst (λ j. j < m) i (running-low m slots life claims ok id (λ n. let r : Done k.0 ≡ Never = sym k.1 ∙ n in absurd (cc)))
+query-admitted m slots life claims ok s (Open t) q k e = let i : t.id / STAGES ≡ q = cc in subst
+    (λ j. j < m) i (running-low m slots life claims ok t.id (λ n. let r : Runs s t.total ≡ Never = sym k.lives ∙ n in absurd (cc)))
+query-admitted m slots life claims ok s (Shut t g) q k e = let i : t.id / STAGES ≡ q = cc in subst
+    (λ j. j < m) i (running-low m slots life claims ok t.id (λ n. let r : Runs s t.total ≡ Never = sym k.lives ∙ n in absurd (cc)))
+query-admitted m slots life claims ok s (Finishing id w h) q k e = let i : id / STAGES ≡ q = cc in subst
+    (λ j. j < m) i (running-low m slots life claims ok id (λ n. let r : Done k.0 ≡ Never = sym k.1 ∙ n in absurd (cc)))
 
 pub book-admitted : (m : ℕ) (slots : ℕ → SlotState) (life : ℕ → Life) (claims : ℕ → List Morsel) (k w : ℕ) (h : Held) → slots k ≡ Reserved w h → h.query ≡ None
     → IsBook m slots life claims → IsBook (m + 1) (upd slots k (held_on (AdmitGot m) (slots k))) life claims
@@ -176,8 +226,10 @@ book-admitted m slots life claims k w h is none ok =
       never = ok.never;
       late = λ id l. ok.late id (omega arith);
       apart = λ s t q. upd-cases slots k y s (λ z. query_in z ≡ Some q → query_in (upd slots k y t) ≡ Some q → s ≡ t)
-          (λ e f. upd-cases slots k y t (λ z. query_in z ≡ Some q → s ≡ t) (λ i j. e ∙ sym i) (λ n j. absurd (let a : q < m = low t q j in let b : m ≡ q = cc in omega arith)))
-          (λ n f. upd-cases slots k y t (λ z. query_in z ≡ Some q → s ≡ t) (λ i j. absurd (let a : q < m = low s q f in let b : m ≡ q = cc in omega arith)) (λ n' j. ok.apart s t q f j));
+          (λ e f. upd-cases slots k y t (λ z. query_in z ≡ Some q → s ≡ t) (λ i j. e ∙ sym i)
+          (λ n j. absurd (let a : q < m = low t q j in let b : m ≡ q = cc in omega arith)))
+          (λ n f. upd-cases slots k y t (λ z. query_in z ≡ Some q → s ≡ t) (λ i j. absurd (let a : q < m = low s q f in let b : m ≡ q = cc in omega arith))
+          (λ n' j. ok.apart s t q f j));
     })
 
 -- ---- an install
@@ -194,11 +246,13 @@ pub record IsFresh (m : ℕ) (life : ℕ → Life) (x : SlotState) (id : ℕ) : 
 fresh-after : (q id : ℕ) → id ≡ STAGES * q → id / STAGES ≡ q
 fresh-after q id e = omega arith
 
-pub fresh-reserved : (m : ℕ) (life : ℕ → Life) (claims : ℕ → List Morsel) (k w id : ℕ) (h : Held) → IsReady h → id ≡ next_id h → h.again ≡ false → IsSlotBook m life claims k (Reserved w h) → IsFresh m life (Reserved w h) id
+pub fresh-reserved : (m : ℕ) (life : ℕ → Life) (claims : ℕ → List Morsel) (k w id : ℕ) (h : Held) → IsReady h → id ≡ next_id h → h.again ≡ false
+    → IsSlotBook m life claims k (Reserved w h) → IsFresh m life (Reserved w h) id
 fresh-reserved m life claims k w id h ready next_one first ok =
     let q : ℕ = unwrap_or h.query 0 in
     let some_query : h.query ≡ Some q = some-unwrapped h.query 0 ready.has_query in
-    let is : id ≡ STAGES * q = let r : id ≡ STAGES * q + cond {A = ℕ} h.again (h.stage + 1) 0 = next_one in let z : cond {A = ℕ} h.again (h.stage + 1) 0 ≡ 0 = ap (λ b. cond b (h.stage + 1) 0) first in omega arith in
+    let is : id ≡ STAGES * q = let r : id ≡ STAGES * q + cond {A = ℕ} h.again (h.stage + 1) 0 = next_one in let z : cond {A = ℕ} h.again (h.stage + 1) 0 ≡ 0 =
+    ap (λ b. cond b (h.stage + 1) 0) first in omega arith in
     let of : id / STAGES ≡ q = fresh-after q id is in
     let r = ok q some_query in record {
       never = r.1 id of;
@@ -208,11 +262,13 @@ fresh-reserved m life claims k w id h ready next_one first ok =
       idle = refl;
     }
 
-pub fresh-finishing : (m : ℕ) (life : ℕ → Life) (claims : ℕ → List Morsel) (k w id jd : ℕ) (h : Held) → IsReady h → id ≡ next_id h → IsFinalisation jd h → (life jd ≢ Never → jd / STAGES < m) → IsSlotBook m life claims k (Finishing jd w h) → IsFresh m life (Finishing jd w h) id
+pub fresh-finishing : (m : ℕ) (life : ℕ → Life) (claims : ℕ → List Morsel) (k w id jd : ℕ) (h : Held) → IsReady h → id ≡ next_id h → IsFinalisation jd h
+    → (life jd ≢ Never → jd / STAGES < m) → IsSlotBook m life claims k (Finishing jd w h) → IsFresh m life (Finishing jd w h) id
 fresh-finishing m life claims k w id jd h ready next_one sound low ok =
     let last = (ready.next_stage sound.again).1 in
     let s : h.stage ≡ jd % STAGES = sound.stage in
-    let is : id ≡ STAGES * (jd / STAGES) + (h.stage + 1) = next_one ∙ ap₂ (λ q b. STAGES * q + b) (ap (λ o. unwrap_or o 0) sound.query) (ap (λ b. cond b (h.stage + 1) 0) sound.again) in
+    let is : id ≡ STAGES * (jd / STAGES) + (h.stage + 1) = next_one ∙ ap₂
+    (λ q b. STAGES * q + b) (ap (λ o. unwrap_or o 0) sound.query) (ap (λ b. cond b (h.stage + 1) 0) sound.again) in
     let more : h.stage + 1 < STAGES = last in
     let above : jd < id = omega arith in
     let same : id / STAGES ≡ jd / STAGES = omega arith in record {
@@ -226,33 +282,41 @@ fresh-finishing m life claims k w id jd h ready next_one sound low ok =
 beside-running : (life : ℕ → Life) (claims : ℕ → List Morsel) (s k total id : ℕ) (t : TaskSet) → life id ≡ Never → Some (t.id / STAGES) ≢ Some (id / STAGES)
     → IsRunning life claims s t → IsRunning (λ j. cond (eqb id j) (Runs k total) (life j)) claims s t
 beside-running life claims s k total id t new apart ok = record {
-  lives = pick id t.id (Runs k total) (life t.id) (λ l. l ≡ Runs s t.total) (λ i. absurd (let r : Runs s t.total ≡ Never = sym ok.lives ∙ ap life (sym i) ∙ new in cc)) (λ n. ok.lives);
+  lives = pick id t.id (Runs k total) (life t.id) (λ l. l ≡ Runs s t.total)
+      (λ i. absurd (let r : Runs s t.total ≡ Never = sym ok.lives ∙ ap life (sym i) ∙ new in cc)) (λ n. ok.lives);
   tiles = ok.tiles;
-  later = λ j above of. pick id j (Runs k total) (life j) (λ l. l ≡ Never) (λ i. absurd (apart (ap Some (sym of ∙ ap (λ z. z / STAGES) (sym i))))) (λ n. ok.later j above of);
+  later = λ j above of. pick id j (Runs k total) (life j) (λ l. l ≡ Never) (λ i. absurd (apart (ap Some (sym of ∙ ap (λ z. z / STAGES) (sym i)))))
+      (λ n. ok.later j above of);
 }
 
 -- another slot after the install
 book-beside : (m : ℕ) (life : ℕ → Life) (claims : ℕ → List Morsel) (s k total id : ℕ) (x : SlotState) → life id ≡ Never → query_in x ≢ Some (id / STAGES)
     → IsSlotBook m life claims s x → IsSlotBook m (λ j. cond (eqb id j) (Runs k total) (life j)) claims s x
 book-beside m life claims s k total id Empty new apart ok = ok
-book-beside m life claims s k total id (Reserved w h) new apart ok = λ q e. let r = ok q e in
-    (r.0, λ j of. pick id j (Runs k total) (life j) (λ l. l ≡ Never) (λ i. absurd (apart (e ∙ ap Some (sym of ∙ ap (λ z. z / STAGES) (sym i))))) (λ n. r.1 j of))
+book-beside m life claims s k total id (Reserved w h) new apart ok = λ q e. let r = ok q e in (
+  r.0,
+  λ j of. pick id j (Runs k total) (life j) (λ l. l ≡ Never) (λ i. absurd (apart (e ∙ ap Some (sym of ∙ ap (λ z. z / STAGES) (sym i)))))
+      (λ n. r.1 j of),
+)
 book-beside m life claims s k total id (Open t) new apart ok = beside-running life claims s k total id t new apart ok
 book-beside m life claims s k total id (Shut t e) new apart ok = beside-running life claims s k total id t new apart ok
 book-beside m life claims s k total id (Finishing jd w h) new apart ok = (
   ok.0,
   pick id jd (Runs k total) (life jd) (λ l. l ≡ Done ok.0) (λ i. absurd (let r : Done ok.0 ≡ Never = sym ok.1 ∙ ap life (sym i) ∙ new in cc)) (λ n. ok.1),
-  λ j above of. pick id j (Runs k total) (life j) (λ l. l ≡ Never) (λ i. absurd (apart (ap Some (sym of ∙ ap (λ z. z / STAGES) (sym i))))) (λ n. ok.2 j above of),
+  λ j above of. pick id j (Runs k total) (life j) (λ l. l ≡ Never) (λ i. absurd (apart (ap Some (sym of ∙ ap (λ z. z / STAGES) (sym i)))))
+      (λ n. ok.2 j above of),
 )
 
-pub book-installed : (m : ℕ) (slots : ℕ → SlotState) (life : ℕ → Life) (claims : ℕ → List Morsel) (k id total : ℕ) → IsFresh m life (slots k) id → IsBook m slots life claims
+pub book-installed : (m : ℕ) (slots : ℕ → SlotState) (life : ℕ → Life) (claims : ℕ → List Morsel) (k id total : ℕ) → IsFresh m life (slots k) id
+    → IsBook m slots life claims
     → IsBook m (upd slots k (Open (record { id = id; total = total; cursor = 0 }))) (λ j. cond (eqb id j) (Runs k total) (life j)) claims
 book-installed m slots life claims k id total fresh ok =
     let y : SlotState = Open (record { id = id; total = total; cursor = 0 }) in
     let new : ℕ → Life = λ j. cond (eqb id j) (Runs k total) (life j) in
     let else_ : (j : ℕ) → id ≢ j → new j ≡ life j = λ j n. ap (λ b. cond b (Runs k total) (life j)) (ne_eqb id j n) in
     let back : (j q : ℕ) → query_in (upd slots k y j) ≡ Some q → query_in (slots j) ≡ Some q =
-    λ j q. upd-cases slots k y j (λ z. query_in z ≡ Some q → query_in (slots j) ≡ Some q) (λ e h. ap (λ i. query_in (slots i)) e ∙ fresh.query ∙ h) (λ n h. h) in record {
+    λ j q. upd-cases slots k y j (λ z. query_in z ≡ Some q → query_in (slots j) ≡ Some q) (λ e h. ap (λ i. query_in (slots i)) e ∙ fresh.query ∙ h)
+    (λ n h. h) in record {
       slot = λ s. upd-cases slots k y s (IsSlotBook m new claims s)
           (λ e. record {
             lives = ap (λ b. cond b (Runs k total) (life id)) (eq-eqb id id refl) ∙ ap (λ j. Runs j total) (sym e);
@@ -261,10 +325,13 @@ book-installed m slots life claims k id total fresh ok =
           })
           (λ far. book-beside m life claims s k total id (slots s) fresh.never (λ h. far (ok.apart s k (id / STAGES) h fresh.query)) (ok.slot s));
       runs = λ j s n. pick id j (Runs k total) (life j) (λ l. l ≡ Runs s n → (has_task (upd slots k y s) ≡ true) × ((task_of (upd slots k y s)).id ≡ j))
-          (λ i e. let at : k ≡ s = cc in subst (λ z. (has_task (upd slots k y z) ≡ true) × ((task_of (upd slots k y z)).id ≡ j)) at (ap has_task (upd-same slots k y), ap (λ z. (task_of z).id) (upd-same slots k y) ∙ i))
-          (λ i e. let r = ok.runs j s n e in upd-cases slots k y s (λ z. (has_task z ≡ true) × ((task_of z).id ≡ j)) (λ at. absurd (true≢false (sym r.0 ∙ ap (λ z. has_task (slots z)) at ∙ fresh.idle))) (λ far. r));
+          (λ i e. let at : k ≡ s = cc in subst (λ z. (has_task (upd slots k y z) ≡ true) × ((task_of (upd slots k y z)).id ≡ j)) at
+          (ap has_task (upd-same slots k y), ap (λ z. (task_of z).id) (upd-same slots k y) ∙ i))
+          (λ i e. let r = ok.runs j s n e in upd-cases slots k y s (λ z. (has_task z ≡ true) × ((task_of z).id ≡ j))
+          (λ at. absurd (true≢false (sym r.0 ∙ ap (λ z. has_task (slots z)) at ∙ fresh.idle))) (λ far. r));
       never = λ j. pick id j (Runs k total) (life j) (λ l. l ≡ Never → claims j ≡ []) (λ i e. absurd (cc)) (λ n e. ok.never j e);
-      late = λ j high. else_ j (λ i. let a : id / STAGES < m = fresh.low in let b : id / STAGES ≡ j / STAGES = ap (λ z. z / STAGES) i in omega arith) ∙ ok.late j high;
+      late = λ j high. else_ j (λ i. let a : id / STAGES < m = fresh.low in let b : id / STAGES ≡ j / STAGES = ap (λ z. z / STAGES) i in omega arith)
+          ∙ ok.late j high;
       apart = λ s t q h g. ok.apart s t q (back s q h) (back t q g);
     }
 
@@ -276,37 +343,47 @@ last-never jd j l e = pick jd j (done l) l (λ z. z ≡ Never) (λ i. ap done e)
 last-done : (jd j total : ℕ) (l : Life) → l ≡ Done total → cond (eqb jd j) (done l) l ≡ Done total
 last-done jd j total l e = pick jd j (done l) l (λ z. z ≡ Done total) (λ i. ap done e) (λ n. e)
 
-last-running : (life : ℕ → Life) (claims : ℕ → List Morsel) (s jd : ℕ) (t : TaskSet) → jd ≢ t.id → IsRunning life claims s t → IsRunning (λ j. cond (eqb jd j) (done (life j)) (life j)) claims s t
+last-running : (life : ℕ → Life) (claims : ℕ → List Morsel) (s jd : ℕ) (t : TaskSet) → jd ≢ t.id → IsRunning life claims s t → IsRunning
+    (λ j. cond (eqb jd j) (done (life j)) (life j)) claims s t
 last-running life claims s jd t other ok = record {
   lives = ap (λ b. cond b (done (life t.id)) (life t.id)) (ne_eqb jd t.id other) ∙ ok.lives;
   tiles = ok.tiles;
   later = λ j above of. last-never jd j (life j) (ok.later j above of);
 }
 
-book-past : (m : ℕ) (life : ℕ → Life) (claims : ℕ → List Morsel) (s jd : ℕ) (x : SlotState) → ((n : ℕ) → life jd ≢ Runs s n) → IsSlotBook m life claims s x → IsSlotBook m (λ j. cond (eqb jd j) (done (life j)) (life j)) claims s x
+book-past : (m : ℕ) (life : ℕ → Life) (claims : ℕ → List Morsel) (s jd : ℕ) (x : SlotState) → ((n : ℕ) → life jd ≢ Runs s n) → IsSlotBook m life claims s x
+    → IsSlotBook m (λ j. cond (eqb jd j) (done (life j)) (life j)) claims s x
 book-past m life claims s jd Empty other ok = ok
 book-past m life claims s jd (Reserved w h) other ok = λ q e. let r = ok q e in (r.0, λ j of. last-never jd j (life j) (r.1 j of))
 book-past m life claims s jd (Open t) other ok = last-running life claims s jd t (λ i. other t.total (ap life i ∙ ok.lives)) ok
 book-past m life claims s jd (Shut t e) other ok = last-running life claims s jd t (λ i. other t.total (ap life i ∙ ok.lives)) ok
 book-past m life claims s jd (Finishing id w h) other ok = (ok.0, last-done jd id ok.0 (life id) ok.1, λ j above of. last-never jd j (life j) (ok.2 j above of))
 
-pub book-last : (m : ℕ) (slots : ℕ → SlotState) (life : ℕ → Life) (claims : ℕ → List Morsel) (k w : ℕ) (t : TaskSet) (e : Ending) → slots k ≡ Shut t e → IsBook m slots life claims
+pub book-last : (m : ℕ) (slots : ℕ → SlotState) (life : ℕ → Life) (claims : ℕ → List Morsel) (k w : ℕ) (t : TaskSet) (e : Ending) → slots k ≡ Shut t e
+    → IsBook m slots life claims
     → IsBook m (upd slots k (finalised_by w (slots k))) (λ j. cond (eqb t.id j) (done (life j)) (life j)) claims
 book-last m slots life claims k w t e is ok =
     let y : SlotState = Finishing t.id w (finalisation t.id) in
     let new : ℕ → Life = λ j. cond (eqb t.id j) (done (life j)) (life j) in
     let mine : IsRunning life claims k t = subst (IsSlotBook m life claims k) is (ok.slot k) in
     let back : (j q : ℕ) → query_in (upd slots k y j) ≡ Some q → query_in (slots j) ≡ Some q =
-    λ j q. upd-cases slots k y j (λ z. query_in z ≡ Some q → query_in (slots j) ≡ Some q) (λ i h. ap (λ z. query_in (slots z)) i ∙ ap query_in is ∙ h) (λ n h. h) in
+    λ j q. upd-cases slots k y j (λ z. query_in z ≡ Some q → query_in (slots j) ≡ Some q) (λ i h. ap (λ z. query_in (slots z)) i ∙ ap query_in is ∙ h)
+    (λ n h. h) in
     subst (λ z. IsBook m (upd slots k (finalised_by w z)) new claims) (sym is) (record {
       slot = λ s. upd-cases slots k y s (IsSlotBook m new claims s)
-          (λ i. (t.total, ap (λ b. cond b (done (life t.id)) (life t.id)) (eq-eqb t.id t.id refl) ∙ ap done mine.lives, λ j above of. last-never t.id j (life j) (mine.later j above of)))
+          (λ i. (
+            t.total,
+            ap (λ b. cond b (done (life t.id)) (life t.id)) (eq-eqb t.id t.id refl)
+                ∙ ap done mine.lives,
+            λ j above of. last-never t.id j (life j) (mine.later j above of),
+          ))
           (λ far. book-past m life claims s t.id (slots s) (λ n h. far (let r : Runs s n ≡ Runs k t.total = sym h ∙ mine.lives in cc)) (ok.slot s));
       runs = λ j s n. pick t.id j (done (life j)) (life j) (λ l. l ≡ Runs s n → (has_task (upd slots k y s) ≡ true) × ((task_of (upd slots k y s)).id ≡ j))
           (λ i h. absurd (let r : Done t.total ≡ Runs s n = sym (ap done (sym (ap life i) ∙ mine.lives)) ∙ h in cc))
           (λ i h. let r = ok.runs j s n h in upd-cases slots k y s (λ z. (has_task z ≡ true) × ((task_of z).id ≡ j))
           (λ at. absurd (i (sym (ap (λ z. (task_of z).id) is) ∙ ap (λ z. (task_of (slots z)).id) (sym at) ∙ r.1))) (λ far. r));
-      never = λ j. pick t.id j (done (life j)) (life j) (λ l. l ≡ Never → claims j ≡ []) (λ i h. absurd (let r : Done t.total ≡ Never = sym (ap done (sym (ap life i) ∙ mine.lives)) ∙ h in cc)) (λ n h. ok.never j h);
+      never = λ j. pick t.id j (done (life j)) (life j) (λ l. l ≡ Never → claims j ≡ [])
+          (λ i h. absurd (let r : Done t.total ≡ Never = sym (ap done (sym (ap life i) ∙ mine.lives)) ∙ h in cc)) (λ n h. ok.never j h);
       late = λ j high. last-never t.id j (life j) (ok.late j high);
       apart = λ s u q h g. ok.apart s u q (back s q h) (back u q g);
     })

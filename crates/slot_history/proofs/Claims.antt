@@ -25,12 +25,14 @@ use Rattle.slot_history.proofs.Counts.{slot-runs, last-runs, counts-as, counts-n
 
 -- ---- claims
 
-ranges-step : (a : Act) (w u : ℕ) (p q : Place) (id : ℕ) (rs : List (ℕ × ℕ)) (ms : List Morsel) → rs ≡ ranges_by w ms → (w ≡ u → q ≡ p) → cond (eqb w u) (ranges_after a q id rs) rs ≡ ranges_by w (claims_after u a p id ms)
+ranges-step : (a : Act) (w u : ℕ) (p q : Place) (id : ℕ) (rs : List (ℕ × ℕ)) (ms : List Morsel) → rs ≡ ranges_by w ms → (w ≡ u → q ≡ p)
+    → cond (eqb w u) (ranges_after a q id rs) rs ≡ ranges_by w (claims_after u a p id ms)
 ranges-step (ClaimRange n from to) w u p q id rs ms same at = let m : Morsel = record { worker = u; from = from; to = to } in
     pick w u (cond (is_inside q id) ((from, to) ∷ rs) rs) rs (λ z. z ≡ ranges_by w (cond (is_inside p id) (m ∷ ms) ms))
     (λ e. ap (λ r. cond (is_inside r id) ((from, to) ∷ rs) rs) (at e)
     ∙ cond_both (is_inside p id) (m ∷ ms) ms (λ z. cond (is_inside p id) ((from, to) ∷ rs) rs ≡ ranges_by w z)
-    (λ t. ap (λ b. cond b ((from, to) ∷ rs) rs) t ∙ ap (λ z. (from, to) ∷ z) same ∙ sym (ap (λ b. cond b ((from, to) ∷ ranges_by w ms) (ranges_by w ms)) (eq-eqb w u e)))
+    (λ t. ap (λ b. cond b ((from, to) ∷ rs) rs) t ∙ ap (λ z. (from, to) ∷ z) same
+    ∙ sym (ap (λ b. cond b ((from, to) ∷ ranges_by w ms) (ranges_by w ms)) (eq-eqb w u e)))
     (λ f. ap (λ b. cond b ((from, to) ∷ rs) rs) f ∙ same))
     (λ n'. cond_both (is_inside p id) (m ∷ ms) ms (λ z. rs ≡ ranges_by w z)
     (λ t. same ∙ sym (ap (λ b. cond b ((from, to) ∷ ranges_by w ms) (ranges_by w ms)) (ne_eqb w u n')))
@@ -39,7 +41,8 @@ ranges-step _ w u p q id rs ms same at = pick w u rs rs (λ z. z ≡ ranges_by w
 
 pub ranges-claims : (d : Shape) (w id : ℕ) (h : List Entry) → ranges_of d w id h ≡ ranges_by w (claims_of d id h)
 ranges-claims d w id [] = refl
-ranges-claims d w id (e ∷ es) = ranges-step e.act w e.worker (place_of d es e.worker) (place_of d es w) id (ranges_of d w id es) (claims_of d id es) (ranges-claims d w id es) (λ same. ap (place_of d es) same)
+ranges-claims d w id (e ∷ es) = ranges-step e.act w e.worker (place_of d es e.worker) (place_of d es w) id (ranges_of d w id es) (claims_of d id es)
+    (ranges-claims d w id es) (λ same. ap (place_of d es) same)
 
 pub no-early-claims : (d : Shape) (h : List Entry) → IsLegal d h → NoEarlyClaims d h
 no-early-claims d h legal id none =
@@ -47,7 +50,8 @@ no-early-claims d h legal id none =
     let empty : claims_of d id h ≡ [] = (book d h legal).never id never in
     (empty, λ w. ranges-claims d w id h ∙ ap (ranges_by w) empty)
 
-running-tiles : (m : ℕ) (life : ℕ → Life) (claims : ℕ → List Morsel) (s : ℕ) (x : SlotState) → has_task x ≡ true → IsSlotBook m life claims s x → Tiles (claims (task_of x).id) (min (task_of x).cursor (task_of x).total)
+running-tiles : (m : ℕ) (life : ℕ → Life) (claims : ℕ → List Morsel) (s : ℕ) (x : SlotState) → has_task x ≡ true → IsSlotBook m life claims s x
+    → Tiles (claims (task_of x).id) (min (task_of x).cursor (task_of x).total)
 running-tiles m life claims s (Open t) has k = k.tiles
 running-tiles m life claims s (Shut t e) has k = k.tiles
 running-tiles m life claims s _ has k = absurd (cc)
@@ -65,7 +69,8 @@ last-claims w SweepLast p id ms h = refl
 last-claims w _ p id ms h = absurd (cc)
 
 -- whoever is inside with an id is so with a task set that runs
-pub inside-runs : (d : Shape) (h : List Entry) (v id : ℕ) → IsLegal d h → v < d.workers → is_inside (place_of d h v) id ≡ true → (s : ℕ) × (n : ℕ) × (life_of d id h ≡ Runs s n)
+pub inside-runs : (d : Shape) (h : List Entry) (v id : ℕ) → IsLegal d h → v < d.workers → is_inside (place_of d h v) id ≡ true → (s : ℕ) × (n : ℕ)
+    × (life_of d id h ≡ Runs s n)
 inside-runs d h v id legal low k = let S : ObjectState = state_after d h in let s : ℕ = slot_of (S.places v) in
     let r = inside-task d S (table d h legal) v s id low (inside-cell (S.places v) id k) k in
     (s, (task_of (S.slots s)).total, ap (λ j. life_of d j h) (sym r.1) ∙ slot-runs d h legal s r.0)
@@ -74,8 +79,10 @@ pub inside-done : (d : Shape) (h : List Entry) (v id n : ℕ) → IsLegal d h �
 inside-done d h v id n legal low over k = let r = inside-runs d h v id legal low k in let e : Done n ≡ Runs r.0 r.1 = sym over ∙ r.2 in cc
 
 -- nobody claims of a task set that was finalised
-pub done-claims : (d : Shape) (h : List Entry) (w : ℕ) (a : Act) (id n : ℕ) → IsLegal d h → w < d.workers → IsAllowed d (state_after d h) w a → life_of d id h ≡ Done n → (ms : List Morsel) → claims_after w a (place_of d h w) id ms ≡ ms
-done-claims d h w (ClaimRange k from to) id n legal low ok over ms = cond_both (is_inside (place_of d h w) id) (record { worker = w; from = from; to = to } ∷ ms) ms (λ z. z ≡ ms)
+pub done-claims : (d : Shape) (h : List Entry) (w : ℕ) (a : Act) (id n : ℕ) → IsLegal d h → w < d.workers → IsAllowed d (state_after d h) w a
+    → life_of d id h ≡ Done n → (ms : List Morsel) → claims_after w a (place_of d h w) id ms ≡ ms
+done-claims d h w (ClaimRange k from to) id n legal low ok over ms =
+    cond_both (is_inside (place_of d h w) id) (record { worker = w; from = from; to = to } ∷ ms) ms (λ z. z ≡ ms)
     (λ t. absurd (inside-done d h w id n legal low over t)) (λ f. refl)
 done-claims d h w _ id n legal low ok over ms = refl
 
@@ -85,21 +92,24 @@ TiledAfter a p id l ms installed last = (n : ℕ) → cond installed (Runs (slot
 pub tiles-done : (d : Shape) (id : ℕ) (h : List Entry) → IsLegal d h → (n : ℕ) → life_of d id h ≡ Done n → Tiles (claims_of d id h) n
 tiles-done d id [] legal = λ n e. absurd (cc)
 tiles-done d id (e ∷ es) legal =
-    let p : Place = place_of d es e.worker in let a : Act = e.act in let l : Life = life_of d id es in let ms : List Morsel = claims_after e.worker a p id (claims_of d id es) in ⊎_elim
+    let p : Place = place_of d es e.worker in let a : Act = e.act in let l : Life = life_of d id es in let ms : List Morsel =
+    claims_after e.worker a p id (claims_of d id es) in ⊎_elim
     (λ this. subst (λ b. TiledAfter a p id l ms b (is_last a && eqb (id_at p) id)) (sym this) (λ n k. absurd (cc)))
     (λ other. subst (λ b. TiledAfter a p id l ms b (is_last a && eqb (id_at p) id)) (sym other) (⊎_elim
     (λ last. let both = and_parts (is_last a) (eqb (id_at p) id) last in
     let r = last-runs d es e.worker a id legal.2 legal.0 legal.1 both.0 (eqb-true (id_at p) id both.1) in
     subst (TiledAfter a p id l ms false) (sym last) (λ n k. subst (λ z. Tiles z n) (sym (last-claims e.worker a p id (claims_of d id es) both.0))
     (tiles-spent (claims_of d id es) r.0.cursor r.0.total n r.3 (let q : Done r.0.total ≡ Done n = sym (ap done r.1) ∙ k in cc) r.2)))
-    (λ none. subst (TiledAfter a p id l ms false) (sym none) (λ n k. subst (λ z. Tiles z n) (sym (done-claims d es e.worker a id n legal.2 legal.0 legal.1 k (claims_of d id es))) (tiles-done d id es legal.2 n k)))
+    (λ none. subst (TiledAfter a p id l ms false) (sym none)
+    (λ n k. subst (λ z. Tiles z n) (sym (done-claims d es e.worker a id n legal.2 legal.0 legal.1 k (claims_of d id es))) (tiles-done d id es legal.2 n k)))
     (cases_Bool (is_last a && eqb (id_at p) id))))
     (cases_Bool (is_install a id))
 
 pub tiles-total : (d : Shape) (h : List Entry) → IsLegal d h → TilesTotal d h
 tiles-total d h legal = (
   λ s shut_. let x : SlotState = (state_after d h).slots s in let t : TaskSet = task_of x in
-      tiles-spent (claims_of d t.id h) t.cursor t.total t.total ((cursors d h legal).shut s shut_) refl (tiles-cursor d h legal s (open-or-shut x (inr shut_))).1,
+      tiles-spent (claims_of d t.id h) t.cursor t.total t.total ((cursors d h legal).shut s shut_) refl
+      (tiles-cursor d h legal s (open-or-shut x (inr shut_))).1,
   λ id some_last. let k = counts-done d id h legal some_last in
       (k.0, k.2, tiles-done d id h legal k.0 k.1),
 )

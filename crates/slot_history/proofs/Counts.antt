@@ -32,7 +32,8 @@ install-not-last (Install jd) id h = refl
 install-not-last _ id h = absurd (cc)
 
 -- where an id is installed, it never was before, and the total is set
-pub install-never : (d : Shape) (h : List Entry) (w : ℕ) (a : Act) (id : ℕ) → IsLegal d h → w < d.workers → IsAllowed d (state_after d h) w a → is_install a id ≡ true
+pub install-never : (d : Shape) (h : List Entry) (w : ℕ) (a : Act) (id : ℕ) → IsLegal d h → w < d.workers → IsAllowed d (state_after d h) w a
+    → is_install a id ≡ true
     → (life_of d id h ≡ Never) × IsSome (held_at (place_of d h w)).total
 install-never d h w a id legal low ok this = let S : ObjectState = state_after d h in
     subst (λ b. IsAllowed d S w b → (life_of d id h ≡ Never) × IsSome (held_at (S.places w)).total) (sym (install-is a id this))
@@ -42,25 +43,31 @@ install-never d h w a id legal low ok this = let S : ObjectState = state_after d
     )) ok
 
 -- a task set that a slot has, runs there
-pub slot-runs : (d : Shape) (h : List Entry) → IsLegal d h → (s : ℕ) → has_task ((state_after d h).slots s) ≡ true → let t = task_of ((state_after d h).slots s) in life_of d t.id h ≡ Runs s t.total
-slot-runs d h legal s has = running-life (state_after d h).admitted (λ j. life_of d j h) (λ j. claims_of d j h) s ((state_after d h).slots s) has ((book d h legal).slot s)
+pub slot-runs : (d : Shape) (h : List Entry) → IsLegal d h → (s : ℕ) → has_task ((state_after d h).slots s) ≡ true → let t =
+    task_of ((state_after d h).slots s) in life_of d t.id h ≡ Runs s t.total
+slot-runs d h legal s has = running-life (state_after d h).admitted (λ j. life_of d j h)
+    (λ j. claims_of d j h) s ((state_after d h).slots s) has ((book d h legal).slot s)
 
 -- where a call finalises an id, its task set is shut in the slot that its worker names
 last-slot : (d : Shape) (S : ObjectState) (w : ℕ) (a : Act) → w < d.workers → IsTable d S → IsAllowed d S w a → is_last a ≡ true
     → (t : TaskSet) × (e : Ending) × (S.slots (slot_of (S.places w)) ≡ Shut t e) × (t.id ≡ id_at (S.places w))
-last-slot d S w PayLast low tab ok this = subst (λ p. (t : TaskSet) × (e : Ending) × (S.slots (slot_of p) ≡ Shut t e) × (t.id ≡ id_at p)) (sym ok.2) (paying-slot d S tab w ok.0 ok.1 low ok.2)
-last-slot d S w SweepLast low tab ok this = subst (λ p. (t : TaskSet) × (e : Ending) × (S.slots (slot_of p) ≡ Shut t e) × (t.id ≡ id_at p)) (sym ok.4) (asking-slot d S tab w ok.0 ok.1 ok.2 ok.3 low ok.4)
+last-slot d S w PayLast low tab ok this = subst (λ p. (t : TaskSet) × (e : Ending) × (S.slots (slot_of p) ≡ Shut t e) × (t.id ≡ id_at p)) (sym ok.2)
+    (paying-slot d S tab w ok.0 ok.1 low ok.2)
+last-slot d S w SweepLast low tab ok this = subst (λ p. (t : TaskSet) × (e : Ending) × (S.slots (slot_of p) ≡ Shut t e) × (t.id ≡ id_at p)) (sym ok.4)
+    (asking-slot d S tab w ok.0 ok.1 ok.2 ok.3 low ok.4)
 last-slot d S w _ low tab ok this = absurd (cc)
 
 -- the task set that a call finalises ran, in the slot of the call, with what was claimed of it
-pub last-runs : (d : Shape) (h : List Entry) (w : ℕ) (a : Act) (id : ℕ) → IsLegal d h → w < d.workers → IsAllowed d (state_after d h) w a → is_last a ≡ true → id_at (place_of d h w) ≡ id
+pub last-runs : (d : Shape) (h : List Entry) (w : ℕ) (a : Act) (id : ℕ) → IsLegal d h → w < d.workers → IsAllowed d (state_after d h) w a → is_last a ≡ true
+    → id_at (place_of d h w) ≡ id
     → (t : TaskSet) × (life_of d id h ≡ Runs (slot_of (place_of d h w)) t.total) × Tiles (claims_of d id h) (min t.cursor t.total) × (t.total ≤ t.cursor)
 last-runs d h w a id legal low ok this at =
     let S : ObjectState = state_after d h in
     let r = last-slot d S w a low (table d h legal) ok this in
     let s : ℕ = slot_of (S.places w) in
     let t : TaskSet = r.0 in
-    let k : IsRunning (λ j. life_of d j h) (λ j. claims_of d j h) s t = subst (IsSlotBook S.admitted (λ j. life_of d j h) (λ j. claims_of d j h) s) r.2 ((book d h legal).slot s) in
+    let k : IsRunning (λ j. life_of d j h) (λ j. claims_of d j h) s t =
+    subst (IsSlotBook S.admitted (λ j. life_of d j h) (λ j. claims_of d j h) s) r.2 ((book d h legal).slot s) in
     let is : t.id ≡ id = r.3 ∙ at in (
       t,
       ap (λ j. life_of d j h) (sym is) ∙ k.lives,
@@ -213,7 +220,8 @@ admits-more p q m n at k = pick p q 1 0 (λ b. Admits q (m + 1) (b + n))
 admits-same : (q m n : ℕ) → Admits q m n → Admits q m (0 + n)
 admits-same q m n k = (λ h. let z : n ≡ 1 = k.0 h in omega arith, λ h. let z : n ≡ 0 = k.1 h in omega arith)
 
-admits-next : (d : Shape) (S : ObjectState) (w : ℕ) (a : Act) (q n : ℕ) → IsAllowed d S w a → Admits q S.admitted n → Admits q (admitted_after a S.admitted) (cond (is_admit a q) 1 0 + n)
+admits-next : (d : Shape) (S : ObjectState) (w : ℕ) (a : Act) (q n : ℕ) → IsAllowed d S w a → Admits q S.admitted n
+    → Admits q (admitted_after a S.admitted) (cond (is_admit a q) 1 0 + n)
 admits-next d S w (AdmitGot p) q n ok k = admits-more p q S.admitted n ok.5 k
 admits-next d S w _ q n ok k = admits-same q S.admitted n k
 

@@ -27,7 +27,8 @@ left-not-claiming (Leading t id) s h = true≢false (sym h)
 left-not-claiming _ s h = true≢false (sym h)
 
 told-not-claiming : (d : Shape) (t : ℕ) (again : Bool) (k s : ℕ) → is_claiming_at s (told_one d (Announcing t again k)) ≡ true → ⊥
-told-not-claiming d t again k s = pick (k + 1) d.workers Free (Announcing t again (k + 1)) (λ q. is_claiming_at s q ≡ true → ⊥) (λ e h. true≢false (sym h)) (λ n h. true≢false (sym h))
+told-not-claiming d t again k s = pick (k + 1) d.workers Free (Announcing t again (k + 1)) (λ q. is_claiming_at s q ≡ true → ⊥) (λ e h. true≢false (sym h))
+    (λ n h. true≢false (sym h))
 
 -- who found all tuples of an open slot claimed is still there, unless it shuts the slot
 used-stays : (d : Shape) (S : ObjectState) (w : ℕ) (a : Act) (s : ℕ) → IsAllowed d S w a → (a ≡ ShutWon → s ≢ site a (S.places w)) → is_open (S.slots s) ≡ true
@@ -37,7 +38,8 @@ used-stays d S w (LookOpen id) s ok far open_ h = absurd (true≢false (sym h �
 used-stays d S w LookInvalid s ok far open_ h = absurd (true≢false (sym h ∙ ap (is_used_at s) ok.1))
 used-stays d S w LookVacant s ok far open_ h = absurd (true≢false (sym h ∙ ap (is_used_at s) ok.1))
 used-stays d S w (ClaimUsed n) s ok far open_ h = absurd (true≢false (sym h ∙ ap (is_used_at s) ok.2))
-used-stays d S w ShutWon s ok far open_ h = absurd (let e : ok.0 ≡ s = eqb-true ok.0 s (sym (ap (is_used_at s) ok.2) ∙ h) in far refl (sym e ∙ sym (ap slot_of ok.2)))
+used-stays d S w ShutWon s ok far open_ h = absurd (let e : ok.0 ≡ s = eqb-true ok.0 s (sym (ap (is_used_at s) ok.2) ∙ h) in
+    far refl (sym e ∙ sym (ap slot_of ok.2)))
 used-stays d S w ShutLost s ok far open_ h = absurd (let e : ok.0 ≡ s = eqb-true ok.0 s (sym (ap (is_used_at s) ok.2) ∙ h) in
     shut-closed (S.slots s) (ap (λ j. is_shut (S.slots j)) (sym e) ∙ ok.3) open_)
 used-stays d S w LeaveLeft s ok far open_ h = absurd (used-cannot-leave (S.places w) s h ok.0)
@@ -58,7 +60,8 @@ used-stays d S w Tell s ok far open_ h = absurd (true≢false (sym h ∙ ap (is_
 used-stays d S w _ s ok far open_ h = h
 
 -- nobody begins to claim at a shut slot
-claiming-was : (d : Shape) (S : ObjectState) (w : ℕ) (a : Act) (s : ℕ) → IsAllowed d S w a → is_shut (S.slots s) ≡ true → is_claiming_at s (moved d a (S.places w)) ≡ true → is_claiming_at s (S.places w) ≡ true
+claiming-was : (d : Shape) (S : ObjectState) (w : ℕ) (a : Act) (s : ℕ) → IsAllowed d S w a → is_shut (S.slots s) ≡ true
+    → is_claiming_at s (moved d a (S.places w)) ≡ true → is_claiming_at s (S.places w) ≡ true
 claiming-was d S w (Enter t) s ok shut_ h = absurd (cc)
 claiming-was d S w (LookOpen id) s ok shut_ h = absurd (let e : ok.0 ≡ s = sym (ap slot_of ok.1) ∙ eqb-true (slot_of (S.places w)) s h in
     shut-closed (S.slots s) shut_ (ap (λ j. is_open (S.slots j)) (sym e) ∙ ok.2))
@@ -97,7 +100,8 @@ keeps d f g s (Shut t e) used claiming h = let c : ℕ = t.cursor in let n : ℕ
     let k : a ≤ b = claiming refl in let i : c < n + MOST_CLAIM * (1 + a) = h in let r : c < n + MOST_CLAIM * (1 + b) = omega arith in r
 keeps d f g s _ used claiming h = tt
 
-bound-range : (d : Shape) (g : ℕ → Place) (s n : ℕ) (x : SlotState) → (task_of x).cursor < (task_of x).total → n ≤ MOST_CLAIM → IsCursorBound d g s (claimed x n)
+bound-range : (d : Shape) (g : ℕ → Place) (s n : ℕ) (x : SlotState) → (task_of x).cursor < (task_of x).total → n ≤ MOST_CLAIM
+    → IsCursorBound d g s (claimed x n)
 bound-range d g s n (Open t) below most = let c : ℕ = t.cursor in let m : ℕ = t.total in let b : ℕ = count_of d.workers (λ v. is_used_at s (g v)) in
     let i : c < m = below in let r : c + n < m + MOST_CLAIM * (1 + b) = omega arith in r
 bound-range d g s n (Shut t e) below most = let c : ℕ = t.cursor in let m : ℕ = t.total in let b : ℕ = count_of d.workers (λ v. not (is_claiming_at s (g v))) in
@@ -117,7 +121,8 @@ bound-used d f g s n (Shut t e) most used claiming h = let c : ℕ = t.cursor in
 bound-used d f g s n _ most used claiming h = tt
 
 bound-shut : (d : Shape) (f g : ℕ → Place) (s w : ℕ) (x : SlotState) → is_open x ≡ true
-    → count_of d.workers (λ v. is_used_at s (f v)) ≤ count_of d.workers (λ v. not (is_claiming_at s (g v))) → IsCursorBound d f s x → IsCursorBound d g s (shut_by w x)
+    → count_of d.workers (λ v. is_used_at s (f v)) ≤ count_of d.workers (λ v. not (is_claiming_at s (g v))) → IsCursorBound d f s x
+    → IsCursorBound d g s (shut_by w x)
 bound-shut d f g s w (Open t) open_ more h = let c : ℕ = t.cursor in let m : ℕ = t.total in
     let a : ℕ = count_of d.workers (λ v. is_used_at s (f v)) in let b : ℕ = count_of d.workers (λ v. not (is_claiming_at s (g v))) in
     let k : a ≤ b = more in let i : c < m + MOST_CLAIM * (1 + a) = h in let r : c < m + MOST_CLAIM * (1 + b) = omega arith in r
@@ -161,13 +166,15 @@ not-back true b forth h = absurd (true≢false (sym (forth refl) ∙ not-true b 
 used-count : (d : Shape) (S : ObjectState) (w : ℕ) (a : Act) (s : ℕ) → IsAllowed d S w a → (a ≡ ShutWon → s ≢ site a (S.places w)) → is_open (S.slots s) ≡ true
     → count_of d.workers (λ v. is_used_at s (S.places v)) ≤ count_of d.workers (λ v. is_used_at s ((next d S w a).places v))
 used-count d S w a s fine far open_ = count-grows d.workers (λ v. is_used_at s (S.places v)) (λ v. is_used_at s ((next d S w a).places v))
-    (λ v low h. upd-cases S.places w (moved d a (S.places w)) v (λ q. is_used_at s q ≡ true) (λ e. used-stays d S w a s fine far open_ (sym (ap (λ u. is_used_at s (S.places u)) e) ∙ h)) (λ n. h))
+    (λ v low h. upd-cases S.places w (moved d a (S.places w)) v (λ q. is_used_at s q ≡ true)
+    (λ e. used-stays d S w a s fine far open_ (sym (ap (λ u. is_used_at s (S.places u)) e) ∙ h)) (λ n. h))
 
 claiming-count : (d : Shape) (S : ObjectState) (w : ℕ) (a : Act) (s : ℕ) → IsAllowed d S w a → is_shut (S.slots s) ≡ true
     → count_of d.workers (λ v. not (is_claiming_at s (S.places v))) ≤ count_of d.workers (λ v. not (is_claiming_at s ((next d S w a).places v)))
 claiming-count d S w a s fine shut_ = count-grows d.workers (λ v. not (is_claiming_at s (S.places v))) (λ v. not (is_claiming_at s ((next d S w a).places v)))
     (λ v low h. upd-cases S.places w (moved d a (S.places w)) v (λ q. not (is_claiming_at s q) ≡ true)
-    (λ e. not-back (is_claiming_at s (moved d a (S.places w))) (is_claiming_at s (S.places w)) (claiming-was d S w a s fine shut_) (sym (ap (λ u. not (is_claiming_at s (S.places u))) e) ∙ h))
+    (λ e. not-back (is_claiming_at s (moved d a (S.places w))) (is_claiming_at s (S.places w)) (claiming-was d S w a s fine shut_)
+    (sym (ap (λ u. not (is_claiming_at s (S.places u))) e) ∙ h))
     (λ n. h))
 
 -- one more worker found all tuples claimed
@@ -175,9 +182,12 @@ one-more-used : (d : Shape) (f : ℕ → Place) (w s id : ℕ) → w < d.workers
     → (count_of d.workers (λ v. is_used_at s (f v)) + 1 ≤ count_of d.workers (λ v. is_used_at s (upd f w (Used s id) v)))
     × (count_of d.workers (λ v. not (is_claiming_at s (f v))) + 1 ≤ count_of d.workers (λ v. not (is_claiming_at s (upd f w (Used s id) v))))
 one-more-used d f w s id low at = let g : ℕ → Place = upd f w (Used s id) in (
-  count-grows_one d.workers (λ v. is_used_at s (f v)) (λ v. is_used_at s (g v)) w low (ap (is_used_at s) at) (ap (is_used_at s) (upd-same f w (Used s id)) ∙ eq-eqb s s refl)
+  count-grows_one d.workers (λ v. is_used_at s (f v)) (λ v. is_used_at s (g v)) w low (ap (is_used_at s) at) (ap (is_used_at s) (upd-same f w (Used s id))
+      ∙ eq-eqb s s refl)
       (λ v k h. upd-cases f w (Used s id) v (λ q. is_used_at s q ≡ true) (λ e. eq-eqb s s refl) (λ n. h)),
-  count-grows_one d.workers (λ v. not (is_claiming_at s (f v))) (λ v. not (is_claiming_at s (g v))) w low (ap (λ q. not (is_claiming_at s q)) at ∙ ap not (eq-eqb s s refl)) (ap (λ q. not (is_claiming_at s q)) (upd-same f w (Used s id)))
+  count-grows_one d.workers (λ v. not (is_claiming_at s (f v)))
+      (λ v. not (is_claiming_at s (g v))) w low (ap (λ q. not (is_claiming_at s q)) at ∙ ap not (eq-eqb s s refl)) (ap
+      (λ q. not (is_claiming_at s q)) (upd-same f w (Used s id)))
       (λ v k h. upd-cases f w (Used s id) v (λ q. not (is_claiming_at s q) ≡ true) (λ e. refl) (λ n. h)),
 )
 
@@ -185,7 +195,8 @@ one-more-used d f w s id low at = let g : ℕ → Place = upd f w (Used s id) in
 abbrev Bounds : Shape → ObjectState → ℕ → Act → Place → Type 0
 Bounds d S w a p = let s = site a p in IsCursorBound d S.places s (S.slots s) → IsCursorBound d (upd S.places w (moved d a p)) s (slot_after d w a (S.slots s))
 
-shut-count : (d : Shape) (f : ℕ → Place) (w s id : ℕ) → count_of d.workers (λ v. is_used_at s (f v)) ≤ count_of d.workers (λ v. not (is_claiming_at s (upd f w (Leading s id) v)))
+shut-count : (d : Shape) (f : ℕ → Place) (w s id : ℕ) → count_of d.workers (λ v. is_used_at s (f v)) ≤ count_of d.workers
+    (λ v. not (is_claiming_at s (upd f w (Leading s id) v)))
 shut-count d f w s id = count-grows d.workers (λ v. is_used_at s (f v)) (λ v. not (is_claiming_at s (upd f w (Leading s id) v)))
     (λ v low h. upd-cases f w (Leading s id) v (λ q. not (is_claiming_at s q) ≡ true) (λ e. refl) (λ n. used-not-claiming (f v) s h))
 
@@ -197,7 +208,8 @@ is_claim_or_shut ShutWon = true
 is_claim_or_shut _ = false
 
 -- the others leave a bound that the new places keep
-bound-after : (d : Shape) (g : ℕ → Place) (s w : ℕ) (a : Act) (x : SlotState) → is_claim_or_shut a ≡ false → IsCursorBound d g s x → IsCursorBound d g s (slot_after d w a x)
+bound-after : (d : Shape) (g : ℕ → Place) (s w : ℕ) (a : Act) (x : SlotState) → is_claim_or_shut a ≡ false → IsCursorBound d g s x
+    → IsCursorBound d g s (slot_after d w a x)
 bound-after d g s w (ClaimRange n from to) x other h = absurd (cc)
 bound-after d g s w (ClaimUsed n) x other h = absurd (cc)
 bound-after d g s w ShutWon x other h = absurd (cc)
@@ -217,7 +229,8 @@ bound-after d g s w _ x other h = h
 
 bounds-special : (d : Shape) (S : ObjectState) (w : ℕ) (a : Act) → w < d.workers → IsAllowed d S w a → is_claim_or_shut a ≡ true → Bounds d S w a (S.places w)
 bounds-special d S w (ClaimRange n from to) low ok this = λ h. let at : ok.0 ≡ slot_of (S.places w) = sym (ap slot_of ok.2) in
-    bound-range d (upd S.places w (S.places w)) (slot_of (S.places w)) n (S.slots (slot_of (S.places w))) (subst (λ j. (task_of (S.slots j)).cursor < (task_of (S.slots j)).total) at (subst (λ j. j < (task_of (S.slots ok.0)).total) ok.5 ok.6)) ok.4
+    bound-range d (upd S.places w (S.places w)) (slot_of (S.places w)) n (S.slots (slot_of (S.places w))) (subst
+    (λ j. (task_of (S.slots j)).cursor < (task_of (S.slots j)).total) at (subst (λ j. j < (task_of (S.slots ok.0)).total) ok.5 ok.6)) ok.4
 bounds-special d S w (ClaimUsed n) low ok this = subst (Bounds d S w (ClaimUsed n)) (sym ok.2)
     (λ h. let r = one-more-used d S.places w ok.0 ok.1 low ok.2 in bound-used d S.places (upd S.places w (Used ok.0 ok.1)) ok.0 n (S.slots ok.0) ok.4 r.0 r.1 h)
 bounds-special d S w ShutWon low ok this = subst (Bounds d S w ShutWon) (sym ok.2)
@@ -227,7 +240,8 @@ bounds-special d S w _ low ok this = absurd (cc)
 shut-is : (a : Act) → is_claim_or_shut a ≡ false → a ≢ ShutWon
 shut-is a other e = true≢false (sym (ap is_claim_or_shut e) ∙ other)
 
-pub bound-next : (d : Shape) (S : ObjectState) (w : ℕ) (a : Act) → w < d.workers → AreCursors d S → IsAllowed d S w a → (s : ℕ) → IsCursorBound d (next d S w a).places s ((next d S w a).slots s)
+pub bound-next : (d : Shape) (S : ObjectState) (w : ℕ) (a : Act) → w < d.workers → AreCursors d S → IsAllowed d S w a → (s : ℕ)
+    → IsCursorBound d (next d S w a).places s ((next d S w a).slots s)
 bound-next d S w a low ok fine s =
     let k : ℕ = site a (S.places w) in
     let g : ℕ → Place = upd S.places w (moved d a (S.places w)) in

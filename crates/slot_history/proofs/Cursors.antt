@@ -31,7 +31,8 @@ left-unused _ s id e = absurd (cc)
 told-unused : (d : Shape) (t : ℕ) (again : Bool) (k s id : ℕ) → told_one d (Announcing t again k) ≢ Used s id
 told-unused d t again k s id = pick (k + 1) d.workers Free (Announcing t again (k + 1)) (λ q. q ≢ Used s id) (λ i e. absurd (cc)) (λ n e. absurd (cc))
 
-became-used : (d : Shape) (S : ObjectState) (w : ℕ) (a : Act) (s id : ℕ) → IsAllowed d S w a → moved d a (S.places w) ≡ Used s id → (S.places w ≡ Used s id) ⊎ ((n : ℕ) × (a ≡ ClaimUsed n))
+became-used : (d : Shape) (S : ObjectState) (w : ℕ) (a : Act) (s id : ℕ) → IsAllowed d S w a → moved d a (S.places w) ≡ Used s id → (S.places w ≡ Used s id)
+    ⊎ ((n : ℕ) × (a ≡ ClaimUsed n))
 became-used d S w (Enter t) s id ok e = absurd (cc)
 became-used d S w (LookOpen jd) s id ok e = absurd (cc)
 became-used d S w LookInvalid s id ok e = absurd (cc)
@@ -48,7 +49,8 @@ became-used d S w MarkMissed s id ok e = absurd (let r : Asking ok.0 ok.1 (ok.2 
 became-used d S w SweepLast s id ok e = absurd (cc)
 became-used d S w (SweepOthers n) s id ok e = absurd (cc)
 became-used d S w (ReserveGot t) s id ok e = absurd (cc)
-became-used d S w (AdmitGot q) s id ok e = absurd (let r : Holding ok.0 (held_after (AdmitGot q) ok.1) ≡ Used s id = sym (ap (moved d (AdmitGot q)) ok.2) ∙ e in cc)
+became-used d S w (AdmitGot q) s id ok e = absurd (let r : Holding ok.0 (held_after (AdmitGot q) ok.1) ≡ Used s id = sym (ap (moved d (AdmitGot q)) ok.2)
+    ∙ e in cc)
 became-used d S w (Note k) s id ok e = absurd (let r : Holding ok.0 (held_after (Note k) ok.1) ≡ Used s id = sym (ap (moved d (Note k)) ok.2) ∙ e in cc)
 became-used d S w (Total t) s id ok e = absurd (let r : Holding ok.0 (held_after (Total t) ok.1) ≡ Used s id = sym (ap (moved d (Total t)) ok.2) ∙ e in cc)
 became-used d S w (Install jd) s id ok e = absurd (cc)
@@ -71,23 +73,27 @@ becomes-shut d w _ (Finishing jd u k) h = absurd (cc)
 
 -- the slot at which a worker found all tuples claimed has a task set
 used-task : (d : Shape) (S : ObjectState) → IsTable d S → (v s id : ℕ) → v < d.workers → S.places v ≡ Used s id → has_task (S.slots s) ≡ true
-used-task d S ok v s id low at = open-or-shut (S.slots s) (inside-slots d S ok s v id low (ap (λ p. has_own_cell p s) at ∙ eq-eqb s s refl) (ap (λ p. is_inside p id) at ∙ eq-eqb id id refl)).0
+used-task d S ok v s id low at = open-or-shut (S.slots s)
+    (inside-slots d S ok s v id low (ap (λ p. has_own_cell p s) at ∙ eq-eqb s s refl) (ap (λ p. is_inside p id) at ∙ eq-eqb id id refl)).0
 
 abbrev Spent : SlotState → Type 0
 Spent x = (task_of x).total ≤ (task_of x).cursor
 
 spent-grows : (x y : SlotState) → Grows x y → Spent x → Spent y
-spent-grows x y g h = let a : (task_of y).total ≡ (task_of x).total = g.total in let b : (task_of x).cursor ≤ (task_of y).cursor = g.cursor in let c : (task_of x).total ≤ (task_of x).cursor = h in omega arith
+spent-grows x y g h = let a : (task_of y).total ≡ (task_of x).total = g.total in let b : (task_of x).cursor ≤ (task_of y).cursor = g.cursor in
+    let c : (task_of x).total ≤ (task_of x).cursor = h in omega arith
 
 -- a slot that has a task set before and after a call
-spent-after : (d : Shape) (S : ObjectState) (w : ℕ) (a : Act) (s : ℕ) → has_task (S.slots s) ≡ true → has_task ((next d S w a).slots s) ≡ true → Spent (S.slots s) → Spent ((next d S w a).slots s)
+spent-after : (d : Shape) (S : ObjectState) (w : ℕ) (a : Act) (s : ℕ) → has_task (S.slots s) ≡ true → has_task ((next d S w a).slots s) ≡ true
+    → Spent (S.slots s) → Spent ((next d S w a).slots s)
 spent-after d S w a s before after h = let k : ℕ = site a (S.places w) in
     upd-cases S.slots k (slot_after d w a (S.slots k)) s (λ y. has_task y ≡ true → Spent y)
     (λ e t. spent-grows (S.slots k) _ (grows d w a (S.slots k) (ap (λ j. has_task (S.slots j)) (sym e) ∙ before) t) (subst (λ j. Spent (S.slots j)) e h))
     (λ n t. h) after
 
 -- the claim that found all tuples claimed
-claimed-spent : (d : Shape) (S : ObjectState) (w n s id : ℕ) → IsAllowed d S w (ClaimUsed n) → moved d (ClaimUsed n) (S.places w) ≡ Used s id → Spent ((next d S w (ClaimUsed n)).slots s)
+claimed-spent : (d : Shape) (S : ObjectState) (w n s id : ℕ) → IsAllowed d S w (ClaimUsed n) → moved d (ClaimUsed n) (S.places w) ≡ Used s id
+    → Spent ((next d S w (ClaimUsed n)).slots s)
 claimed-spent d S w n s id ok e =
     let k : ℕ = slot_of (S.places w) in
     let here : ok.0 ≡ k = sym (ap slot_of ok.2) in
@@ -110,7 +116,8 @@ used-next d S w a low tab ok fine v s id within at =
     (became-used d S w a s id fine e))
     (λ n e. still v within e) at
 
-shut-next : (d : Shape) (S : ObjectState) (w : ℕ) (a : Act) → w < d.workers → AreCursors d S → IsAllowed d S w a → (s : ℕ) → is_shut ((next d S w a).slots s) ≡ true → Spent ((next d S w a).slots s)
+shut-next : (d : Shape) (S : ObjectState) (w : ℕ) (a : Act) → w < d.workers → AreCursors d S → IsAllowed d S w a → (s : ℕ)
+    → is_shut ((next d S w a).slots s) ≡ true → Spent ((next d S w a).slots s)
 shut-next d S w a low ok fine s now = let k : ℕ = site a (S.places w) in
     upd-cases S.slots k (slot_after d w a (S.slots k)) s (λ y. is_shut y ≡ true → Spent y)
     (λ e h. ⊎_elim
@@ -121,7 +128,8 @@ shut-next d S w a low ok fine s now = let k : ℕ = site a (S.places w) in
     (becomes-shut d w a (S.slots k) h))
     (λ n h. ok.shut s h) now
 
-pub cursors-next : (d : Shape) (S : ObjectState) (w : ℕ) (a : Act) → w < d.workers → IsTable d S → AreCursors d S → IsAllowed d S w a → AreCursors d (next d S w a)
+pub cursors-next : (d : Shape) (S : ObjectState) (w : ℕ) (a : Act) → w < d.workers → IsTable d S → AreCursors d S → IsAllowed d S w a
+    → AreCursors d (next d S w a)
 cursors-next d S w a low tab ok fine = record {
   used = used-next d S w a low tab ok fine;
   shut = shut-next d S w a low ok fine;
@@ -132,7 +140,8 @@ pub cursors : (d : Shape) (h : List Entry) → IsLegal d h → AreCursors d (sta
 cursors d [] legal = record { used = λ v s id low e. absurd (cc); shut = λ s h. absurd (cc); bound = λ s. tt }
 cursors d (e ∷ es) legal = cursors-next d (state_after d es) e.worker e.act legal.0 (table d es legal.2) (cursors d es legal.2) legal.1
 
-limit-of : (d : Shape) (places : ℕ → Place) (s : ℕ) (x : SlotState) → IsCursorBound d places s x → (task_of x).cursor ≤ (task_of x).total + MOST_CLAIM * (d.workers + 1)
+limit-of : (d : Shape) (places : ℕ → Place) (s : ℕ) (x : SlotState) → IsCursorBound d places s x
+    → (task_of x).cursor ≤ (task_of x).total + MOST_CLAIM * (d.workers + 1)
 limit-of d places s (Open t) k =
     let n : ℕ = count_of d.workers (λ v. is_used_at s (places v)) in
     let a : n ≤ d.workers = count-most d.workers (λ v. is_used_at s (places v)) in

@@ -27,10 +27,12 @@ end-cases id e v P rests leads owes clear unasked = pick v e.coordinator _ _ P
     (λ other. cond_both (e.asked v) _ _ P (λ was. cond_both (owing e v) _ _ P (owes other was) (clear other was)) (unasked other))
 
 end-coordinator : (id : ℕ) (e : Ending) (v : ℕ) → v ≡ e.coordinator → duty_at_end id e v ≡ cond e.swept Visits (Leads id e)
-end-coordinator id e v same = ap (λ b. cond b (cond e.swept Visits (Leads id e)) (cond (e.asked v) (cond (owing e v) (Owes id) Visits) (Unasked id))) (eq-eqb v e.coordinator same)
+end-coordinator id e v same = ap (λ b. cond b (cond e.swept Visits (Leads id e)) (cond (e.asked v) (cond (owing e v) (Owes id) Visits) (Unasked id)))
+    (eq-eqb v e.coordinator same)
 
 end-other : (id : ℕ) (e : Ending) (v : ℕ) → v ≢ e.coordinator → duty_at_end id e v ≡ cond (e.asked v) (cond (owing e v) (Owes id) Visits) (Unasked id)
-end-other id e v other = ap (λ b. cond b (cond e.swept Visits (Leads id e)) (cond (e.asked v) (cond (owing e v) (Owes id) Visits) (Unasked id))) (ne_eqb v e.coordinator other)
+end-other id e v other = ap (λ b. cond b (cond e.swept Visits (Leads id e)) (cond (e.asked v) (cond (owing e v) (Owes id) Visits) (Unasked id)))
+    (ne_eqb v e.coordinator other)
 
 pub end-rests : (id : ℕ) (e : Ending) (v : ℕ) → v ≡ e.coordinator → e.swept ≡ true → duty_at_end id e v ≡ Visits
 end-rests id e v same h = end-coordinator id e v same ∙ ap (λ b. cond b Visits (Leads id e)) h
@@ -39,10 +41,12 @@ pub end-leads : (id : ℕ) (e : Ending) (v : ℕ) → v ≡ e.coordinator → e.
 end-leads id e v same h = end-coordinator id e v same ∙ ap (λ b. cond b Visits (Leads id e)) h
 
 pub end-owes : (id : ℕ) (e : Ending) (v : ℕ) → v ≢ e.coordinator → e.asked v ≡ true → owing e v ≡ true → duty_at_end id e v ≡ Owes id
-end-owes id e v other was h = end-other id e v other ∙ ap (λ b. cond b (cond (owing e v) (Owes id) Visits) (Unasked id)) was ∙ ap (λ b. cond b (Owes id) Visits) h
+end-owes id e v other was h = end-other id e v other ∙ ap (λ b. cond b (cond (owing e v) (Owes id) Visits) (Unasked id)) was ∙ ap
+    (λ b. cond b (Owes id) Visits) h
 
 pub end-clear : (id : ℕ) (e : Ending) (v : ℕ) → v ≢ e.coordinator → e.asked v ≡ true → owing e v ≡ false → duty_at_end id e v ≡ Visits
-end-clear id e v other was h = end-other id e v other ∙ ap (λ b. cond b (cond (owing e v) (Owes id) Visits) (Unasked id)) was ∙ ap (λ b. cond b (Owes id) Visits) h
+end-clear id e v other was h = end-other id e v other ∙ ap (λ b. cond b (cond (owing e v) (Owes id) Visits) (Unasked id)) was ∙ ap
+    (λ b. cond b (Owes id) Visits) h
 
 pub end-unasked : (id : ℕ) (e : Ending) (v : ℕ) → v ≢ e.coordinator → e.asked v ≡ false → duty_at_end id e v ≡ Unasked id
 end-unasked id e v other was = end-other id e v other ∙ ap (λ b. cond b (cond (owing e v) (Owes id) Visits) (Unasked id)) was
@@ -68,7 +72,8 @@ owes-duty d (Finishing id w k) v chain h = absurd (cc)
 
 -- and none that does not owe has it
 pub not-owes : (x : SlotState) (v id : ℕ) → owes x v ≡ false → duty_of x v ≢ Owes id
-not-owes (Shut t e) v id h = end-cases t.id e v (λ D. D ≢ Owes id) (λ a b c. absurd (cc)) (λ a b c. absurd (cc)) (λ a b c k. true≢false (sym c ∙ h)) (λ a b c k. absurd (cc)) (λ a b k. absurd (cc))
+not-owes (Shut t e) v id h = end-cases t.id e v (λ D. D ≢ Owes id) (λ a b c. absurd (cc)) (λ a b c. absurd (cc)) (λ a b c k. true≢false (sym c ∙ h))
+    (λ a b c k. absurd (cc)) (λ a b k. absurd (cc))
 not-owes Empty v id h = λ k. absurd (cc)
 not-owes (Reserved w k) v id h = pick v w (Holds k) Visits (λ D. D ≢ Owes id) (λ e c. absurd (cc)) (λ n c. absurd (cc))
 not-owes (Open t) v id h = λ k. absurd (cc)
@@ -108,8 +113,10 @@ holding-holds d s h (Owes jd) k = let r = k.1 in absurd (cc)
 holding-holds d s h (Leads jd e) k = absurd k.2
 
 -- the slot that gives a duty
-pub leads-slot : (x : SlotState) (v id : ℕ) (e : Ending) → duty_of x v ≡ Leads id e → (t : TaskSet) × (x ≡ Shut t e) × (t.id ≡ id) × (v ≡ e.coordinator) × (e.swept ≡ false)
-leads-slot (Shut t g) v id e = end-cases t.id g v (λ D. D ≡ Leads id e → (u : TaskSet) × (Shut t g ≡ Shut u e) × (u.id ≡ id) × (v ≡ e.coordinator) × (e.swept ≡ false))
+pub leads-slot : (x : SlotState) (v id : ℕ) (e : Ending) → duty_of x v ≡ Leads id e → (t : TaskSet) × (x ≡ Shut t e) × (t.id ≡ id) × (v ≡ e.coordinator)
+    × (e.swept ≡ false)
+leads-slot (Shut t g) v id e = end-cases t.id g v (λ D. D ≡ Leads id e → (u : TaskSet) × (Shut t g ≡ Shut u e) × (u.id ≡ id) × (v ≡ e.coordinator)
+    × (e.swept ≡ false))
     (λ a b c. absurd (cc))
     (λ a b c. let r : g ≡ e = cc in (t, ap (Shut t) r, cc, a ∙ ap (λ z. z.coordinator) r, sym (ap (λ z. z.swept) r) ∙ b))
     (λ a b c k. absurd (cc)) (λ a b c k. absurd (cc)) (λ a b k. absurd (cc))
@@ -118,8 +125,10 @@ leads-slot (Reserved w h) v id e = λ k. absurd (pick v w (Holds h) Visits (λ D
 leads-slot (Open t) v id e = λ k. absurd (cc)
 leads-slot (Finishing jd w h) v id e = λ k. absurd (pick v w (Holds h) Visits (λ D. D ≢ Leads id e) (λ a c. absurd (cc)) (λ a c. absurd (cc)) k)
 
-pub owes-slot : (x : SlotState) (v id : ℕ) → duty_of x v ≡ Owes id → (t : TaskSet) × (e : Ending) × (x ≡ Shut t e) × (t.id ≡ id) × (v ≢ e.coordinator) × (e.asked v ≡ true) × (owing e v ≡ true)
-owes-slot (Shut t e) v id = end-cases t.id e v (λ D. D ≡ Owes id → (u : TaskSet) × (g : Ending) × (Shut t e ≡ Shut u g) × (u.id ≡ id) × (v ≢ g.coordinator) × (g.asked v ≡ true) × (owing g v ≡ true))
+pub owes-slot : (x : SlotState) (v id : ℕ) → duty_of x v ≡ Owes id → (t : TaskSet) × (e : Ending) × (x ≡ Shut t e) × (t.id ≡ id) × (v ≢ e.coordinator)
+    × (e.asked v ≡ true) × (owing e v ≡ true)
+owes-slot (Shut t e) v id = end-cases t.id e v (λ D. D ≡ Owes id → (u : TaskSet) × (g : Ending) × (Shut t e ≡ Shut u g) × (u.id ≡ id) × (v ≢ g.coordinator)
+    × (g.asked v ≡ true) × (owing g v ≡ true))
     (λ a b c. absurd (cc)) (λ a b c. absurd (cc))
     (λ a b c k. (t, e, refl, cc, a, b, c))
     (λ a b c k. absurd (cc)) (λ a b k. absurd (cc))

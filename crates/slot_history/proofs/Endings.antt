@@ -49,14 +49,17 @@ chain-opened d (Reserved u h) id c = tt
 chain-opened d (Finishing jd u h) id c = tt
 chain-opened d _ id c = c
 
-chain-paid : (d : Shape) (x : SlotState) (w id : ℕ) → IsChainOf d x → duty_of x w ≡ Owes id → (is_swept x ≡ false) ⊎ (0 < debts d (ended d w PayDone x)) → IsChainOf d (ended d w PayDone x)
+chain-paid : (d : Shape) (x : SlotState) (w id : ℕ) → IsChainOf d x → duty_of x w ≡ Owes id → (is_swept x ≡ false) ⊎ (0 < debts d (ended d w PayDone x))
+    → IsChainOf d (ended d w PayDone x)
 chain-paid d x w id chain owe left_over =
     let r = owes-slot x w id owe in let t : TaskSet = r.0 in let e : Ending = r.1 in
     let c : IsChain d e = subst (IsChainOf d) r.2 chain in
-    let more : (e.swept ≡ false) ⊎ (0 < debts d (ended d w PayDone (Shut t e))) = subst (λ y. (is_swept y ≡ false) ⊎ (0 < debts d (ended d w PayDone y))) r.2 left_over in
+    let more : (e.swept ≡ false) ⊎ (0 < debts d (ended d w PayDone (Shut t e))) = subst
+    (λ y. (is_swept y ≡ false) ⊎ (0 < debts d (ended d w PayDone y))) r.2 left_over in
     subst (λ y. IsChainOf d (ended d w PayDone y)) (sym r.2) (record {
       coordinator = c.coordinator;
-      paid = λ v. upd-cases e.paid w true v (λ b. b ≡ true → e.marked v ≡ true) (λ j h. ap e.marked j ∙ (and_parts (e.marked w) (not (e.paid w)) r.6).0) (λ j h. c.paid v h);
+      paid = λ v. upd-cases e.paid w true v (λ b. b ≡ true → e.marked v ≡ true) (λ j h. ap e.marked j ∙ (and_parts (e.marked w) (not (e.paid w)) r.6).0)
+          (λ j h. c.paid v h);
       marked = c.marked;
       asked = c.asked;
       all_asked = c.all_asked;
@@ -64,7 +67,8 @@ chain-paid d x w id chain owe left_over =
     })
 
 -- one more asked worker u, which is marked or not
-chain-asked : (d : Shape) (x : SlotState) (w s id n m : ℕ) → IsChainOf d x → Meets d s (duty_of x w) (Asking s id n m) → n + 1 < d.workers → IsChainOf d (ended d w MarkMissed x) × IsChainOf d (ended d w MarkMarked x)
+chain-asked : (d : Shape) (x : SlotState) (w s id n m : ℕ) → IsChainOf d x → Meets d s (duty_of x w) (Asking s id n m) → n + 1 < d.workers
+    → IsChainOf d (ended d w MarkMissed x) × IsChainOf d (ended d w MarkMarked x)
 chain-asked d x w s id n m chain meets more =
     let r = asking-leads d s id n m (duty_of x w) meets in let e : Ending = r.0 in
     let is = leads-slot x w id e r.1 in let t : TaskSet = is.0 in
@@ -72,7 +76,8 @@ chain-asked d x w s id n m chain meets more =
     let u : ℕ = next_asked d e in
     let other : u ≢ e.coordinator = λ j. nth-other-differs e.coordinator n (sym (next-is d e n m r.2 c.coordinator more) ∙ j) in
     let grows : (v : ℕ) → e.asked v ≡ true → upd e.asked u true v ≡ true = λ v h. upd-cases e.asked u true v (λ b. b ≡ true) (λ j. refl) (λ j. h) in
-    let within : (v : ℕ) → upd e.asked u true v ≡ true → v ≢ e.coordinator = λ v. upd-cases e.asked u true v (λ b. b ≡ true → v ≢ e.coordinator) (λ j h k. other (sym j ∙ k)) (λ j h. c.asked v h) in (
+    let within : (v : ℕ) → upd e.asked u true v ≡ true → v ≢ e.coordinator = λ v. upd-cases e.asked u true v (λ b. b ≡ true → v ≢ e.coordinator)
+    (λ j h k. other (sym j ∙ k)) (λ j h. c.asked v h) in (
       subst (λ y. IsChainOf d (ended d w MarkMissed y)) (sym is.1) (record {
         coordinator = c.coordinator;
         paid = c.paid;
@@ -84,14 +89,16 @@ chain-asked d x w s id n m chain meets more =
       subst (λ y. IsChainOf d (ended d w MarkMarked y)) (sym is.1) (record {
         coordinator = c.coordinator;
         paid = λ v h. upd-cases e.marked u true v (λ b. b ≡ true) (λ j. refl) (λ j. c.paid v h);
-        marked = λ v. upd-cases e.marked u true v (λ b. b ≡ true → upd e.asked u true v ≡ true) (λ j h. ap (upd e.asked u true) j ∙ upd-same e.asked u true) (λ j h. grows v (c.marked v h));
+        marked = λ v. upd-cases e.marked u true v (λ b. b ≡ true → upd e.asked u true v ≡ true) (λ j h. ap (upd e.asked u true) j ∙ upd-same e.asked u true)
+            (λ j h. grows v (c.marked v h));
         asked = within;
         all_asked = λ h. absurd (true≢false (sym h ∙ is.4));
         one_owes = λ h. absurd (true≢false (sym h ∙ is.4));
       }),
     )
 
-chain-swept : (d : Shape) (x : SlotState) (w s id n m k : ℕ) → IsChainOf d x → Meets d s (duty_of x w) (Asking s id n m) → n + 1 ≡ d.workers → 0 < k → k ≡ debts d x → IsChainOf d (ended d w (SweepOthers k) x)
+chain-swept : (d : Shape) (x : SlotState) (w s id n m k : ℕ) → IsChainOf d x → Meets d s (duty_of x w) (Asking s id n m) → n + 1 ≡ d.workers → 0 < k
+    → k ≡ debts d x → IsChainOf d (ended d w (SweepOthers k) x)
 chain-swept d x w s id n m k chain meets full some_left is_left =
     let r = asking-leads d s id n m (duty_of x w) meets in let e : Ending = r.0 in
     let is = leads-slot x w id e r.1 in let t : TaskSet = is.0 in
@@ -115,7 +122,8 @@ chains d S w PayDone low ok = subst (Chains d S w PayDone) (sym ok.2) (λ c m. c
 chains d S w MarkMarked low ok = subst (Chains d S w MarkMarked) (sym ok.4) (λ c m. (chain-asked d (S.slots ok.0) w ok.0 ok.1 ok.2 ok.3 c m ok.5).1)
 chains d S w MarkMissed low ok = subst (Chains d S w MarkMissed) (sym ok.4) (λ c m. (chain-asked d (S.slots ok.0) w ok.0 ok.1 ok.2 ok.3 c m ok.5).0)
 chains d S w SweepLast low ok = λ c m. chain-last d _ w low c
-chains d S w (SweepOthers n) low ok = subst (Chains d S w (SweepOthers n)) (sym ok.4) (λ c m. chain-swept d (S.slots ok.0) w ok.0 ok.1 ok.2 ok.3 n c m ok.5 ok.6 ok.7)
+chains d S w (SweepOthers n) low ok = subst (Chains d S w (SweepOthers n)) (sym ok.4)
+    (λ c m. chain-swept d (S.slots ok.0) w ok.0 ok.1 ok.2 ok.3 n c m ok.5 ok.6 ok.7)
 chains d S w (ReserveGot s) low ok = λ c m. low
 chains d S w (AdmitGot q) low ok = λ c m. chain-held d _ (AdmitGot q) c
 chains d S w (Note k) low ok = λ c m. chain-held d _ (Note k) c

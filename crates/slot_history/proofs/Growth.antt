@@ -11,7 +11,8 @@ use Rattle.slot_history.specs.Lives.{has_task}
 -- ---- slots that are open or shut
 
 -- what holds of open slots and of shut ones
-pub open-shut-cases : (x : SlotState) (P : SlotState → Type 0) → ((t : TaskSet) → P (Open t)) → ((t : TaskSet) (e : Ending) → P (Shut t e)) → (is_open x ≡ true) ⊎ (is_shut x ≡ true) → P x
+pub open-shut-cases : (x : SlotState) (P : SlotState → Type 0) → ((t : TaskSet) → P (Open t)) → ((t : TaskSet) (e : Ending) → P (Shut t e))
+    → (is_open x ≡ true) ⊎ (is_shut x ≡ true) → P x
 open-shut-cases (Open t) P opens shuts h = opens t
 open-shut-cases (Shut t e) P opens shuts h = shuts t e
 open-shut-cases Empty P opens shuts h = absurd (⊎_elim (λ k. true≢false (sym k)) (λ k. true≢false (sym k)) h)

@@ -41,6 +41,7 @@ holder-tiles d w s k h legal low at again =
 
 pub holder-has-claims : HolderHasClaims
 holder-has-claims d w s k h early legal begins low at again same =
-    let then : IsTiled d early (finalised_id k) = holder-tiles d w s k early (begins-legal d h early legal begins) low (sym (found-place d w early h same) ∙ at) again in
+    let then : IsTiled d early (finalised_id k) = holder-tiles d w s k early (begins-legal d h early legal begins) low (sym (found-place d w early h same)
+    ∙ at) again in
     let stays : KeepsTaskSets d h early = task-sets-stay d h early legal begins in
     (sym (stays.claims (finalised_id k) then.0), λ v. sym (stays.ranges v (finalised_id k) then.0))

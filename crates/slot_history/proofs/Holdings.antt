@@ -19,7 +19,8 @@ use Rattle.slot_history.proofs.Table.{table}
 
 -- the slot of a holder has what its place has
 pub holder-slot : (d : Shape) (S : ObjectState) → IsTable d S → (w s : ℕ) (h : Held) → w < d.workers → S.places w ≡ Holding s h → IsHeldBy w h (S.slots s)
-holder-slot d S tab w s h low at = holds-slot (S.slots s) w h (holding-holds d s h (duty_of (S.slots s) w) (subst (Meets d s (duty_of (S.slots s) w)) at (tab.duty s w low)))
+holder-slot d S tab w s h low at = holds-slot (S.slots s) w h
+    (holding-holds d s h (duty_of (S.slots s) w) (subst (Meets d s (duty_of (S.slots s) w)) at (tab.duty s w low)))
 
 -- and whoever holds a slot, by its state, is a worker that is there
 pub holder-place : (d : Shape) (S : ObjectState) → IsTable d S → (s u : ℕ) (h : Held) → IsHeldBy u h (S.slots s) → S.places u ≡ Holding s h
@@ -51,7 +52,8 @@ sound-last _ w h = h
 -- a holder that admits, notes or sets a total
 sound-admitted : (x : SlotState) (w q : ℕ) (h : Held) → h.query ≡ None → IsHeldBy w h x → IsSlotSound x → IsSlotSound (held_on (AdmitGot q) x)
 sound-admitted x w q h none how ok = ⊎_elim
-    (λ e. let k : IsReservation h = subst IsSlotSound e ok in subst (λ y. IsSlotSound (held_on (AdmitGot q) y)) (sym e) (record { again = k.again; stage = k.stage; noted = k.noted; total = k.total }))
+    (λ e. let k : IsReservation h = subst IsSlotSound e ok in subst
+    (λ y. IsSlotSound (held_on (AdmitGot q) y)) (sym e) (record { again = k.again; stage = k.stage; noted = k.noted; total = k.total }))
     (λ r. let k : IsFinalisation r.0 h = subst IsSlotSound r.1 ok in absurd (let f : None ≡ Some (r.0 / STAGES) = sym none ∙ k.query in cc)) how
 
 sound-noted : (x : SlotState) (n : ℕ) → n ≤ STAGES → IsSlotSound x → IsSlotSound (held_on (Note n) x)
@@ -69,7 +71,8 @@ sound-opened (Reserved w h) id k = k.total
 sound-opened (Finishing jd w h) id k = k.total
 sound-opened _ id k = k
 
-sound-after : (d : Shape) (S : ObjectState) (w : ℕ) (a : Act) → w < d.workers → IsTable d S → IsAllowed d S w a → IsSlotSound (S.slots (site a (S.places w))) → IsSlotSound (slot_after d w a (S.slots (site a (S.places w))))
+sound-after : (d : Shape) (S : ObjectState) (w : ℕ) (a : Act) → w < d.workers → IsTable d S → IsAllowed d S w a → IsSlotSound (S.slots (site a (S.places w)))
+    → IsSlotSound (slot_after d w a (S.slots (site a (S.places w))))
 sound-after d S w (ClaimRange n from to) low tab ok = sound-claimed (S.slots (slot_of (S.places w))) n
 sound-after d S w (ClaimUsed n) low tab ok = sound-claimed (S.slots (slot_of (S.places w))) n
 sound-after d S w ShutWon low tab ok = sound-shut (S.slots (slot_of (S.places w))) w
@@ -81,14 +84,16 @@ sound-after d S w SweepLast low tab ok = sound-last (S.slots (slot_of (S.places 
 sound-after d S w (SweepOthers n) low tab ok = sound-ended d w (SweepOthers n) (S.slots (slot_of (S.places w)))
 sound-after d S w (ReserveGot s) low tab ok = λ k. record { again = refl; stage = refl; noted = omega arith; total = omega arith }
 sound-after d S w (AdmitGot q) low tab ok = let at : ok.0 ≡ slot_of (S.places w) = sym (ap slot_of ok.2) in
-    subst (λ j. IsSlotSound (S.slots j) → IsSlotSound (held_on (AdmitGot q) (S.slots j))) at (sound-admitted (S.slots ok.0) w q ok.1 ok.3 (holder-slot d S tab w ok.0 ok.1 low ok.2))
+    subst (λ j. IsSlotSound (S.slots j) → IsSlotSound (held_on (AdmitGot q) (S.slots j))) at
+    (sound-admitted (S.slots ok.0) w q ok.1 ok.3 (holder-slot d S tab w ok.0 ok.1 low ok.2))
 sound-after d S w (Note n) low tab ok = sound-noted (S.slots (slot_of (S.places w))) n (let k : ok.1.stage + n ≤ STAGES = ok.6 in omega arith)
 sound-after d S w (Total t) low tab ok = sound-total (S.slots (slot_of (S.places w))) t ok.4
 sound-after d S w (Install id) low tab ok = sound-opened (S.slots (slot_of (S.places w))) id
 sound-after d S w Release low tab ok = λ k. tt
 sound-after d S w _ low tab ok = λ k. k
 
-pub sound-next : (d : Shape) (S : ObjectState) (w : ℕ) (a : Act) → w < d.workers → IsTable d S → AreSlotsSound d S → IsAllowed d S w a → AreSlotsSound d (next d S w a)
+pub sound-next : (d : Shape) (S : ObjectState) (w : ℕ) (a : Act) → w < d.workers → IsTable d S → AreSlotsSound d S → IsAllowed d S w a
+    → AreSlotsSound d (next d S w a)
 sound-next d S w a low tab ok fine s = let k : ℕ = site a (S.places w) in
     upd-cases S.slots k (slot_after d w a (S.slots k)) s IsSlotSound (λ e. sound-after d S w a low tab fine (ok k)) (λ n. ok s)
 

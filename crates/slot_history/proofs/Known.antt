@@ -29,7 +29,8 @@ abbrev NoneAnnounces : ObjectState → Type 0
 NoneAnnounces S = (u s k : ℕ) (again : Bool) → S.places u ≢ Announcing s again k
 
 -- beside a lone worker that does not announce nobody does
-none-announces : (d : Shape) (S : ObjectState) (w : ℕ) → IsWithin d S → IsLone d S w → ((s k : ℕ) (again : Bool) → S.places w ≢ Announcing s again k) → NoneAnnounces S
+none-announces : (d : Shape) (S : ObjectState) (w : ℕ) → IsWithin d S → IsLone d S w → ((s k : ℕ) (again : Bool) → S.places w ≢ Announcing s again k)
+    → NoneAnnounces S
 none-announces d S w within lone mine u s k again at = dite (ℕ_discrete u w)
     (λ e. mine s k again (ap S.places (sym e) ∙ at))
     (λ n. let free : S.places u ≡ Free = others-free d S w u within lone n in absurd (cc))
@@ -66,7 +67,8 @@ look-is-known d w id h legal lone clear =
 pub quiet-is-known : (d : Shape) (h : List Entry) → IsLegal d h → QuietIsKnown d (state_after d h)
 quiet-is-known d h legal quiet s v low o =
     let S : ObjectState = state_after d h in
-    let none : NoneAnnounces S = λ u t k again at. let free : S.places u ≡ Free = ⊎_elim (λ u_low. quiet u u_low) (λ high. (within d h legal).others u high) (cases_lt u d.workers) in absurd (cc) in
+    let none : NoneAnnounces S = λ u t k again at. let free : S.places u ≡ Free = ⊎_elim (λ u_low. quiet u u_low)
+    (λ high. (within d h legal).others u high) (cases_lt u d.workers) in absurd (cc) in
     known S s v none ((noticed d h legal s v low).open_slot o)
 
 -- ---- notices that were taken
@@ -80,12 +82,14 @@ taken-gone pending s = ap (λ b. cond b false (pending s)) (eq-eqb (s / 64) (s /
 
 change-clear : (a : Act) (w : ℕ) (p : Place) (f : ℕ → ℕ → Bool) (v s : ℕ) → a ≢ Tell → f v s ≡ false → changes_after w a p f v s ≡ false
 change-clear Tell w p f v s n h = absurd (n refl)
-change-clear (TakeChange part bits) w p f v s n h = upd-cases f w (taken part (f w)) v (λ g. g s ≡ false) (λ e. taken-clear part (f w) s (ap (λ j. f j s) (sym e) ∙ h)) (λ k. h)
+change-clear (TakeChange part bits) w p f v s n h = upd-cases f w (taken part (f w)) v (λ g. g s ≡ false)
+    (λ e. taken-clear part (f w) s (ap (λ j. f j s) (sym e) ∙ h)) (λ k. h)
 change-clear _ w p f v s n h = h
 
 return-clear : (a : Act) (w : ℕ) (p : Place) (f : ℕ → ℕ → Bool) (v s : ℕ) → a ≢ Tell → f v s ≡ false → returns_after w a p f v s ≡ false
 return-clear Tell w p f v s n h = absurd (n refl)
-return-clear (TakeReturn part bits) w p f v s n h = upd-cases f w (taken part (f w)) v (λ g. g s ≡ false) (λ e. taken-clear part (f w) s (ap (λ j. f j s) (sym e) ∙ h)) (λ k. h)
+return-clear (TakeReturn part bits) w p f v s n h = upd-cases f w (taken part (f w)) v (λ g. g s ≡ false)
+    (λ e. taken-clear part (f w) s (ap (λ j. f j s) (sym e) ∙ h)) (λ k. h)
 return-clear _ w p f v s n h = h
 
 pub changes-taken : ChangesStayTaken

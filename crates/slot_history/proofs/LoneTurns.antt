@@ -30,7 +30,8 @@ use Rattle.slot_history.proofs.Holdings.{holder-place}
 -- a free worker owes nothing
 free-none : (d : Shape) (S : ObjectState) (s v : ℕ) → IsTable d S → v < d.workers → S.places v ≡ Free → owes (S.slots s) v ≡ true → ⊥
 free-none d S s v ok low free owe =
-    let m : Meets d s (Owes (id_of (S.slots s))) Free = subst (λ D. Meets d s D Free) (owes-duty d (S.slots s) v (ok.chain s) owe) (subst (Meets d s (duty_of (S.slots s) v)) free (ok.duty s v low)) in
+    let m : Meets d s (Owes (id_of (S.slots s))) Free = subst
+    (λ D. Meets d s D Free) (owes-duty d (S.slots s) v (ok.chain s) owe) (subst (Meets d s (duty_of (S.slots s) v)) free (ok.duty s v low)) in
     true≢false (sym m.1)
 
 -- nor does anybody while one worker is alone
@@ -74,13 +75,15 @@ lone-finishing d S w s id u h ok lone is =
     dite (ℕ_discrete u w) (λ e. ap S.places (sym e) ∙ at) (λ n. let free : S.places u ≡ Free = lone.others u low n in absurd (cc))
 
 -- so a lone worker that has entered sees no task set that is shut or finalised
-lone-look : (d : Shape) (S : ObjectState) (w s : ℕ) (x : SlotState) → IsTable d S → IsLone d S w → S.places w ≡ Entered s → S.slots s ≡ x → is_tagged x ≡ true → ⊥
+lone-look : (d : Shape) (S : ObjectState) (w s : ℕ) (x : SlotState) → IsTable d S → IsLone d S w → S.places w ≡ Entered s → S.slots s ≡ x → is_tagged x ≡ true
+    → ⊥
 lone-look d S w s (Shut t e) ok lone at is tagged = true≢false (sym (lone-ending d S w s t e ok lone is) ∙ ap leads at)
 lone-look d S w s (Finishing id u h) ok lone at is tagged = let holds : S.places w ≡ Holding s h = lone-finishing d S w s id u h ok lone is in absurd (cc)
 lone-look d S w s _ ok lone at is tagged = absurd (cc)
 
 -- a lone worker comes to shut no task set that is shut
-lone-shut : (d : Shape) (S : ObjectState) (w s id : ℕ) (x : SlotState) → IsTable d S → IsLone d S w → S.places w ≡ Used s id → S.slots s ≡ x → is_shut x ≡ true → ⊥
+lone-shut : (d : Shape) (S : ObjectState) (w s id : ℕ) (x : SlotState) → IsTable d S → IsLone d S w → S.places w ≡ Used s id → S.slots s ≡ x → is_shut x ≡ true
+    → ⊥
 lone-shut d S w s id (Shut t e) ok lone at is shut = true≢false (sym (lone-ending d S w s t e ok lone is) ∙ ap leads at)
 lone-shut d S w s id _ ok lone at is shut = absurd (cc)
 
@@ -105,13 +108,15 @@ lone-asked : (d : Shape) (S : ObjectState) (w s : ℕ) (x : SlotState) → IsWit
 lone-asked d S w s (Shut t e) within lone there = lone-at d S w s (next_asked d e) within lone there
 lone-asked d S w s x within lone there = absurd (true≢false (sym there))
 
-lone-answer : (d : Shape) (S : ObjectState) (w : ℕ) (a : Act) → IsTable d S → IsWithin d S → w < d.workers → IsLone d S w → IsAllowed d S w a → needs_another a ≡ false
+lone-answer : (d : Shape) (S : ObjectState) (w : ℕ) (a : Act) → IsTable d S → IsWithin d S → w < d.workers → IsLone d S w → IsAllowed d S w a
+    → needs_another a ≡ false
 lone-answer d S w LookInvalid ok within low lone fine = absurd (lone-look d S w fine.0 _ ok lone fine.1 refl fine.2)
 lone-answer d S w ShutLost ok within low lone fine = absurd (lone-shut d S w fine.0 fine.1 _ ok lone fine.2 refl fine.3)
 lone-answer d S w (LeaveOwe id) ok within low lone fine = absurd (true≢false (sym fine.1 ∙ lone.unmarked (slot_of (S.places w))))
 lone-answer d S w PayLast ok within low lone fine = absurd (lone-owing d S w fine.0 fine.1 ok low lone fine.2)
 lone-answer d S w PayDone ok within low lone fine = absurd (lone-owing d S w fine.0 fine.1 ok low lone fine.2)
-lone-answer d S w MarkMarked ok within low lone fine = absurd (true≢false (sym (lone-asked d S w fine.0 _ within lone fine.6) ∙ ap (λ p. is_at p fine.0) fine.4))
+lone-answer d S w MarkMarked ok within low lone fine = absurd
+    (true≢false (sym (lone-asked d S w fine.0 _ within lone fine.6) ∙ ap (λ p. is_at p fine.0) fine.4))
 lone-answer d S w (SweepOthers n) ok within low lone fine =
     let some : 0 < debts d (S.slots fine.0) = subst (λ k. 0 < k) fine.7 fine.6 in
     let r = some-counted d.workers (owes (S.slots fine.0)) some in absurd (lone-none d S w fine.0 r.0 ok lone r.1 r.2)
@@ -187,8 +192,11 @@ stays-lone d w (e ∷ es) old low legal quiet own =
 
 pub run-meets-nobody : RunMeetsNobody
 run-meets-nobody d w [] old low legal quiet own = tt
-run-meets-nobody d w (e ∷ es) old low legal quiet own =
-    (meets-nobody d w e.act (es ++ old) (by-worker d w e (es ++ old) own.0 legal) (stays-lone d w es old low legal.2 quiet own.1), run-meets-nobody d w es old low legal.2 quiet own.1)
+run-meets-nobody d w (e ∷ es) old low legal quiet own = (
+  meets-nobody d w e.act (es ++ old) (by-worker d w e (es ++ old) own.0 legal)
+      (stays-lone d w es old low legal.2 quiet own.1),
+  run-meets-nobody d w es old low legal.2 quiet own.1,
+)
 
 pub ends-quiet : EndsQuiet
 ends-quiet d S w lone free v low = dite (ℕ_discrete v w) (λ e. ap S.places e ∙ free) (λ n. lone.others v low n)

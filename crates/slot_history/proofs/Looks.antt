@@ -57,8 +57,10 @@ one-slot-seen d w v s t id jd h early legal begins at at' same =
     let old : IsLegal d (entry v (LookOpen jd) ∷ early) = begins-legal d h (entry v (LookOpen jd) ∷ early) legal.2 begins in
     let now : task_in d s h ≡ Some id = look-serves d w s id h legal at in
     let then : task_in d t early ≡ Some jd = look-serves d v t jd early old at' in
-    let kept = query-keeps-slot d h legal.2 s id jd early now (begins-less h early (entry v (LookOpen jd)) begins) same (serving-installed d early t jd old.2 then) in
-    (book d early old.2).apart s t (id / STAGES) (serving-query d early s kept.0 old.2 kept.1 ∙ ap Some kept.2) (serving-query d early t jd old.2 then ∙ ap Some same)
+    let kept = query-keeps-slot d h legal.2 s id jd early now (begins-less h early (entry v (LookOpen jd)) begins) same
+    (serving-installed d early t jd old.2 then) in
+    (book d early old.2).apart s t (id / STAGES) (serving-query d early s kept.0 old.2 kept.1 ∙ ap Some kept.2) (serving-query d early t jd old.2 then
+    ∙ ap Some same)
 
 pub same-query-seen : SameQuerySeen
 same-query-seen d w u s id jd kd h mid legal begins at at' same was =
@@ -108,7 +110,8 @@ pub stage-before : (d : Shape) (h : List Entry) → IsLegal d h → StageBefore 
 stage-before d [] legal id s at later = absurd (cc)
 stage-before d (e ∷ es) legal id s at later = let p : Place = place_of d es e.worker in past-install d id s e es legal (⊎_elim
     (λ this.
-    let now : IsLegal d (entry e.worker (Install (id + 1)) ∷ es) = (legal.0, subst (IsAllowed d (state_after d es) e.worker) (install-is e.act (id + 1) this) legal.1, legal.2) in
+    let now : IsLegal d (entry e.worker (Install (id + 1)) ∷ es) =
+    (legal.0, subst (IsAllowed d (state_after d es) e.worker) (install-is e.act (id + 1) this) legal.1, legal.2) in
     let before = stages-in-order d e.worker id es now later in
     let here : slot_of p ≡ s = ap (λ o. unwrap_or o 0) (sym (ap (λ b. cond b (Some (slot_of p)) (slot_with d (id + 1) es)) this) ∙ at) in
     (before.0, before.1 ∙ ap Some here))

@@ -37,7 +37,8 @@ pub mask-is : (part : ℕ) (pending : ℕ → Bool) → IsMask part pending (mas
 mask-is part pending = record { small = mask-small 64 (λ k. pending (part * 64 + k)); each = λ k low. mask-bit 64 (λ j. pending (part * 64 + j)) k low }
 
 pub mask-only : (part : ℕ) (pending : ℕ → Bool) (bits : ℕ) → IsMask part pending bits → bits ≡ mask_of 64 (λ k. pending (part * 64 + k))
-mask-only part pending bits is = let m = mask-is part pending in same_from_bits_below 64 bits (mask_of 64 (λ k. pending (part * 64 + k))) is.small m.small (λ k low. is.each k low ∙ sym (m.each k low))
+mask-only part pending bits is = let m = mask-is part pending in same_from_bits_below 64 bits (mask_of 64 (λ k. pending (part * 64 + k))) is.small m.small
+    (λ k low. is.each k low ∙ sym (m.each k low))
 
 -- ---- a notice that comes
 
@@ -59,7 +60,8 @@ pub mask-comes : (f : ℕ → Bool) (n s : ℕ) → IsMask (s / 64) f n → IsMa
 mask-comes f n s was = record {
   small = or_lt 64 n (1 * 2 ^ (s % 64) % 2 ^ 64) was.small (omega arith);
   each = λ j low. set-bit n (s % 64) j (cond (f (s / 64 * 64 + j)) 1 0) (omega arith) (was.each j low) (ℕ_discrete j (s % 64))
-      ∙ cond-or (eqb j (s % 64)) (f (s / 64 * 64 + j)) ∙ ap (λ b. cond (cond b true (f (s / 64 * 64 + j))) 1 0) (sym (place-eqb s j low (ℕ_discrete j (s % 64))));
+      ∙ cond-or (eqb j (s % 64)) (f (s / 64 * 64 + j)) ∙ ap
+      (λ b. cond (cond b true (f (s / 64 * 64 + j))) 1 0) (sym (place-eqb s j low (ℕ_discrete j (s % 64))));
 }
 
 -- and the word of another part stays

@@ -53,10 +53,13 @@ room-noted : (x : SlotState) (w n : ℕ) (h : Held) → IsSome h.query → h.not
     → n + note_room (held_on (Note n) x) ≤ note_room x
 room-noted x w n h some_query fresh most how ok = ⊎_elim
     (λ e. subst (λ y. n + note_room (held_on (Note n) y) ≤ note_room y) (sym e)
-    (let a : cond {A = ℕ} (is_some h.query) (STAGES * (STAGES + 1) - n) 0 ≡ STAGES * (STAGES + 1) - n = ap (λ b. cond b (STAGES * (STAGES + 1) - n) 0) some_query in
-    let b : cond {A = ℕ} (is_some h.query) (STAGES * (STAGES + 1) - h.noted) 0 ≡ STAGES * (STAGES + 1) - h.noted = ap (λ b. cond b (STAGES * (STAGES + 1) - h.noted) 0) some_query in
+    (let a : cond {A = ℕ} (is_some h.query) (STAGES * (STAGES + 1) - n) 0 ≡ STAGES * (STAGES + 1) - n = ap
+    (λ b. cond b (STAGES * (STAGES + 1) - n) 0) some_query in
+    let b : cond {A = ℕ} (is_some h.query) (STAGES * (STAGES + 1) - h.noted) 0 ≡ STAGES * (STAGES + 1) - h.noted = ap
+    (λ b. cond b (STAGES * (STAGES + 1) - h.noted) 0) some_query in
     let z : h.noted ≡ 0 = fresh in
-    let r : n + cond {A = ℕ} (is_some h.query) (STAGES * (STAGES + 1) - n) 0 ≤ cond {A = ℕ} (is_some h.query) (STAGES * (STAGES + 1) - h.noted) 0 = omega arith in r))
+    let r : n + cond {A = ℕ} (is_some h.query) (STAGES * (STAGES + 1) - n) 0 ≤ cond {A = ℕ} (is_some h.query) (STAGES * (STAGES + 1) - h.noted) 0 =
+    omega arith in r))
     (λ r. subst (λ y. n + note_room (held_on (Note n) y) ≤ note_room y) (sym r.1)
     (let k : IsFinalisation r.0 h = subst IsSlotSound r.1 ok in
     let id : ℕ = r.0 in
@@ -68,7 +71,8 @@ room-opened : (x : SlotState) (w id : ℕ) (h : Held) → IsReady h → id ≡ n
 room-opened x w id h ready next_one how ok = ⊎_elim
     (λ e. subst (λ y. note_room (opened id y) ≤ note_room y) (sym e)
     (let k : IsReservation h = subst IsSlotSound e ok in
-    let b : cond {A = ℕ} (is_some h.query) (STAGES * (STAGES + 1) - h.noted) 0 ≡ STAGES * (STAGES + 1) - h.noted = ap (λ b. cond b (STAGES * (STAGES + 1) - h.noted) 0) ready.has_query in
+    let b : cond {A = ℕ} (is_some h.query) (STAGES * (STAGES + 1) - h.noted) 0 ≡ STAGES * (STAGES + 1) - h.noted = ap
+    (λ b. cond b (STAGES * (STAGES + 1) - h.noted) 0) ready.has_query in
     let m : h.noted ≤ STAGES = k.noted in
     let r : STAGES * (STAGES - id % STAGES) ≤ cond {A = ℕ} (is_some h.query) (STAGES * (STAGES + 1) - h.noted) 0 = omega arith in r))
     (λ r. subst (λ y. note_room (opened id y) ≤ note_room y) (sym r.1)
@@ -78,61 +82,83 @@ room-opened x w id h ready next_one how ok = ⊎_elim
     let one : h.noted ≡ 1 = m.0 in
     let last : h.stage + 1 < STAGES = m.1 in
     let s : h.stage ≡ jd % STAGES = k.stage in
-    let is : id ≡ STAGES * (jd / STAGES) + (h.stage + 1) = next_one ∙ ap₂ (λ q b. STAGES * q + b) (ap (λ o. unwrap_or o 0) k.query) (ap (λ b. cond b (h.stage + 1) 0) k.again) in
+    let is : id ≡ STAGES * (jd / STAGES) + (h.stage + 1) = next_one ∙ ap₂
+    (λ q b. STAGES * q + b) (ap (λ o. unwrap_or o 0) k.query) (ap (λ b. cond b (h.stage + 1) 0) k.again) in
     let i : STAGES * (STAGES - id % STAGES) ≤ STAGES * (STAGES - jd % STAGES) - h.noted = omega arith in i)) how
 
 -- what the slot of the call gains, the number of admitted queries pays for
 abbrev Pays : Shape → ObjectState → ℕ → Act → Type 0
 Pays d S w a = let x = S.slots (site a (S.places w)) in IsSlotSound x →
-    finished_after a S.finished + note_room (slot_after d w a x) + STAGES * (STAGES + 1) * S.admitted ≤ S.finished + note_room x + STAGES * (STAGES + 1) * admitted_after a S.admitted
+    finished_after a S.finished + note_room (slot_after d w a x) + STAGES * (STAGES + 1) * S.admitted ≤ S.finished + note_room x + STAGES *
+    (STAGES + 1) * admitted_after a S.admitted
 
 pays-same : (x y f m : ℕ) → y ≤ x → f + y + STAGES * (STAGES + 1) * m ≤ f + x + STAGES * (STAGES + 1) * m
 pays-same x y f m h = omega arith
 
 pays : (d : Shape) (S : ObjectState) (w : ℕ) (a : Act) → w < d.workers → IsTable d S → IsAllowed d S w a → Pays d S w a
-pays d S w (ClaimRange n from to) low tab ok = λ k. let x : SlotState = S.slots (slot_of (S.places w)) in let e : note_room (claimed x n) ≡ note_room x = room-claimed x n in pays-same (note_room x) (note_room (claimed x n)) S.finished S.admitted (omega arith)
-pays d S w (ClaimUsed n) low tab ok = λ k. let x : SlotState = S.slots (slot_of (S.places w)) in let e : note_room (claimed x n) ≡ note_room x = room-claimed x n in pays-same (note_room x) (note_room (claimed x n)) S.finished S.admitted (omega arith)
-pays d S w ShutWon low tab ok = λ k. let x : SlotState = S.slots (slot_of (S.places w)) in let e : note_room (shut_by w x) ≡ note_room x = room-shut x w in pays-same (note_room x) (note_room (shut_by w x)) S.finished S.admitted (omega arith)
-pays d S w PayLast low tab ok = λ k. let x : SlotState = S.slots (slot_of (S.places w)) in let e : note_room (finalised_by w x) ≡ note_room x = room-last x w in pays-same (note_room x) (note_room (finalised_by w x)) S.finished S.admitted (omega arith)
-pays d S w SweepLast low tab ok = λ k. let x : SlotState = S.slots (slot_of (S.places w)) in let e : note_room (finalised_by w x) ≡ note_room x = room-last x w in pays-same (note_room x) (note_room (finalised_by w x)) S.finished S.admitted (omega arith)
-pays d S w PayDone low tab ok = λ k. let x : SlotState = S.slots (slot_of (S.places w)) in let e : note_room (ended d w PayDone x) ≡ note_room x = room-ended d w PayDone x in pays-same (note_room x) (note_room (ended d w PayDone x)) S.finished S.admitted (omega arith)
-pays d S w MarkMarked low tab ok = λ k. let x : SlotState = S.slots (slot_of (S.places w)) in let e : note_room (ended d w MarkMarked x) ≡ note_room x = room-ended d w MarkMarked x in pays-same (note_room x) (note_room (ended d w MarkMarked x)) S.finished S.admitted (omega arith)
-pays d S w MarkMissed low tab ok = λ k. let x : SlotState = S.slots (slot_of (S.places w)) in let e : note_room (ended d w MarkMissed x) ≡ note_room x = room-ended d w MarkMissed x in pays-same (note_room x) (note_room (ended d w MarkMissed x)) S.finished S.admitted (omega arith)
-pays d S w (SweepOthers n) low tab ok = λ k. let x : SlotState = S.slots (slot_of (S.places w)) in let e : note_room (ended d w (SweepOthers n) x) ≡ note_room x = room-ended d w (SweepOthers n) x in pays-same (note_room x) (note_room (ended d w (SweepOthers n) x)) S.finished S.admitted (omega arith)
+pays d S w (ClaimRange n from to) low tab ok = λ k. let x : SlotState = S.slots (slot_of (S.places w)) in let e : note_room (claimed x n) ≡ note_room x =
+    room-claimed x n in pays-same (note_room x) (note_room (claimed x n)) S.finished S.admitted (omega arith)
+pays d S w (ClaimUsed n) low tab ok = λ k. let x : SlotState = S.slots (slot_of (S.places w)) in let e : note_room (claimed x n) ≡ note_room x =
+    room-claimed x n in pays-same (note_room x) (note_room (claimed x n)) S.finished S.admitted (omega arith)
+pays d S w ShutWon low tab ok = λ k. let x : SlotState = S.slots (slot_of (S.places w)) in let e : note_room (shut_by w x) ≡ note_room x = room-shut x w in
+    pays-same (note_room x) (note_room (shut_by w x)) S.finished S.admitted (omega arith)
+pays d S w PayLast low tab ok = λ k. let x : SlotState = S.slots (slot_of (S.places w)) in let e : note_room (finalised_by w x) ≡ note_room x =
+    room-last x w in pays-same (note_room x) (note_room (finalised_by w x)) S.finished S.admitted (omega arith)
+pays d S w SweepLast low tab ok = λ k. let x : SlotState = S.slots (slot_of (S.places w)) in let e : note_room (finalised_by w x) ≡ note_room x =
+    room-last x w in pays-same (note_room x) (note_room (finalised_by w x)) S.finished S.admitted (omega arith)
+pays d S w PayDone low tab ok = λ k. let x : SlotState = S.slots (slot_of (S.places w)) in let e : note_room (ended d w PayDone x) ≡ note_room x =
+    room-ended d w PayDone x in pays-same (note_room x) (note_room (ended d w PayDone x)) S.finished S.admitted (omega arith)
+pays d S w MarkMarked low tab ok = λ k. let x : SlotState = S.slots (slot_of (S.places w)) in let e : note_room (ended d w MarkMarked x) ≡ note_room x =
+    room-ended d w MarkMarked x in pays-same (note_room x) (note_room (ended d w MarkMarked x)) S.finished S.admitted (omega arith)
+pays d S w MarkMissed low tab ok = λ k. let x : SlotState = S.slots (slot_of (S.places w)) in let e : note_room (ended d w MarkMissed x) ≡ note_room x =
+    room-ended d w MarkMissed x in pays-same (note_room x) (note_room (ended d w MarkMissed x)) S.finished S.admitted (omega arith)
+pays d S w (SweepOthers n) low tab ok = λ k. let x : SlotState = S.slots (slot_of (S.places w)) in
+    let e : note_room (ended d w (SweepOthers n) x) ≡ note_room x = room-ended d w (SweepOthers n) x in
+    pays-same (note_room x) (note_room (ended d w (SweepOthers n) x)) S.finished S.admitted (omega arith)
 pays d S w (ReserveGot s) low tab ok = λ k. pays-same (note_room (S.slots s)) 0 S.finished S.admitted (omega arith)
 pays d S w (AdmitGot q) low tab ok = λ k. let x : SlotState = S.slots (slot_of (S.places w)) in let y : ℕ = note_room (held_on (AdmitGot q) x) in
     let f : ℕ = S.finished in let m : ℕ = S.admitted in let z : ℕ = note_room x in
-    let e : y ≤ z + STAGES * (STAGES + 1) = room-admitted x q in let r : f + y + STAGES * (STAGES + 1) * m ≤ f + z + STAGES * (STAGES + 1) * (m + 1) = omega arith in r
+    let e : y ≤ z + STAGES * (STAGES + 1) = room-admitted x q in let r : f + y + STAGES * (STAGES + 1) * m ≤ f + z + STAGES * (STAGES + 1) * (m + 1) =
+    omega arith in r
 pays d S w (Note n) low tab ok = let at : ok.0 ≡ slot_of (S.places w) = sym (ap slot_of ok.2) in
-    subst (λ j. IsSlotSound (S.slots j) → S.finished + n + note_room (held_on (Note n) (S.slots j)) + STAGES * (STAGES + 1) * S.admitted ≤ S.finished + note_room (S.slots j) + STAGES * (STAGES + 1) * S.admitted) at
+    subst (λ j. IsSlotSound (S.slots j) → S.finished + n + note_room (held_on (Note n) (S.slots j)) + STAGES *
+    (STAGES + 1) * S.admitted ≤ S.finished + note_room (S.slots j) + STAGES * (STAGES + 1) * S.admitted) at
     (λ k. let y : ℕ = note_room (held_on (Note n) (S.slots ok.0)) in let z : ℕ = note_room (S.slots ok.0) in let f : ℕ = S.finished in let m : ℕ = S.admitted in
     let e : n + y ≤ z = room-noted (S.slots ok.0) w n ok.1 ok.3 ok.4 ok.6 (holder-slot d S tab w ok.0 ok.1 low ok.2) k in
     let r : f + n + y + STAGES * (STAGES + 1) * m ≤ f + z + STAGES * (STAGES + 1) * m = omega arith in r)
-pays d S w (Total t) low tab ok = λ k. let x : SlotState = S.slots (slot_of (S.places w)) in let e : note_room (held_on (Total t) x) ≡ note_room x = room-total x t in pays-same (note_room x) (note_room (held_on (Total t) x)) S.finished S.admitted (omega arith)
+pays d S w (Total t) low tab ok = λ k. let x : SlotState = S.slots (slot_of (S.places w)) in let e : note_room (held_on (Total t) x) ≡ note_room x =
+    room-total x t in pays-same (note_room x) (note_room (held_on (Total t) x)) S.finished S.admitted (omega arith)
 pays d S w (Install id) low tab ok = let at : ok.0 ≡ slot_of (S.places w) = sym (ap slot_of ok.2) in
-    subst (λ j. IsSlotSound (S.slots j) → S.finished + note_room (opened id (S.slots j)) + STAGES * (STAGES + 1) * S.admitted ≤ S.finished + note_room (S.slots j) + STAGES * (STAGES + 1) * S.admitted) at
+    subst (λ j. IsSlotSound (S.slots j) → S.finished + note_room (opened id (S.slots j)) + STAGES * (STAGES + 1) * S.admitted ≤ S.finished + note_room
+    (S.slots j) + STAGES * (STAGES + 1) * S.admitted) at
     (λ k. pays-same (note_room (S.slots ok.0)) (note_room (opened id (S.slots ok.0))) S.finished S.admitted
     (room-opened (S.slots ok.0) w id ok.1 ok.3 ok.4 (holder-slot d S tab w ok.0 ok.1 low ok.2) k))
 pays d S w Release low tab ok = λ k. pays-same (note_room (S.slots (slot_of (S.places w)))) 0 S.finished S.admitted (omega arith)
-pays d S w a low tab ok = λ k. pays-same (note_room (S.slots (site a (S.places w)))) (note_room (S.slots (site a (S.places w)))) S.finished S.admitted (omega arith)
+pays d S w a low tab ok = λ k. pays-same (note_room (S.slots (site a (S.places w)))) (note_room (S.slots (site a (S.places w)))) S.finished S.admitted
+    (omega arith)
 
 room-empty : (x : SlotState) → is_empty x ≡ true → note_room x ≡ 0
 room-empty Empty h = refl
 room-empty _ h = absurd (cc)
 
-pub finished-next : (d : Shape) (S : ObjectState) (w : ℕ) (a : Act) → w < d.workers → IsTable d S → IsWithin d S → AreSlotsSound d S → IsFinishedBound d S → IsAllowed d S w a → IsFinishedBound d (next d S w a)
+pub finished-next : (d : Shape) (S : ObjectState) (w : ℕ) (a : Act) → w < d.workers → IsTable d S → IsWithin d S → AreSlotsSound d S → IsFinishedBound d S
+    → IsAllowed d S w a → IsFinishedBound d (next d S w a)
 finished-next d S w a low tab near sound ok fine =
     let k : ℕ = site a (S.places w) in
     let x : SlotState = S.slots k in
     let y : SlotState = slot_after d w a x in
     let f : ℕ → ℕ = λ s. note_room (S.slots s) in
     let g : ℕ → ℕ = λ s. note_room (upd S.slots k y s) in
-    let change : sum_below d.slots g + f k ≤ sum_below d.slots f + g k = sum-change d.slots k f g (λ s n. ap note_room (upd-else S.slots k y s n)) (λ past. room-empty x (near.slots k past)) in
+    let change : sum_below d.slots g + f k ≤ sum_below d.slots f + g k = sum-change d.slots k f g (λ s n. ap note_room (upd-else S.slots k y s n))
+    (λ past. room-empty x (near.slots k past)) in
     let here : g k ≡ note_room y = ap note_room (upd-same S.slots k y) in
-    let paid : finished_after a S.finished + note_room y + STAGES * (STAGES + 1) * S.admitted ≤ S.finished + note_room x + STAGES * (STAGES + 1) * admitted_after a S.admitted = pays d S w a low tab fine (sound k) in
+    let paid : finished_after a S.finished + note_room y + STAGES * (STAGES + 1) * S.admitted ≤ S.finished + note_room x + STAGES *
+    (STAGES + 1) * admitted_after a S.admitted = pays d S w a low tab fine (sound k) in
     let before : S.finished + sum_below d.slots f ≤ STAGES * (STAGES + 1) * S.admitted = ok in
     let after : finished_after a S.finished + sum_below d.slots g ≤ STAGES * (STAGES + 1) * admitted_after a S.admitted = omega arith in after
 
 pub finished-bound : (d : Shape) (h : List Entry) → IsLegal d h → IsFinishedBound d (state_after d h)
-finished-bound d [] legal = let z : sum_below d.slots (λ s. 0) ≡ 0 = sum-zero d.slots in let r : 0 + sum_below d.slots (λ s. 0) ≤ STAGES * (STAGES + 1) * 0 = omega arith in r
-finished-bound d (e ∷ es) legal = finished-next d (state_after d es) e.worker e.act legal.0 (table d es legal.2) (within d es legal.2) (slots-sound d es legal.2) (finished-bound d es legal.2) legal.1
+finished-bound d [] legal = let z : sum_below d.slots (λ s. 0) ≡ 0 = sum-zero d.slots in let r : 0 + sum_below d.slots (λ s. 0) ≤ STAGES * (STAGES + 1) * 0 =
+    omega arith in r
+finished-bound d (e ∷ es) legal = finished-next d (state_after d es) e.worker e.act legal.0 (table d es legal.2) (within d es legal.2)
+    (slots-sound d es legal.2) (finished-bound d es legal.2) legal.1

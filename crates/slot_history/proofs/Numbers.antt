@@ -29,7 +29,8 @@ use Rattle.slot_history.proofs.Beginnings.{begins-legal}
 
 -- ---- ids
 
-some-life : (admitted : ℕ) (life : ℕ → Life) (claims : ℕ → List Morsel) (s : ℕ) (x : SlotState) → has_id x ≡ true → IsSlotBook admitted life claims s x → life (id_of x) ≢ Never
+some-life : (admitted : ℕ) (life : ℕ → Life) (claims : ℕ → List Morsel) (s : ℕ) (x : SlotState) → has_id x ≡ true → IsSlotBook admitted life claims s x
+    → life (id_of x) ≢ Never
 some-life admitted life claims s (Open t) has b = λ e. let r = sym b.lives ∙ e in cc
 some-life admitted life claims s (Shut t g) has b = λ e. let r = sym b.lives ∙ e in cc
 some-life admitted life claims s (Finishing id w h) has b = λ e. let r = sym b.1 ∙ e in cc
@@ -46,12 +47,14 @@ pub installed-low : (d : Shape) (h : List Entry) → IsLegal d h → (id : ℕ) 
 installed-low d h legal id was = life-low d h legal id (λ never. let none : installs_of id h ≡ 0 = (counts-as d id h legal Never never).0 in omega arith)
 
 -- the task set of a slot was installed
-pub slot-id-installed : (d : Shape) (h : List Entry) → IsLegal d h → (s : ℕ) → has_id ((state_after d h).slots s) ≡ true → 0 < installs_of (id_of ((state_after d h).slots s)) h
+pub slot-id-installed : (d : Shape) (h : List Entry) → IsLegal d h → (s : ℕ) → has_id ((state_after d h).slots s) ≡ true
+    → 0 < installs_of (id_of ((state_after d h).slots s)) h
 slot-id-installed d h legal s has =
     let S : ObjectState = state_after d h in let id : ℕ = id_of (S.slots s) in
     lives-installed d id h legal (some-life S.admitted (λ j. life_of d j h) (λ j. claims_of d j h) s (S.slots s) has ((book d h legal).slot s))
 
-pub id-low : (d : Shape) (h : List Entry) → IsLegal d h → (s : ℕ) → has_id ((state_after d h).slots s) ≡ true → id_of ((state_after d h).slots s) < STAGES * d.queries
+pub id-low : (d : Shape) (h : List Entry) → IsLegal d h → (s : ℕ) → has_id ((state_after d h).slots s) ≡ true
+    → id_of ((state_after d h).slots s) < STAGES * d.queries
 id-low d h legal s has = installed-low d h legal (id_of ((state_after d h).slots s)) (slot-id-installed d h legal s has)
 
 pub open-id : (x : SlotState) → is_open x ≡ true → has_id x ≡ true
@@ -63,13 +66,15 @@ owing-id (Shut t e) v h = refl
 owing-id _ v h = absurd (cc)
 
 -- the id that a call or its answer names is of a task set that was installed
-pub named-installed : (d : Shape) (w : ℕ) (a : Act) (h : List Entry) (id : ℕ) → IsLegal d (entry w a ∷ h) → named_id a ≡ Some id → 0 < installs_of id (entry w a ∷ h)
+pub named-installed : (d : Shape) (w : ℕ) (a : Act) (h : List Entry) (id : ℕ) → IsLegal d (entry w a ∷ h) → named_id a ≡ Some id
+    → 0 < installs_of id (entry w a ∷ h)
 named-installed d w (LookOpen jd) h id (low, ok, legal) is = let X : ℕ → SlotState = (state_after d h).slots in
     let was : 0 < installs_of id h =
     subst (λ i. 0 < installs_of i h) (sym ok.3 ∙ ap (λ o. unwrap_or o 0) is) (slot-id-installed d h legal ok.0 (open-id (X ok.0) ok.2)) in omega arith
 named-installed d w (LeaveOwe jd) h id (low, ok, legal) is = let s : ℕ = slot_of (place_of d h w) in
     let was : 0 < installs_of id h =
-    subst (λ i. 0 < installs_of i h) (sym ok.2 ∙ ap (λ o. unwrap_or o 0) is) (slot-id-installed d h legal s (owing-id ((state_after d h).slots s) w ok.1)) in omega arith
+    subst (λ i. 0 < installs_of i h) (sym ok.2 ∙ ap (λ o. unwrap_or o 0) is) (slot-id-installed d h legal s (owing-id ((state_after d h).slots s) w ok.1)) in
+    omega arith
 named-installed d w (Install jd) h id legal is =
     let one : cond {A = ℕ} (is_install (Install jd) id) 1 0 ≡ 1 = ap (λ b. cond b 1 0) (eq-eqb jd id (ap (λ o. unwrap_or o 0) is)) in omega arith
 named-installed d w _ h id legal is = absurd (cc)
@@ -83,14 +88,16 @@ called-low d w a id old new (h, is, begins, same, legal) named = named-low d w a
 
 -- ---- ids of places
 
-inside-names : (d : Shape) (S : ObjectState) → IsTable d S → (w s id : ℕ) → w < d.workers → has_own_cell (S.places w) s ≡ true → is_inside (S.places w) id ≡ true
+inside-names : (d : Shape) (S : ObjectState) → IsTable d S → (w s id : ℕ) → w < d.workers → has_own_cell (S.places w) s ≡ true
+    → is_inside (S.places w) id ≡ true
     → (has_id (S.slots s) ≡ true) × (id_of (S.slots s) ≡ id)
 inside-names d S tab w s id low own inside = let r = inside-slots d S tab s w id low own inside in (open-has (S.slots s) r.0, r.1)
 
 abbrev Names : ObjectState → Place → Type 0
 Names S p = (has_id (S.slots (slot_of p)) ≡ true) × (id_of (S.slots (slot_of p)) ≡ id_at p)
 
-own-names : (d : Shape) (S : ObjectState) → IsTable d S → (w : ℕ) → w < d.workers → (p : Place) → S.places w ≡ p → has_own_cell p (slot_of p) ≡ true → is_inside p (id_at p) ≡ true → Names S p
+own-names : (d : Shape) (S : ObjectState) → IsTable d S → (w : ℕ) → w < d.workers → (p : Place) → S.places w ≡ p → has_own_cell p (slot_of p) ≡ true
+    → is_inside p (id_at p) ≡ true → Names S p
 own-names d S tab w low p at own inside =
     inside-names d S tab w (slot_of p) (id_at p) low (ap (λ q. has_own_cell q (slot_of p)) at ∙ own) (ap (λ q. is_inside q (id_at p)) at ∙ inside)
 
@@ -130,7 +137,8 @@ installs-within d (e ∷ es) legal id s = let p : Place = place_of d es e.worker
 claimed-within : (d : Shape) (w : ℕ) (a : Act) (p : Place) (id : ℕ) (ms : List Morsel) → w < d.workers → All (λ (m : Morsel). m.worker < d.workers) ms
     → All (λ (m : Morsel). m.worker < d.workers) (claims_after w a p id ms)
 claimed-within d w (ClaimRange n from to) p id ms low all = let m : Morsel = record { worker = w; from = from; to = to } in
-    cond_both (is_inside p id) (m ∷ ms) ms (All (λ (m : Morsel). m.worker < d.workers)) (λ t. All-cons (λ (m : Morsel). m.worker < d.workers) m ms low all) (λ f. all)
+    cond_both (is_inside p id) (m ∷ ms) ms (All (λ (m : Morsel). m.worker < d.workers)) (λ t. All-cons (λ (m : Morsel). m.worker < d.workers) m ms low all)
+    (λ f. all)
 claimed-within d w _ p id ms low all = all
 
 pub claims-within : (d : Shape) (h : List Entry) → IsLegal d h → AreClaimsWithin d h

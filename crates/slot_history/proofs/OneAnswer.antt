@@ -49,12 +49,15 @@ answered d S tab w Shutting low ok = subst (Replies d S w Shutting) (sym (ap slo
       ok.1,
       ok.2,
       ⊎_elim (λ open_. absurd (true≢false (sym open_ ∙ k))) (λ shut_. shut_)
-          (inside-slots d S tab ok.0 w ok.1 low (ap (λ p. has_own_cell p ok.0) ok.2 ∙ eq-eqb ok.0 ok.0 refl) (ap (λ p. is_inside p ok.1) ok.2 ∙ eq-eqb ok.1 ok.1 refl)).0,
+          (inside-slots d S tab ok.0 w ok.1 low (ap (λ p. has_own_cell p ok.0) ok.2 ∙ eq-eqb ok.0 ok.0 refl) (ap (λ p. is_inside p ok.1) ok.2
+          ∙ eq-eqb ok.1 ok.1 refl)).0,
     )))
-answered d S tab w Leaving low ok = let x : SlotState = S.slots (slot_of (S.places w)) in cond_both (owes x w) (LeaveOwe (id_of x)) LeaveLeft (IsAllowed d S w) (λ k. (ok, k, refl)) (λ k. (ok, k))
+answered d S tab w Leaving low ok = let x : SlotState = S.slots (slot_of (S.places w)) in cond_both (owes x w) (LeaveOwe (id_of x)) LeaveLeft (IsAllowed d S w)
+    (λ k. (ok, k, refl)) (λ k. (ok, k))
 answered d S tab w Paying low ok = subst (Replies d S w Paying) (sym (ap slot_of ok.2))
     (let x : SlotState = S.slots ok.0 in cond_both (is_swept x && eqb (debts d (ended d w PayDone x)) 0) PayLast PayDone (IsAllowed d S w)
-    (λ k. let both = and_parts (is_swept x) (eqb (debts d (ended d w PayDone x)) 0) k in (ok.0, ok.1, ok.2, both.0, eqb-true (debts d (ended d w PayDone x)) 0 both.1))
+    (λ k. let both = and_parts (is_swept x) (eqb (debts d (ended d w PayDone x)) 0) k in
+    (ok.0, ok.1, ok.2, both.0, eqb-true (debts d (ended d w PayDone x)) 0 both.1))
     (λ k. (ok.0, ok.1, ok.2, still-owed (is_swept x) (debts d (ended d w PayDone x)) k)))
 answered d S tab w Marking low ok = subst (λ j. IsAllowed d S w (cond (next_is_at d S j (S.slots j)) MarkMarked MarkMissed)) (sym (ap slot_of ok.4))
     (cond_both (next_is_at d S ok.0 (S.slots ok.0)) MarkMarked MarkMissed (IsAllowed d S w)
@@ -66,7 +69,8 @@ answered d S tab w Sweeping low ok = subst (Replies d S w Sweeping) (sym (ap slo
 answered d S tab w (Reserving s) low ok = cond_both (is_empty (S.slots s)) (ReserveGot s) (ReserveTaken s (slot_word (S.slots s))) (IsAllowed d S w)
     (λ k. (ok.0, ok.1, k)) (λ k. (ok.0, ok.1, k, refl))
 answered d S tab w (Admitting q) low ok = cond_both (eqb S.admitted q) (AdmitGot q) (AdmitLost q S.admitted) (IsAllowed d S w)
-    (λ k. (ok.0, ok.1, ok.2, ok.3, ok.4, eqb-true S.admitted q k)) (λ k. (ok.0, ok.1, ok.2, ok.3, ok.4, refl, λ e. true≢false (sym (eq-eqb S.admitted q e) ∙ k)))
+    (λ k. (ok.0, ok.1, ok.2, ok.3, ok.4, eqb-true S.admitted q k))
+    (λ k. (ok.0, ok.1, ok.2, ok.3, ok.4, refl, λ e. true≢false (sym (eq-eqb S.admitted q e) ∙ k)))
 answered d S tab w AskingArrivals low ok = refl
 answered d S tab w AskingFinished low ok = refl
 answered d S tab w (Noting k) low ok = ok
@@ -110,30 +114,39 @@ only-answer d S w LookVacant ok = subst (Only d S w LookVacant) (sym (ap slot_of
 only-answer d S w (ClaimRange n from to) ok = subst (Only d S w (ClaimRange n from to)) (sym (ap slot_of ok.2))
     (let t = task_of (S.slots ok.0) in
     ap (λ k. ClaimRange n from k) ok.7 ∙ ap (λ k. ClaimRange n k (min t.total (k + n))) ok.5
-    ∙ yes-answer (ltb t.cursor t.total) (ClaimRange n t.cursor (min t.total (t.cursor + n))) (ClaimUsed n) (lt-ltb t.cursor t.total (subst (λ k. k < t.total) ok.5 ok.6)))
+    ∙ yes-answer (ltb t.cursor t.total) (ClaimRange n t.cursor (min t.total (t.cursor + n))) (ClaimUsed n)
+    (lt-ltb t.cursor t.total (subst (λ k. k < t.total) ok.5 ok.6)))
 only-answer d S w (ClaimUsed n) ok = subst (Only d S w (ClaimUsed n)) (sym (ap slot_of ok.2))
-    (let t = task_of (S.slots ok.0) in no-answer (ltb t.cursor t.total) (ClaimRange n t.cursor (min t.total (t.cursor + n))) (ClaimUsed n) (le-ltb t.cursor t.total ok.5))
+    (let t = task_of (S.slots ok.0) in no-answer (ltb t.cursor t.total) (ClaimRange n t.cursor (min t.total (t.cursor + n))) (ClaimUsed n)
+    (le-ltb t.cursor t.total ok.5))
 only-answer d S w ShutWon ok = subst (Only d S w ShutWon) (sym (ap slot_of ok.2)) (yes-answer (is_open (S.slots ok.0)) ShutWon ShutLost ok.3)
-only-answer d S w ShutLost ok = subst (Only d S w ShutLost) (sym (ap slot_of ok.2)) (no-answer (is_open (S.slots ok.0)) ShutWon ShutLost (false_from_ne_true (is_open (S.slots ok.0)) (shut-closed (S.slots ok.0) ok.3)))
+only-answer d S w ShutLost ok = subst (Only d S w ShutLost) (sym (ap slot_of ok.2))
+    (no-answer (is_open (S.slots ok.0)) ShutWon ShutLost (false_from_ne_true (is_open (S.slots ok.0)) (shut-closed (S.slots ok.0) ok.3)))
 only-answer d S w LeaveLeft ok = let x : SlotState = S.slots (slot_of (S.places w)) in no-answer (owes x w) (LeaveOwe (id_of x)) LeaveLeft ok.1
-only-answer d S w (LeaveOwe id) ok = let x : SlotState = S.slots (slot_of (S.places w)) in ap LeaveOwe ok.2 ∙ yes-answer (owes x w) (LeaveOwe (id_of x)) LeaveLeft ok.1
+only-answer d S w (LeaveOwe id) ok = let x : SlotState = S.slots (slot_of (S.places w)) in ap LeaveOwe ok.2
+    ∙ yes-answer (owes x w) (LeaveOwe (id_of x)) LeaveLeft ok.1
 only-answer d S w PayLast ok = subst (Only d S w PayLast) (sym (ap slot_of ok.2))
-    (let x : SlotState = S.slots ok.0 in yes-answer (is_swept x && eqb (debts d (ended d w PayDone x)) 0) PayLast PayDone (and_from (is_swept x) (eqb (debts d (ended d w PayDone x)) 0) ok.3 (eq-eqb (debts d (ended d w PayDone x)) 0 ok.4)))
+    (let x : SlotState = S.slots ok.0 in yes-answer (is_swept x && eqb (debts d (ended d w PayDone x)) 0) PayLast PayDone
+    (and_from (is_swept x) (eqb (debts d (ended d w PayDone x)) 0) ok.3 (eq-eqb (debts d (ended d w PayDone x)) 0 ok.4)))
 only-answer d S w PayDone ok = subst (Only d S w PayDone) (sym (ap slot_of ok.2))
     (let x : SlotState = S.slots ok.0 in no-answer (is_swept x && eqb (debts d (ended d w PayDone x)) 0) PayLast PayDone (⊎_elim
     (λ k. and_left (is_swept x) (eqb (debts d (ended d w PayDone x)) 0) k)
     (λ k. and_right (is_swept x) (eqb (debts d (ended d w PayDone x)) 0) (ne_eqb (debts d (ended d w PayDone x)) 0 (λ e. omega arith))) ok.3))
-only-answer d S w MarkMarked ok = subst (λ j. MarkMarked ≡ cond (next_is_at d S j (S.slots j)) MarkMarked MarkMissed) (sym (ap slot_of ok.4)) (yes-answer (next_is_at d S ok.0 (S.slots ok.0)) MarkMarked MarkMissed ok.6)
-only-answer d S w MarkMissed ok = subst (λ j. MarkMissed ≡ cond (next_is_at d S j (S.slots j)) MarkMarked MarkMissed) (sym (ap slot_of ok.4)) (no-answer (next_is_at d S ok.0 (S.slots ok.0)) MarkMarked MarkMissed ok.6)
+only-answer d S w MarkMarked ok = subst (λ j. MarkMarked ≡ cond (next_is_at d S j (S.slots j)) MarkMarked MarkMissed) (sym (ap slot_of ok.4))
+    (yes-answer (next_is_at d S ok.0 (S.slots ok.0)) MarkMarked MarkMissed ok.6)
+only-answer d S w MarkMissed ok = subst (λ j. MarkMissed ≡ cond (next_is_at d S j (S.slots j)) MarkMarked MarkMissed) (sym (ap slot_of ok.4))
+    (no-answer (next_is_at d S ok.0 (S.slots ok.0)) MarkMarked MarkMissed ok.6)
 only-answer d S w SweepLast ok = subst (Only d S w SweepLast) (sym (ap slot_of ok.4))
     (yes-answer (eqb (debts d (S.slots ok.0)) 0) SweepLast (SweepOthers (debts d (S.slots ok.0))) (eq-eqb (debts d (S.slots ok.0)) 0 ok.6))
 only-answer d S w (SweepOthers n) ok = subst (Only d S w (SweepOthers n)) (sym (ap slot_of ok.4))
     (ap SweepOthers ok.7 ∙ no-answer (eqb (debts d (S.slots ok.0)) 0) SweepLast (SweepOthers (debts d (S.slots ok.0)))
     (ne_eqb (debts d (S.slots ok.0)) 0 (λ e. let k : n ≡ debts d (S.slots ok.0) = ok.7 in let j : 0 < n = ok.6 in omega arith)))
 only-answer d S w (ReserveGot s) ok = yes-answer (is_empty (S.slots s)) (ReserveGot s) (ReserveTaken s (slot_word (S.slots s))) ok.2
-only-answer d S w (ReserveTaken s word) ok = ap (ReserveTaken s) ok.3 ∙ no-answer (is_empty (S.slots s)) (ReserveGot s) (ReserveTaken s (slot_word (S.slots s))) ok.2
+only-answer d S w (ReserveTaken s word) ok = ap (ReserveTaken s) ok.3
+    ∙ no-answer (is_empty (S.slots s)) (ReserveGot s) (ReserveTaken s (slot_word (S.slots s))) ok.2
 only-answer d S w (AdmitGot q) ok = yes-answer (eqb S.admitted q) (AdmitGot q) (AdmitLost q S.admitted) (eq-eqb S.admitted q ok.5)
-only-answer d S w (AdmitLost q now) ok = ap (AdmitLost q) ok.5 ∙ no-answer (eqb S.admitted q) (AdmitGot q) (AdmitLost q S.admitted) (ne_eqb S.admitted q (λ e. ok.6 (ok.5 ∙ e)))
+only-answer d S w (AdmitLost q now) ok = ap (AdmitLost q) ok.5
+    ∙ no-answer (eqb S.admitted q) (AdmitGot q) (AdmitLost q S.admitted) (ne_eqb S.admitted q (λ e. ok.6 (ok.5 ∙ e)))
 only-answer d S w (Arrivals n) ok = ap Arrivals ok
 only-answer d S w (Finished n) ok = ap Finished ok
 only-answer d S w (TakeReturn part bits) ok = ap (TakeReturn part) (mask-only part (S.returns w) bits ok.1)
@@ -151,7 +164,8 @@ call-of-either b x y c of_x of_y = cond_both b x y (λ a. call_of a ≡ c) (λ k
 
 call-of-answer : (d : Shape) (S : ObjectState) (w : ℕ) (c : Call) (x : SlotState) → call_of (answer_at d S w c x) ≡ c
 call-of-answer d S w Looking x = call-of-look x
-call-of-answer d S w (Claiming n) x = let t = task_of x in call-of-either (ltb t.cursor t.total) (ClaimRange n t.cursor (min t.total (t.cursor + n))) (ClaimUsed n) (Claiming n) refl refl
+call-of-answer d S w (Claiming n) x = let t = task_of x in
+    call-of-either (ltb t.cursor t.total) (ClaimRange n t.cursor (min t.total (t.cursor + n))) (ClaimUsed n) (Claiming n) refl refl
 call-of-answer d S w Shutting x = call-of-either (is_open x) ShutWon ShutLost Shutting refl refl
 call-of-answer d S w Leaving x = call-of-either (owes x w) (LeaveOwe (id_of x)) LeaveLeft Leaving refl refl
 call-of-answer d S w Paying x = call-of-either (is_swept x && eqb (debts d (ended d w PayDone x)) 0) PayLast PayDone Paying refl refl

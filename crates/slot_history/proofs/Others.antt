@@ -11,14 +11,17 @@ use Rattle.slot_history.specs.Table.{nth_other, HasAsked}
 use Rattle.slot_history.proofs.Sets.{upd-cases, least-is}
 
 pub nth-other-cases : (c n : ℕ) → ((n < c) × (nth_other c n ≡ n)) ⊎ ((c ≤ n) × (nth_other c n ≡ n + 1))
-nth-other-cases c n = cond_both (ltb n c) n (n + 1) (λ k. ((n < c) × (k ≡ n)) ⊎ ((c ≤ n) × (k ≡ n + 1))) (λ t. inl (ltb-true n c t, refl)) (λ t. inr (ltb-false n c t, refl))
+nth-other-cases c n = cond_both (ltb n c) n (n + 1) (λ k. ((n < c) × (k ≡ n)) ⊎ ((c ≤ n) × (k ≡ n + 1))) (λ t. inl (ltb-true n c t, refl))
+    (λ t. inr (ltb-false n c t, refl))
 
 -- it is another worker than c
 pub nth-other-differs : (c n : ℕ) → nth_other c n ≢ c
-nth-other-differs c n e = ⊎_elim (λ r. let a : n < c = r.0 in let b : nth_other c n ≡ n = r.1 in absurd (omega arith)) (λ r. let a : c ≤ n = r.0 in let b : nth_other c n ≡ n + 1 = r.1 in absurd (omega arith)) (nth-other-cases c n)
+nth-other-differs c n e = ⊎_elim (λ r. let a : n < c = r.0 in let b : nth_other c n ≡ n = r.1 in absurd (omega arith))
+    (λ r. let a : c ≤ n = r.0 in let b : nth_other c n ≡ n + 1 = r.1 in absurd (omega arith)) (nth-other-cases c n)
 
 pub nth-other-within : (c n k : ℕ) → c < k → n + 1 < k → nth_other c n < k
-nth-other-within c n k low more = ⊎_elim (λ r. let a : n < c = r.0 in let b : nth_other c n ≡ n = r.1 in omega arith) (λ r. let a : c ≤ n = r.0 in let b : nth_other c n ≡ n + 1 = r.1 in omega arith) (nth-other-cases c n)
+nth-other-within c n k low more = ⊎_elim (λ r. let a : n < c = r.0 in let b : nth_other c n ≡ n = r.1 in omega arith)
+    (λ r. let a : c ≤ n = r.0 in let b : nth_other c n ≡ n + 1 = r.1 in omega arith) (nth-other-cases c n)
 
 -- v is one of the first n others of c
 abbrev is_before : ℕ → ℕ → ℕ → Bool
@@ -34,8 +37,10 @@ is-before : (c n v : ℕ) → v ≢ c → v < nth_other c n → is_before c n v 
 is-before c n v other below = and_from (not (eqb v c)) (ltb v (nth_other c n)) (ap not (ne_eqb v c other)) (lt-ltb v (nth_other c n) below)
 
 before-none : (c v : ℕ) → is_before c 0 v ≡ false
-before-none c v = false_from_ne_true (is_before c 0 v) (λ h. ⊎_elim (λ r. let a : nth_other c 0 ≡ 0 = r.1 in let b : v < nth_other c 0 = before-below c 0 v h in omega arith)
-    (λ r. let a : c ≤ 0 = r.0 in let z : nth_other c 0 ≡ 0 + 1 = r.1 in let b : v < nth_other c 0 = before-below c 0 v h in let n : v ≢ c = before-other c 0 v h in omega arith)
+before-none c v = false_from_ne_true (is_before c 0 v) (λ h. ⊎_elim
+    (λ r. let a : nth_other c 0 ≡ 0 = r.1 in let b : v < nth_other c 0 = before-below c 0 v h in omega arith)
+    (λ r. let a : c ≤ 0 = r.0 in let z : nth_other c 0 ≡ 0 + 1 = r.1 in let b : v < nth_other c 0 = before-below c 0 v h in let n : v ≢ c =
+    before-other c 0 v h in omega arith)
     (nth-other-cases c 0))
 
 -- in between stands just the worker that is number n
@@ -67,9 +72,11 @@ asked-none c v = sym (before-none c v)
 pub asked-more : (c n : ℕ) (asked : ℕ → Bool) → ((v : ℕ) → asked v ≡ (not (eqb v c) && ltb v (nth_other c n)))
     → (v : ℕ) → upd asked (nth_other c n) true v ≡ (not (eqb v c) && ltb v (nth_other c (n + 1)))
 asked-more c n asked first v = upd-cases asked (nth_other c n) true v (λ b. b ≡ is_before c (n + 1) v)
-    (λ e. sym (is-before c (n + 1) v (λ k. nth-other-differs c n (sym e ∙ k)) (let g : nth_other c n < nth_other c (n + 1) = nth-other-grows c n in omega arith)))
+    (λ e. sym (is-before c (n + 1) v (λ k. nth-other-differs c n (sym e ∙ k)) (let g : nth_other c n < nth_other c (n + 1) = nth-other-grows c n in
+    omega arith)))
     (λ differs. first v ∙ same_from_decides {P = is_before c (n + 1) v ≡ true} (is_before c n v) (is_before c (n + 1) v) (
-      λ h. is-before c (n + 1) v (before-other c n v h) (let g : nth_other c n < nth_other c (n + 1) = nth-other-grows c n in let b : v < nth_other c n = before-below c n v h in omega arith),
+      λ h. is-before c (n + 1) v (before-other c n v h) (let g : nth_other c n < nth_other c (n + 1) = nth-other-grows c n in let b : v < nth_other c n =
+          before-below c n v h in omega arith),
       λ h. is-before c n v (before-other c (n + 1) v h) (before-step c n v (before-below c (n + 1) v h) (before-other c (n + 1) v h) differs),
     ) (λ h. h, λ h. h))
 
@@ -92,6 +99,8 @@ next-is d e n m h low more =
     true≢false (sym (is-before c n v other below) ∙ sym (h.first v) ∙ not-true (e.asked v) both.0)))
 
 -- once all but the coordinator are counted, each was asked
-pub all-asked : (d : Shape) (e : Ending) (n m : ℕ) → HasAsked d e n m → e.coordinator < d.workers → n + 1 ≡ d.workers → (v : ℕ) → v < d.workers → v ≢ e.coordinator → e.asked v ≡ true
+pub all-asked : (d : Shape) (e : Ending) (n m : ℕ) → HasAsked d e n m → e.coordinator < d.workers → n + 1 ≡ d.workers → (v : ℕ) → v < d.workers
+    → v ≢ e.coordinator → e.asked v ≡ true
 all-asked d e n m h lead full v low other = h.first v ∙ is-before e.coordinator n v other
-    (⊎_elim (λ r. let c : ℕ = e.coordinator in let a : n < c = r.0 in absurd (omega arith)) (λ r. let z : nth_other e.coordinator n ≡ n + 1 = r.1 in omega arith) (nth-other-cases e.coordinator n))
+    (⊎_elim (λ r. let c : ℕ = e.coordinator in let a : n < c = r.0 in absurd (omega arith))
+    (λ r. let z : nth_other e.coordinator n ≡ n + 1 = r.1 in omega arith) (nth-other-cases e.coordinator n))

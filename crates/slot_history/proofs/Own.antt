@@ -27,14 +27,16 @@ own-other e h w other = by-other w e.worker (e ∷ own_calls w h) (own_calls w h
 
 -- after a call: the place of its worker, and the places of others
 pub place-mine : (d : Shape) (e : Entry) (h : List Entry) (w : ℕ) → w ≡ e.worker → place_of d (e ∷ h) w ≡ moved d e.act (place_of d h w)
-place-mine d e h w same = ap (λ b. cond b (moved d e.act (place_of d h e.worker)) (place_of d h w)) (eq-eqb w e.worker same) ∙ ap (λ u. moved d e.act (place_of d h u)) (sym same)
+place-mine d e h w same = ap (λ b. cond b (moved d e.act (place_of d h e.worker)) (place_of d h w)) (eq-eqb w e.worker same) ∙ ap
+    (λ u. moved d e.act (place_of d h u)) (sym same)
 
 pub place-other : (d : Shape) (e : Entry) (h : List Entry) (w : ℕ) → w ≢ e.worker → place_of d (e ∷ h) w ≡ place_of d h w
 place-other d e h w other = upd-else (state_after d h).places e.worker _ w other
 
 place-own-step : (d : Shape) (w : ℕ) (e : Entry) (es : List Entry) → place_of d es w ≡ place_of d (own_calls w es) w → Dec (w ≡ e.worker)
     → place_of d (e ∷ es) w ≡ place_of d (own_calls w (e ∷ es)) w
-place-own-step d w e es ih (yes same) = place-mine d e es w same ∙ ap (moved d e.act) ih ∙ sym (ap (λ h. place_of d h w) (own-mine e es w same) ∙ place-mine d e (own_calls w es) w same)
+place-own-step d w e es ih (yes same) = place-mine d e es w same ∙ ap (moved d e.act) ih
+    ∙ sym (ap (λ h. place_of d h w) (own-mine e es w same) ∙ place-mine d e (own_calls w es) w same)
 place-own-step d w e es ih (no other) = place-other d e es w other ∙ ih ∙ sym (ap (λ h. place_of d h w) (own-other e es w other))
 
 pub place-own : (d : Shape) (w : ℕ) (h : List Entry) → place_of d h w ≡ place_of d (own_calls w h) w
@@ -55,7 +57,8 @@ module _ {A : Type 0} (d : Shape) (w : ℕ) (f : List Entry → A) (after : Act 
   by-own-calls [] = refl
   by-own-calls (e ∷ es) = own-step e es (by-own-calls es) (ℕ_discrete w e.worker)
 
-pub ranges-mine : (d : Shape) (w id : ℕ) (e : Entry) (h : List Entry) → w ≡ e.worker → ranges_of d w id (e ∷ h) ≡ ranges_after e.act (place_of d h w) id (ranges_of d w id h)
+pub ranges-mine : (d : Shape) (w id : ℕ) (e : Entry) (h : List Entry) → w ≡ e.worker
+    → ranges_of d w id (e ∷ h) ≡ ranges_after e.act (place_of d h w) id (ranges_of d w id h)
 ranges-mine d w id e h same = by-mine w e.worker (ranges_after e.act (place_of d h w) id (ranges_of d w id h)) (ranges_of d w id h) same
 
 pub ranges-other : (d : Shape) (w id : ℕ) (e : Entry) (h : List Entry) → w ≢ e.worker → ranges_of d w id (e ∷ h) ≡ ranges_of d w id h
@@ -64,7 +67,8 @@ ranges-other d w id e h other = by-other w e.worker (ranges_after e.act (place_o
 pub ranges-own : (d : Shape) (w id : ℕ) (h : List Entry) → ranges_of d w id h ≡ ranges_of d w id (own_calls w h)
 ranges-own d w id = by-own-calls d w (ranges_of d w id) (λ a p rs. ranges_after a p id rs) (place-own d w) (ranges-mine d w id) (ranges-other d w id)
 
-pub record-mine : (d : Shape) (w s : ℕ) (e : Entry) (h : List Entry) → w ≡ e.worker → own_record d w s (e ∷ h) ≡ own_record_after e.act (place_of d h w) s (own_record d w s h)
+pub record-mine : (d : Shape) (w s : ℕ) (e : Entry) (h : List Entry) → w ≡ e.worker
+    → own_record d w s (e ∷ h) ≡ own_record_after e.act (place_of d h w) s (own_record d w s h)
 record-mine d w s e h same = by-mine w e.worker (own_record_after e.act (place_of d h w) s (own_record d w s h)) (own_record d w s h) same
 
 pub record-other : (d : Shape) (w s : ℕ) (e : Entry) (h : List Entry) → w ≢ e.worker → own_record d w s (e ∷ h) ≡ own_record d w s h
@@ -94,7 +98,8 @@ calls-go-on d w a old new (h, is, begins, same, legal) =
     let before : IsLegal d (entry w a ∷ h) = subst (IsLegal d) is legal in
     record {
       place = ap (λ l. place_of d l w) is ∙ place-mine d (entry w a) h w refl ∙ ap (moved d a) at;
-      ranges = λ id. ap (ranges_of d w id) is ∙ ranges-mine d w id (entry w a) h refl ∙ ap₂ (λ p rs. ranges_after a p id rs) at (found-ranges d w id old h same);
+      ranges = λ id. ap (ranges_of d w id) is ∙ ranges-mine d w id (entry w a) h refl ∙ ap₂
+          (λ p rs. ranges_after a p id rs) at (found-ranges d w id old h same);
       allowed = (h, is, before.2, before.0, before.1, at);
       records = λ s. ap (own_record d w s) is ∙ record-mine d w s (entry w a) h refl ∙ ap₂ (λ p r. own_record_after a p s r) at (found-record d w s old h same);
     }

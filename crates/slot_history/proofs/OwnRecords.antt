@@ -29,7 +29,8 @@ mask-pending part s bits pending is here =
 
 in-mask : (part s bits : ℕ) (pending : ℕ → Bool) → IsMask part pending bits → (is_in_part part s && pending s) ≡ is_in_mask part bits s
 in-mask part s bits pending is = ⊎_elim
-    (λ t. ap (λ b. b && pending s) t ∙ sym (mask-pending part s bits pending is (eqb-true (s / 64) part t)) ∙ sym (ap (λ b. b && eqb (bit_at bits (s % 64)) 1) t))
+    (λ t. ap (λ b. b && pending s) t ∙ sym (mask-pending part s bits pending is (eqb-true (s / 64) part t))
+    ∙ sym (ap (λ b. b && eqb (bit_at bits (s % 64)) 1) t))
     (λ f. ap (λ b. b && pending s) f ∙ sym (ap (λ b. b && eqb (bit_at bits (s % 64)) 1) f))
     (cases_Bool (is_in_part part s))
 
@@ -55,7 +56,8 @@ record-step d S w _ s fine = refl
 pub own-records : (d : Shape) (h : List Entry) → IsLegal d h → OwnRecords d h
 own-records d [] legal w s = refl
 own-records d (e ∷ es) legal w s = let S : ObjectState = state_after d es in
-    upd-cases S.records e.worker (records_after e.act (S.places e.worker) (S.changes e.worker) (S.returns e.worker) (S.records e.worker)) w (λ r. r s ≡ own_record d w s (e ∷ es))
+    upd-cases S.records e.worker (records_after e.act (S.places e.worker) (S.changes e.worker) (S.returns e.worker) (S.records e.worker)) w
+    (λ r. r s ≡ own_record d w s (e ∷ es))
     (λ same. record-step d S e.worker e.act s legal.1
     ∙ ap (λ u. own_record_after e.act (S.places u) s (S.records u s)) (sym same)
     ∙ ap (own_record_after e.act (place_of d es w) s) (own-records d es legal.2 w s) ∙ sym (record-mine d w s e es same))

@@ -26,16 +26,19 @@ debt-paid d w t e low owe =
     let f : ℕ → Bool = owes (ended d w PayDone (Shut t e)) in
     let a : count_of d.workers (upd f w true) ≡ count_of d.workers f + 1 = count-more d.workers f w low (paid-clear d e w) in
     let b : count_of d.workers (upd f w true) ≡ count_of d.workers (owing e) =
-    count-same d.workers (upd f w true) (owing e) (λ v h. upd-cases f w true v (λ b. b ≡ owing e v) (λ same. sym (ap (owing e) same ∙ owe)) (λ ne. owing-else d e v w ne)) in
+    count-same d.workers (upd f w true) (owing e) (λ v h. upd-cases f w true v (λ b. b ≡ owing e v) (λ same. sym (ap (owing e) same ∙ owe))
+    (λ ne. owing-else d e v w ne)) in
     sym a ∙ b
 
-pub payment-counts : (d : Shape) (w : ℕ) (e : Ending) → w < d.workers → owing e w ≡ true → count_of d.workers (upd e.paid w true) ≡ count_of d.workers e.paid + 1
+pub payment-counts : (d : Shape) (w : ℕ) (e : Ending) → w < d.workers → owing e w ≡ true
+    → count_of d.workers (upd e.paid w true) ≡ count_of d.workers e.paid + 1
 payment-counts d w e low owe = count-more d.workers e.paid w low (not-true (e.paid w) (and_parts (e.marked w) (not (e.paid w)) owe).1)
 
 -- ---- one mark more
 
 -- of a worker that was neither marked nor paid
-pub mark-counts : (d : Shape) (v : ℕ) (e : Ending) → v < d.workers → e.marked v ≡ false → count_of d.workers (upd e.marked v true) ≡ count_of d.workers e.marked + 1
+pub mark-counts : (d : Shape) (v : ℕ) (e : Ending) → v < d.workers → e.marked v ≡ false
+    → count_of d.workers (upd e.marked v true) ≡ count_of d.workers e.marked + 1
 mark-counts d v e low unmarked = count-more d.workers e.marked v low unmarked
 
 -- whoever is marked now has not paid
@@ -97,13 +100,15 @@ pub record IsUnmarked (d : Shape) (e : Ending) : Type 0 where
   pub marked : e.marked (next_asked d e) ≡ false
   pub paid : e.paid (next_asked d e) ≡ false
 
-pub next-unmarked : (d : Shape) (x : SlotState) (w id n m : ℕ) → w < d.workers → n + 1 < d.workers → IsChainOf d x → (l : IsLed d x w id n m) → IsUnmarked d l.ending
+pub next-unmarked : (d : Shape) (x : SlotState) (w id n m : ℕ) → w < d.workers → n + 1 < d.workers → IsChainOf d x → (l : IsLed d x w id n m)
+    → IsUnmarked d l.ending
 next-unmarked d x w id n m low more chain l =
     let e : Ending = l.ending in
     let c : IsChain d e = subst (IsChainOf d) l.slot chain in
     let is = next-is d e n m l.asked c.coordinator more in
     let out : e.asked (next_asked d e) ≡ false = ap e.asked is ∙ next-unasked d e n m l.asked in
-    let unmarked : e.marked (next_asked d e) ≡ false = false_from_ne_true (e.marked (next_asked d e)) (λ k. true≢false (sym (c.marked (next_asked d e) k) ∙ out)) in record {
+    let unmarked : e.marked (next_asked d e) ≡ false = false_from_ne_true (e.marked (next_asked d e))
+    (λ k. true≢false (sym (c.marked (next_asked d e) k) ∙ out)) in record {
       low = subst (λ v. v < d.workers) (sym is) (nth-other-within e.coordinator n d.workers c.coordinator more);
       marked = unmarked;
       paid = false_from_ne_true (e.paid (next_asked d e)) (λ k. true≢false (sym (c.paid (next_asked d e) k) ∙ unmarked));

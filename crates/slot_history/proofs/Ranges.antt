@@ -41,7 +41,8 @@ claims-go-on d w n from to s id h legal at =
     let S : ObjectState = state_after d h in
     let fine : IsAllowed d S w (ClaimRange n from to) = legal.1 in
     let t : TaskSet = task_of (S.slots fine.0) in
-    let r = inside-task d S (table d h legal.2) w fine.0 id legal.0 (ap (λ p. has_own_cell p fine.0) fine.2 ∙ eq-eqb fine.0 fine.0 refl) (ap (λ p. is_inside p id) at ∙ eq-eqb id id refl) in
+    let r = inside-task d S (table d h legal.2) w fine.0 id legal.0 (ap (λ p. has_own_cell p fine.0) fine.2 ∙ eq-eqb fine.0 fine.0 refl) (ap
+    (λ p. is_inside p id) at ∙ eq-eqb id id refl) in
     let tiles : Tiles (claims_of d t.id h) (min t.cursor t.total) = (tiles-cursor d h legal.2 fine.0 r.0).1 in
     let start : from ≡ t.cursor = fine.5 in
     tiles-below (claims_of d id h) (min t.cursor t.total) from (subst (λ j. Tiles (claims_of d j h) (min t.cursor t.total)) r.1 tiles) (omega arith)
@@ -79,14 +80,16 @@ claims-apart : (d : Shape) (id : ℕ) (h : List Entry) → IsLegal d h → AllPa
 claims-apart d id [] legal = pairs-nil (λ (m k : Morsel). k.to ≤ m.from)
 claims-apart d id (e ∷ es) legal = claims-apart-step e.worker e.act (place_of d es e.worker) id (claims_of d id es)
     (λ n from to s is at. claims-go-on d e.worker n from to s id es (subst (λ a. IsLegal d (entry e.worker a ∷ es)) is legal) at)
-    (λ n from to is. let k : IsAllowed d (state_after d es) e.worker (ClaimRange n from to) = subst (IsAllowed d (state_after d es) e.worker) is legal.1 in (k.0, k.1, k.2))
+    (λ n from to is. let k : IsAllowed d (state_after d es) e.worker (ClaimRange n from to) = subst (IsAllowed d (state_after d es) e.worker) is legal.1 in
+    (k.0, k.1, k.2))
     (claims-apart d id es legal.2)
 
 -- the ranges of a worker among claims that lie apart
 ranges-pairs : (w : ℕ) (ms : List Morsel) → AllPairs (λ (m k : Morsel). k.to ≤ m.from) ms → AllPairs (λ (r q : ℕ × ℕ). q.1 ≤ r.0) (ranges_by w ms)
 ranges-pairs w [] apart = pairs-nil (λ (r q : ℕ × ℕ). q.1 ≤ r.0)
 ranges-pairs w (m ∷ ms) apart =
-    let rest : AllPairs (λ (r q : ℕ × ℕ). q.1 ≤ r.0) (ranges_by w ms) = ranges-pairs w ms (λ i j e lt up. apart (suc i) (suc j) e (omega arith) (omega arith)) in
+    let rest : AllPairs (λ (r q : ℕ × ℕ). q.1 ≤ r.0) (ranges_by w ms) = ranges-pairs w ms
+    (λ i j e lt up. apart (suc i) (suc j) e (omega arith) (omega arith)) in
     let first : All (λ (k : Morsel). k.to ≤ m.from) ms = λ k e up. apart 0 (suc k) e (omega arith) (omega arith) in
     cond_both (eqb w m.worker) ((m.from, m.to) ∷ ranges_by w ms) (ranges_by w ms) (AllPairs (λ (r q : ℕ × ℕ). q.1 ≤ r.0))
     (λ t. pairs-cons (λ (r q : ℕ × ℕ). q.1 ≤ r.0) (m.from, m.to) (ranges_by w ms) (ranges-below w m.from ms first) rest)

@@ -16,7 +16,8 @@ use Rattle.slot_history.proofs.Sets.{pick, upd-same, upd-else, upd-cases}
 -- a look that finds query q leaves a record that allows q so
 looked-may-be : (q : ℕ) (r : NoticeRecord) → MayBe r q → MayBe (looked q r) q
 looked-may-be q r (inl unknown) = subst (λ g. MayBe (looked_group g q r) q) (sym unknown) (inr refl)
-looked-may-be q r (inr known) = subst (λ g. MayBe (looked_group g q r) q) (sym known) (cond_both (eqb q q) r (dropped r) (λ x. MayBe x q) (λ t. inr known) (λ t. inr known))
+looked-may-be q r (inr known) = subst (λ g. MayBe (looked_group g q r) q) (sym known) (cond_both (eqb q q) r (dropped r) (λ x. MayBe x q) (λ t. inr known)
+    (λ t. inr known))
 
 -- a look keeps a record that lets the worker in
 looked-active : (q : ℕ) (r : NoticeRecord) → MayBe r q → r.active ≡ true → (looked q r).active ≡ true
@@ -28,7 +29,8 @@ drop-may-be : (r : ℕ → NoticeRecord) (k s q : ℕ) → MayBe (r s) q → May
 drop-may-be r k s q may = upd-cases r k (dropped (r k)) s (λ x. MayBe x q) (λ e. subst (λ j. MayBe (r j) q) e may) (λ n. may)
 
 -- after a call of the worker at p, whose look may answer the query q alone: what its record r may be, it may still be
-pub group-after : (a : Act) (p : Place) (changes returns : ℕ → Bool) (r : ℕ → NoticeRecord) (s q : ℕ) → ((id : ℕ) → a ≡ LookOpen id → s ≡ slot_of p → q ≡ id / STAGES)
+pub group-after : (a : Act) (p : Place) (changes returns : ℕ → Bool) (r : ℕ → NoticeRecord) (s q : ℕ)
+    → ((id : ℕ) → a ≡ LookOpen id → s ≡ slot_of p → q ≡ id / STAGES)
     → MayBe (r s) q → MayBe (records_after a p changes returns r s) q
 group-after (LookOpen id) p changes returns r s q answers may = upd-cases r (slot_of p) (looked (id / STAGES) (r (slot_of p))) s (λ x. MayBe x q)
     (λ e. subst (λ j. MayBe (looked j (r (slot_of p))) q) (answers id refl e) (looked-may-be q (r (slot_of p)) (subst (λ j. MayBe (r j) q) e may))) (λ n. may)
@@ -36,8 +38,10 @@ group-after LookInvalid p changes returns r s q answers may = drop-may-be r (slo
 group-after LookVacant p changes returns r s q answers may = drop-may-be r (slot_of p) s q may
 group-after ShutWon p changes returns r s q answers may = drop-may-be r (slot_of p) s q may
 group-after ShutLost p changes returns r s q answers may = drop-may-be r (slot_of p) s q may
-group-after (TakeReturn part bits) p changes returns r s q answers may = cond_both (is_in_part part s && returns s) (record (r s) { active = true }) (r s) (λ x. MayBe x q) (λ t. may) (λ t. may)
-group-after (TakeChange part bits) p changes returns r s q answers may = cond_both (is_in_part part s && changes s) (record { active = true; group = None }) (r s) (λ x. MayBe x q) (λ t. inl refl) (λ t. may)
+group-after (TakeReturn part bits) p changes returns r s q answers may = cond_both (is_in_part part s && returns s) (record (r s) { active = true }) (r s)
+    (λ x. MayBe x q) (λ t. may) (λ t. may)
+group-after (TakeChange part bits) p changes returns r s q answers may =
+    cond_both (is_in_part part s && changes s) (record { active = true; group = None }) (r s) (λ x. MayBe x q) (λ t. inl refl) (λ t. may)
 group-after _ p changes returns r s q answers may = may
 
 -- slots that are not open, by what a look or a shut finds there
@@ -67,11 +71,13 @@ is_dropping ShutLost = true
 is_dropping _ = false
 
 -- a slot whose record the worker's call drops is not open
-pub drops-closed : (d : Shape) (S : ObjectState) (w : ℕ) (a : Act) (s : ℕ) → IsAllowed d S w a → is_dropping a ≡ true → s ≡ slot_of (S.places w) → is_open (S.slots s) ≡ true → is_open ((next d S w a).slots s) ≡ true → ⊥
+pub drops-closed : (d : Shape) (S : ObjectState) (w : ℕ) (a : Act) (s : ℕ) → IsAllowed d S w a → is_dropping a ≡ true → s ≡ slot_of (S.places w)
+    → is_open (S.slots s) ≡ true → is_open ((next d S w a).slots s) ≡ true → ⊥
 drops-closed d S w LookInvalid s fine drops e o o' = tagged-closed (S.slots fine.0) fine.2 (ap (λ k. is_open (S.slots k)) (sym (e ∙ ap slot_of fine.1)) ∙ o)
 drops-closed d S w LookVacant s fine drops e o o' = vacant-closed (S.slots fine.0) fine.2 (ap (λ k. is_open (S.slots k)) (sym (e ∙ ap slot_of fine.1)) ∙ o)
 drops-closed d S w ShutLost s fine drops e o o' = shut-closed (S.slots fine.0) fine.3 (ap (λ k. is_open (S.slots k)) (sym (e ∙ ap slot_of fine.2)) ∙ o)
-drops-closed d S w ShutWon s fine drops e o o' = shuts w (S.slots (slot_of (S.places w))) (ap is_open (sym (ap (upd S.slots (slot_of (S.places w)) (shut_by w (S.slots (slot_of (S.places w))))) e ∙ upd-same S.slots (slot_of (S.places w)) _)) ∙ o')
+drops-closed d S w ShutWon s fine drops e o o' = shuts w (S.slots (slot_of (S.places w)))
+    (ap is_open (sym (ap (upd S.slots (slot_of (S.places w)) (shut_by w (S.slots (slot_of (S.places w))))) e ∙ upd-same S.slots (slot_of (S.places w)) _)) ∙ o')
 drops-closed d S w _ s fine drops e o o' = absurd (cc)
 
 -- the record of another slot than the dropped one stays active
@@ -79,14 +85,18 @@ drop-elsewhere : (r : ℕ → NoticeRecord) (k s : ℕ) → (s ≡ k → ⊥) �
 drop-elsewhere r k s off h = ap (λ x. x.active) (upd-else r k (dropped (r k)) s off) ∙ h
 
 -- after a call of the worker at p that drops no record of the slot, the record is still active where it lets the worker in
-pub active-after : (a : Act) (p : Place) (changes returns : ℕ → Bool) (r : ℕ → NoticeRecord) (s q : ℕ) → ((id : ℕ) → a ≡ LookOpen id → s ≡ slot_of p → q ≡ id / STAGES)
+pub active-after : (a : Act) (p : Place) (changes returns : ℕ → Bool) (r : ℕ → NoticeRecord) (s q : ℕ)
+    → ((id : ℕ) → a ≡ LookOpen id → s ≡ slot_of p → q ≡ id / STAGES)
     → (is_dropping a ≡ true → s ≡ slot_of p → ⊥) → MayBe (r s) q → (r s).active ≡ true → (records_after a p changes returns r s).active ≡ true
 active-after (LookOpen id) p changes returns r s q answers off may h = upd-cases r (slot_of p) (looked (id / STAGES) (r (slot_of p))) s (λ x. x.active ≡ true)
-    (λ e. subst (λ j. (looked j (r (slot_of p))).active ≡ true) (answers id refl e) (looked-active q (r (slot_of p)) (subst (λ j. MayBe (r j) q) e may) (ap (λ j. (r j).active) (sym e) ∙ h))) (λ n. h)
+    (λ e. subst (λ j. (looked j (r (slot_of p))).active ≡ true) (answers id refl e)
+    (looked-active q (r (slot_of p)) (subst (λ j. MayBe (r j) q) e may) (ap (λ j. (r j).active) (sym e) ∙ h))) (λ n. h)
 active-after LookInvalid p changes returns r s q answers off may h = drop-elsewhere r (slot_of p) s (off refl) h
 active-after LookVacant p changes returns r s q answers off may h = drop-elsewhere r (slot_of p) s (off refl) h
 active-after ShutWon p changes returns r s q answers off may h = drop-elsewhere r (slot_of p) s (off refl) h
 active-after ShutLost p changes returns r s q answers off may h = drop-elsewhere r (slot_of p) s (off refl) h
-active-after (TakeReturn part bits) p changes returns r s q answers off may h = cond_both (is_in_part part s && returns s) (record (r s) { active = true }) (r s) (λ x. x.active ≡ true) (λ t. refl) (λ t. h)
-active-after (TakeChange part bits) p changes returns r s q answers off may h = cond_both (is_in_part part s && changes s) (record { active = true; group = None }) (r s) (λ x. x.active ≡ true) (λ t. refl) (λ t. h)
+active-after (TakeReturn part bits) p changes returns r s q answers off may h =
+    cond_both (is_in_part part s && returns s) (record (r s) { active = true }) (r s) (λ x. x.active ≡ true) (λ t. refl) (λ t. h)
+active-after (TakeChange part bits) p changes returns r s q answers off may h =
+    cond_both (is_in_part part s && changes s) (record { active = true; group = None }) (r s) (λ x. x.active ≡ true) (λ t. refl) (λ t. h)
 active-after _ p changes returns r s q answers off may h = h

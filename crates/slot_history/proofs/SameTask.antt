@@ -56,9 +56,11 @@ task-after d w Release x = inl (λ h. absurd (cc), λ h. absurd (cc))
 task-after d w _ x = inl (same-task x)
 
 -- the slot s after a call, where the call is no install in it
-pub task-next : (d : Shape) (S : ObjectState) (w : ℕ) (a : Act) (s : ℕ) → IsSameTask ((next d S w a).slots s) (S.slots s) ⊎ ((s ≡ site a (S.places w)) × ((id : ℕ) × (a ≡ Install id)))
+pub task-next : (d : Shape) (S : ObjectState) (w : ℕ) (a : Act) (s : ℕ) → IsSameTask ((next d S w a).slots s) (S.slots s)
+    ⊎ ((s ≡ site a (S.places w)) × ((id : ℕ) × (a ≡ Install id)))
 task-next d S w a s =
     let k : ℕ = site a (S.places w) in
     upd-cases S.slots k (slot_after d w a (S.slots k)) s (λ y. IsSameTask y (S.slots s) ⊎ ((s ≡ k) × ((id : ℕ) × (a ≡ Install id))))
-    (λ e. ⊎_elim (λ same. inl (subst (λ j. IsSameTask (slot_after d w a (S.slots k)) (S.slots j)) (sym e) same)) (λ i. inr (e, i)) (task-after d w a (S.slots k)))
+    (λ e. ⊎_elim (λ same. inl (subst (λ j. IsSameTask (slot_after d w a (S.slots k)) (S.slots j)) (sym e) same))
+    (λ i. inr (e, i)) (task-after d w a (S.slots k)))
     (λ n. inl (same-task (S.slots s)))

@@ -44,7 +44,8 @@ count-none (suc n) f none =
 pub none-counted : (n : ℕ) (f : ℕ → Bool) → count_of n f ≡ 0 → (v : ℕ) → v < n → f v ≡ false
 none-counted zero f zero_members v h = absurd (omega arith)
 none-counted (suc n) f zero_members v h = dite (ℕ_discrete v n)
-    (λ e. subst (λ u. f u ≡ false) (sym e) (cond_both (f n) 1 0 (λ k. k + count_of n f ≡ 0 → f n ≡ false) (λ t z. absurd (omega arith)) (λ t z. t) zero_members))
+    (λ e. subst (λ u. f u ≡ false) (sym e) (cond_both (f n) 1 0 (λ k. k + count_of n f ≡ 0 → f n ≡ false) (λ t z. absurd (omega arith))
+    (λ t z. t) zero_members))
     (λ ne. none-counted n f (let z : cond {A = ℕ} (f n) 1 0 + count_of n f ≡ 0 = zero_members in omega arith) v (omega arith))
 
 pub some-counted : (n : ℕ) (f : ℕ → Bool) → 0 < count_of n f → (v : ℕ) × (v < n) × (f v ≡ true)
@@ -79,10 +80,12 @@ count-grows (suc n) f g more =
     (λ t. omega arith)
 
 -- and one more where it has a member that the smaller set lacks
-pub count-grows_one : (n : ℕ) (f g : ℕ → Bool) (k : ℕ) → k < n → f k ≡ false → g k ≡ true → ((v : ℕ) → v < n → f v ≡ true → g v ≡ true) → count_of n f + 1 ≤ count_of n g
+pub count-grows_one : (n : ℕ) (f g : ℕ → Bool) (k : ℕ) → k < n → f k ≡ false → g k ≡ true → ((v : ℕ) → v < n → f v ≡ true → g v ≡ true)
+    → count_of n f + 1 ≤ count_of n g
 count-grows_one n f g k low out here more =
     let a : count_of n (upd f k true) ≡ count_of n f + 1 = count-more n f k low out in
-    let b : count_of n (upd f k true) ≤ count_of n g = count-grows n (upd f k true) g (λ v h. upd-cases f k true v (λ b. b ≡ true → g v ≡ true) (λ e t. ap g e ∙ here) (λ ne t. more v h t)) in omega arith
+    let b : count_of n (upd f k true) ≤ count_of n g = count-grows n (upd f k true) g
+    (λ v h. upd-cases f k true v (λ b. b ≡ true → g v ≡ true) (λ e t. ap g e ∙ here) (λ ne t. more v h t)) in omega arith
 
 sum-same : (n : ℕ) (f g : ℕ → ℕ) → ((s : ℕ) → s < n → g s ≡ f s) → sum_below n g ≡ sum_below n f
 sum-same zero f g same = refl

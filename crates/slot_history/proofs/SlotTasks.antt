@@ -94,7 +94,8 @@ given-site (Install jd) p id e = refl
 given-site _ p id e = absurd (cc)
 
 -- what is installed now was in no slot before
-pub install-new : (d : Shape) (h : List Entry) (w : ℕ) (a : Act) (id : ℕ) → IsLegal d h → w < d.workers → IsAllowed d (state_after d h) w a → is_install a id ≡ true → slot_with d id h ≡ None
+pub install-new : (d : Shape) (h : List Entry) (w : ℕ) (a : Act) (id : ℕ) → IsLegal d h → w < d.workers → IsAllowed d (state_after d h) w a
+    → is_install a id ≡ true → slot_with d id h ≡ None
 install-new d h w a id legal low ok this = (counts-as d id h legal Never (install-never d h w a id legal low ok this).0).3
 
 pub serving-slot : (d : Shape) (h : List Entry) → IsLegal d h → (s id : ℕ) → task_in d s h ≡ Some id → slot_with d id h ≡ Some s
@@ -104,8 +105,10 @@ serving-slot d (e ∷ es) legal s id at =
     (λ this. let given : task_given a ≡ Some id = sym (ap (λ b. cond b (task_given a) (task_in d s es)) this) ∙ at in
     ap (λ b. cond b (Some (slot_of p)) (slot_with d id es)) (given-install a id given)
     ∙ ap Some (sym (given-site a p id given) ∙ eqb-true (site a p) s (and_parts (renews a) (eqb (site a p) s) this).1))
-    (λ other. let before : slot_with d id es ≡ Some s = serving-slot d es legal.2 s id (sym (ap (λ b. cond b (task_given a) (task_in d s es)) other) ∙ at) in ⊎_elim
-    (λ this. absurd (let new : slot_with d id es ≡ None = install-new d es e.worker a id legal.2 legal.0 legal.1 this in let r : None ≡ Some s = sym new ∙ before in cc))
+    (λ other. let before : slot_with d id es ≡ Some s = serving-slot d es legal.2 s id (sym (ap (λ b. cond b (task_given a) (task_in d s es)) other) ∙ at) in
+    ⊎_elim
+    (λ this. absurd (let new : slot_with d id es ≡ None = install-new d es e.worker a id legal.2 legal.0 legal.1 this in let r : None ≡ Some s = sym new
+    ∙ before in cc))
     (λ not_this. ap (λ b. cond b (Some (slot_of p)) (slot_with d id es)) not_this ∙ before)
     (cases_Bool (is_install a id)))
     (cases_Bool here)

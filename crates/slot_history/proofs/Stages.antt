@@ -32,14 +32,16 @@ use Rattle.slot_history.proofs.Claims.{finishing-last}
 -- ---- an install that goes on with a query
 
 -- its slot is being finalised for the task set before
-goes-on : (d : Shape) (S : ObjectState) (w id : ℕ) → w < d.workers → IsTable d S → AreSlotsSound d S → (ok : IsAllowed d S w (Install (id + 1))) → (id + 1) % STAGES ≢ 0 → S.slots ok.0 ≡ Finishing id w ok.1
+goes-on : (d : Shape) (S : ObjectState) (w id : ℕ) → w < d.workers → IsTable d S → AreSlotsSound d S → (ok : IsAllowed d S w (Install (id + 1)))
+    → (id + 1) % STAGES ≢ 0 → S.slots ok.0 ≡ Finishing id w ok.1
 goes-on d S w id low tab sound ok later = let s : ℕ = ok.0 in let h : Held = ok.1 in let next_one : id + 1 ≡ next_id h = ok.4 in ⊎_elim
     (λ e. let k : IsReservation h = subst IsSlotSound e (sound s) in
     let first : cond {A = ℕ} h.again (h.stage + 1) 0 ≡ 0 = ap (λ b. cond b (h.stage + 1) 0) k.again in
     let is : id + 1 ≡ STAGES * unwrap_or h.query 0 + cond {A = ℕ} h.again (h.stage + 1) 0 = next_one in
     absurd (later (omega arith)))
     (λ r. let jd : ℕ = r.0 in let k : IsFinalisation jd h = subst IsSlotSound r.1 (sound s) in
-    let is : id + 1 ≡ STAGES * (jd / STAGES) + (h.stage + 1) = next_one ∙ ap₂ (λ q b. STAGES * q + b) (ap (λ o. unwrap_or o 0) k.query) (ap (λ b. cond b (h.stage + 1) 0) k.again) in
+    let is : id + 1 ≡ STAGES * (jd / STAGES) + (h.stage + 1) = next_one ∙ ap₂
+    (λ q b. STAGES * q + b) (ap (λ o. unwrap_or o 0) k.query) (ap (λ b. cond b (h.stage + 1) 0) k.again) in
     let stage : h.stage ≡ jd % STAGES = k.stage in
     r.1 ∙ ap (λ j. Finishing j w h) (let same : jd ≡ id = omega arith in same))
     (holder-slot d S tab w s h low ok.2)
@@ -62,9 +64,11 @@ given-is (Install jd) id e = ap Install (cc)
 given-is _ id e = absurd (cc)
 
 -- where the first task set of a query is installed, none of the query was before
-first-new : (d : Shape) (h : List Entry) (w id jd : ℕ) → IsLegal d h → w < d.workers → IsAllowed d (state_after d h) w (Install id) → id % STAGES ≡ 0 → jd / STAGES ≡ id / STAGES → installs_of jd h ≡ 0
+first-new : (d : Shape) (h : List Entry) (w id jd : ℕ) → IsLegal d h → w < d.workers → IsAllowed d (state_after d h) w (Install id) → id % STAGES ≡ 0
+    → jd / STAGES ≡ id / STAGES → installs_of jd h ≡ 0
 first-new d h w id jd legal low ok first same =
-    let fresh = install-fresh d (state_after d h) w id (λ j. life_of d j h) (λ j. claims_of d j h) low (table d h legal) (slots-sound d h legal) ok (book d h legal) in
+    let fresh = install-fresh d (state_after d h) w id (λ j. life_of d j h)
+    (λ j. claims_of d j h) low (table d h legal) (slots-sound d h legal) ok (book d h legal) in
     let never : life_of d jd h ≡ Never = dite (ℕ_discrete jd id) (λ e. ap (λ j. life_of d j h) e ∙ fresh.never) (λ ne. fresh.later jd (omega arith) same) in
     (counts-as d jd h legal Never never).0
 
@@ -72,11 +76,13 @@ same-query : (i j k : ℕ) → i / STAGES ≡ j / STAGES → j / STAGES ≡ k / 
 same-query i j k first then = first ∙ then
 
 -- what an install goes on with served the slot
-kept-by-install : (d : Shape) (h early : List Entry) (w s id jd : ℕ) → IsLegal d h → w < d.workers → IsAllowed d (state_after d h) w (Install id) → slot_of (place_of d h w) ≡ s → QueryKeepsSlot d h
+kept-by-install : (d : Shape) (h early : List Entry) (w s id jd : ℕ) → IsLegal d h → w < d.workers → IsAllowed d (state_after d h) w (Install id)
+    → slot_of (place_of d h w) ≡ s → QueryKeepsSlot d h
     → Begins h early → jd / STAGES ≡ id / STAGES → 0 < installs_of jd early → (kd : ℕ) × (task_in d s early ≡ Some kd) × (kd / STAGES ≡ id / STAGES)
 kept-by-install d h early w s id jd legal low ok at keeps b same was = dite (ℕ_discrete (id % STAGES) 0)
     (λ first. absurd (let none : installs_of jd h ≡ 0 = first-new d h w id jd legal low ok first same in
-    let grows : installs_of jd early ≤ installs_of jd h = subst (λ l. installs_of jd early ≤ installs_of jd l) (sym b.1) (installs-grow jd b.0 early) in omega arith))
+    let grows : installs_of jd early ≤ installs_of jd h = subst (λ l. installs_of jd early ≤ installs_of jd l) (sym b.1) (installs-grow jd b.0 early) in
+    omega arith))
     (λ later. let k : ℕ = id - 1 in
     let is : id ≡ k + 1 = omega arith in
     let here = stages-in-order d w k h (low, subst (λ j. IsAllowed d (state_after d h) w (Install j)) is ok, legal) (subst (λ j. j % STAGES ≢ 0) is later) in
@@ -92,7 +98,8 @@ query-keeps-slot d (e ∷ es) legal s id jd early at b same was =
     (λ before. ⊎_elim
     (λ this. let given : task_given a ≡ Some id = sym (ap (λ o. cond o (task_given a) (task_in d s es)) this) ∙ at in
     let there : slot_of p ≡ s = sym (given-site a p id given) ∙ eqb-true (site a p) s (and_parts (renews a) (eqb (site a p) s) this).1 in
-    kept-by-install d es early e.worker s id jd legal.2 legal.0 (subst (IsAllowed d (state_after d es) e.worker) (given-is a id given) legal.1) there (query-keeps-slot d es legal.2) before same was)
+    kept-by-install d es early e.worker s id jd legal.2 legal.0 (subst (IsAllowed d (state_after d es) e.worker) (given-is a id given) legal.1) there
+    (query-keeps-slot d es legal.2) before same was)
     (λ other. query-keeps-slot d es legal.2 s id jd early (sym (ap (λ o. cond o (task_given a) (task_in d s es)) other) ∙ at) before same was)
     (cases_Bool (renews a && eqb (site a p) s)))
     (begins-cases e es early b)

@@ -20,8 +20,10 @@ use Rattle.slot_history.proofs.Numbers.{named-installed}
 
 -- ---- one call more
 
-install-of : (totals : ℕ → Option ℕ) (a : Act) (o : Option ℕ) (id total : ℕ) → InstallsOf totals a o → is_install a id ≡ true → o ≡ Some total → totals id ≡ Some total
-install-of totals a o id total of this is = (let r : InstallsOf totals (Install id) o = subst (λ b. InstallsOf totals b o) (install-is a id this) of in r).1 ∙ is
+install-of : (totals : ℕ → Option ℕ) (a : Act) (o : Option ℕ) (id total : ℕ) → InstallsOf totals a o → is_install a id ≡ true → o ≡ Some total
+    → totals id ≡ Some total
+install-of totals a o id total of this is = (let r : InstallsOf totals (Install id) o = subst (λ b. InstallsOf totals b o) (install-is a id this) of in r).1
+    ∙ is
 
 pub subject-goes-on : SubjectGoesOn
 subject-goes-on totals d e h of new id total =
@@ -46,7 +48,8 @@ module _ (totals : ℕ → Option ℕ) (d : Shape) (h : List Entry) (legal : IsL
   slot-of s has = let t = task_of ((state_after d h).slots s) in of t.id t.total (tiles-cursor d h legal s has).0
 
 -- the newest call
-newest-of : (totals : ℕ → Option ℕ) (d : Shape) (w : ℕ) (a : Act) (h : List Entry) → IsLegal d (entry w a ∷ h) → IsOfTotals totals d (entry w a ∷ h) → EntryIsOf totals d (entry w a) h
+newest-of : (totals : ℕ → Option ℕ) (d : Shape) (w : ℕ) (a : Act) (h : List Entry) → IsLegal d (entry w a ∷ h) → IsOfTotals totals d (entry w a ∷ h)
+    → EntryIsOf totals d (entry w a) h
 newest-of totals d w (Install id) h legal of =
     let total : Option ℕ = (held_at (place_of d h w)).total in
     let set : IsSome total = (install-never d h w (Install id) id legal.2 legal.0 legal.1 (eq-eqb id id refl)).1 in
@@ -56,7 +59,8 @@ newest-of totals d w _ h legal of = tt
 
 pub subject-shows : SubjectShows
 subject-shows totals d h legal of = record {
-  each = λ e early begins. newest-of totals d e.worker e.act early (begins-legal d h (e ∷ early) legal begins) (subject-begins totals d h (e ∷ early) legal of begins);
+  each = λ e early begins. newest-of totals d e.worker e.act early (begins-legal d h (e ∷ early) legal begins)
+      (subject-begins totals d h (e ∷ early) legal of begins);
   installed = installed-of totals d h legal of;
   named = λ e early id begins is.
       let now : IsLegal d (e ∷ early) = begins-legal d h (e ∷ early) legal begins in

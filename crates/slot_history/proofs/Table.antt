@@ -34,7 +34,8 @@ away d s (Holds h) p q far loose m = absurd (⊎_elim (λ e. let r : Holding s h
 -- ---- the whole table
 
 -- at another slot than that of the call, its worker was free or at its own slot, and is so afterwards
-elsewhere : (d : Shape) (S : ObjectState) (w : ℕ) (a : Act) → IsAllowed d S w a → (s : ℕ) → s ≢ site a (S.places w) → (S.places w ≡ Free) ⊎ (slot_of (S.places w) ≢ s)
+elsewhere : (d : Shape) (S : ObjectState) (w : ℕ) (a : Act) → IsAllowed d S w a → (s : ℕ) → s ≢ site a (S.places w) → (S.places w ≡ Free)
+    ⊎ (slot_of (S.places w) ≢ s)
 elsewhere d S w (Enter t) ok s far = inl ok.0
 elsewhere d S w (ReserveGot t) ok s far = inl ok.0
 elsewhere d S w (ReserveTaken t word) ok s far = inl ok.0
@@ -57,7 +58,8 @@ told-slot d (Announcing s again k) b = absurd (true≢false (sym b ∙ told-loos
 told-slot d _ b = refl
 
 -- the place after a call is tied to no slot but that of the call
-pub moved-slot : (d : Shape) (S : ObjectState) (w : ℕ) (a : Act) → IsAllowed d S w a → binds (moved d a (S.places w)) ≡ true → slot_of (moved d a (S.places w)) ≡ site a (S.places w)
+pub moved-slot : (d : Shape) (S : ObjectState) (w : ℕ) (a : Act) → IsAllowed d S w a → binds (moved d a (S.places w)) ≡ true
+    → slot_of (moved d a (S.places w)) ≡ site a (S.places w)
 moved-slot d S w (Enter s) ok b = absurd (cc)
 moved-slot d S w LookInvalid ok b = absurd (cc)
 moved-slot d S w LookVacant ok b = absurd (cc)

@@ -43,17 +43,21 @@ takes-after [] e early takes is all = tt
 takes-after (x ∷ more) e early takes is all =
     let r : AreTakes (x ∷ (more ++ e ∷ early)) = subst AreTakes is all in (r.0, takes-after more e early (more ++ e ∷ early) refl r.1)
 
-took-changes : (d : Shape) (w s : ℕ) (takes old : List Entry) → AreTakes takes → TookChanges w (s / 64) takes → (state_after d (takes ++ old)).changes w s ≡ false
+took-changes : (d : Shape) (w s : ℕ) (takes old : List Entry) → AreTakes takes → TookChanges w (s / 64) takes
+    → (state_after d (takes ++ old)).changes w s ≡ false
 took-changes d w s takes old all (bits, more, early, is) =
     let e : Entry = entry w (TakeChange (s / 64) bits) in
     let whole : takes ++ old ≡ more ++ e ∷ (early ++ old) = ap (λ l. l ++ old) is ∙ append_assoc more (e ∷ early) old in
-    ap (λ l. (state_after d l).changes w s) whole ∙ changes-taken d w bits s more (early ++ old) (takes-tell-nobody more (takes-after more e early takes is all))
+    ap (λ l. (state_after d l).changes w s) whole ∙ changes-taken d w bits s more (early ++ old)
+    (takes-tell-nobody more (takes-after more e early takes is all))
 
-took-returns : (d : Shape) (w s : ℕ) (takes old : List Entry) → AreTakes takes → TookReturns w (s / 64) takes → (state_after d (takes ++ old)).returns w s ≡ false
+took-returns : (d : Shape) (w s : ℕ) (takes old : List Entry) → AreTakes takes → TookReturns w (s / 64) takes
+    → (state_after d (takes ++ old)).returns w s ≡ false
 took-returns d w s takes old all (bits, more, early, is) =
     let e : Entry = entry w (TakeReturn (s / 64) bits) in
     let whole : takes ++ old ≡ more ++ e ∷ (early ++ old) = ap (λ l. l ++ old) is ∙ append_assoc more (e ∷ early) old in
-    ap (λ l. (state_after d l).returns w s) whole ∙ returns-taken d w bits s more (early ++ old) (takes-tell-nobody more (takes-after more e early takes is all))
+    ap (λ l. (state_after d l).returns w s) whole ∙ returns-taken d w bits s more (early ++ old)
+    (takes-tell-nobody more (takes-after more e early takes is all))
 
 -- a slot that is known, and not by a notice that is pending
 known-at-once : (S : ObjectState) (s w : ℕ) → S.changes w s ≡ false → S.returns w s ≡ false → IsKnown S s w → LetsIn S w s

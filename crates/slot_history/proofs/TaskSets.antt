@@ -45,12 +45,14 @@ held-idle : (x : SlotState) (w : ℕ) (h : Held) → IsHeldBy w h x → has_task
 held-idle x w h how = ⊎_elim (λ e. ap has_task e) (λ r. ap has_task r.1) how
 
 -- a worker that works on an id, and a coordinator of an id
-named-inside : (d : Shape) (h : List Entry) (w s jd id : ℕ) → (place_of d h w ≡ Inside s jd) ⊎ (place_of d h w ≡ Used s jd) → eqb (id_at (place_of d h w)) id ≡ true → is_inside (place_of d h w) id ≡ true
+named-inside : (d : Shape) (h : List Entry) (w s jd id : ℕ) → (place_of d h w ≡ Inside s jd) ⊎ (place_of d h w ≡ Used s jd)
+    → eqb (id_at (place_of d h w)) id ≡ true → is_inside (place_of d h w) id ≡ true
 named-inside d h w s jd id how this = ⊎_elim
     (λ e. ap (λ p. is_inside p id) e ∙ sym (ap (λ p. eqb (id_at p) id) e) ∙ this)
     (λ e. ap (λ p. is_inside p id) e ∙ sym (ap (λ p. eqb (id_at p) id) e) ∙ this) how
 
-marks-run : (d : Shape) (h : List Entry) (w s jd n m id : ℕ) → IsLegal d h → w < d.workers → place_of d h w ≡ Asking s jd n m → eqb (id_at (place_of d h w)) id ≡ true → (k : ℕ) × (total : ℕ) × (life_of d id h ≡ Runs k total)
+marks-run : (d : Shape) (h : List Entry) (w s jd n m id : ℕ) → IsLegal d h → w < d.workers → place_of d h w ≡ Asking s jd n m
+    → eqb (id_at (place_of d h w)) id ≡ true → (k : ℕ) × (total : ℕ) × (life_of d id h ≡ Runs k total)
 marks-run d h w s jd n m id legal low at this = let S : ObjectState = state_after d h in
     let r = asking-slot d S (table d h legal) w s jd n m low at in
     let has : has_task (S.slots s) ≡ true = ap has_task r.2 in
@@ -58,10 +60,15 @@ marks-run d h w s jd n m id legal low at this = let S : ObjectState = state_afte
     (s, (task_of (S.slots s)).total, ap (λ j. life_of d j h) (sym is) ∙ slot-runs d h legal s has)
 
 -- a call that touches a task set does so while it runs
-touches-runs : (d : Shape) (h : List Entry) (w : ℕ) (a : Act) (id : ℕ) → IsLegal d h → w < d.workers → IsAllowed d (state_after d h) w a → touches a (place_of d h w) id ≡ true → (s : ℕ) × (n : ℕ) × (life_of d id h ≡ Runs s n)
+touches-runs : (d : Shape) (h : List Entry) (w : ℕ) (a : Act) (id : ℕ) → IsLegal d h → w < d.workers → IsAllowed d (state_after d h) w a
+    → touches a (place_of d h w) id ≡ true → (s : ℕ) × (n : ℕ) × (life_of d id h ≡ Runs s n)
 touches-runs d h w (LookOpen jd) id legal low ok this = let S : ObjectState = state_after d h in
-    let has : has_task (S.slots ok.0) ≡ true = open-or-shut (S.slots ok.0) (inl ok.2) in
-    (ok.0, (task_of (S.slots ok.0)).total, ap (λ j. life_of d j h) (sym (task-id (S.slots ok.0) has ∙ sym ok.3 ∙ eqb-true jd id this)) ∙ slot-runs d h legal ok.0 has)
+    let has : has_task (S.slots ok.0) ≡ true = open-or-shut (S.slots ok.0) (inl ok.2) in (
+      ok.0,
+      (task_of (S.slots ok.0)).total,
+      ap (λ j. life_of d j h) (sym (task-id (S.slots ok.0) has ∙ sym ok.3 ∙ eqb-true jd id this))
+          ∙ slot-runs d h legal ok.0 has,
+    )
 touches-runs d h w (ClaimRange n from to) id legal low ok this = inside-runs d h w id legal low (named-inside d h w ok.0 ok.1 id (inl ok.2) this)
 touches-runs d h w (ClaimUsed n) id legal low ok this = inside-runs d h w id legal low (named-inside d h w ok.0 ok.1 id (inl ok.2) this)
 touches-runs d h w ShutWon id legal low ok this = inside-runs d h w id legal low (named-inside d h w ok.0 ok.1 id (inr ok.2) this)
@@ -70,18 +77,25 @@ touches-runs d h w MarkMarked id legal low ok this = marks-run d h w ok.0 ok.1 o
 touches-runs d h w MarkMissed id legal low ok this = marks-run d h w ok.0 ok.1 ok.2 ok.3 id legal low ok.4 this
 touches-runs d h w _ id legal low ok this = absurd (cc)
 
-untouched : (d : Shape) (h : List Entry) (w : ℕ) (a : Act) (id : ℕ) → IsLegal d h → w < d.workers → IsAllowed d (state_after d h) w a → 0 < lasts_of d id h → touches a (place_of d h w) id ≡ false
+untouched : (d : Shape) (h : List Entry) (w : ℕ) (a : Act) (id : ℕ) → IsLegal d h → w < d.workers → IsAllowed d (state_after d h) w a → 0 < lasts_of d id h
+    → touches a (place_of d h w) id ≡ false
 untouched d h w a id legal low ok some_last = false_from_ne_true (touches a (place_of d h w) id)
-    (λ this. let r = finalised-done d id h legal some_last in let q = touches-runs d h w a id legal low ok this in let e : Done r.0 ≡ Runs q.0 q.1 = sym r.1 ∙ q.2 in cc)
+    (λ this. let r = finalised-done d id h legal some_last in let q = touches-runs d h w a id legal low ok this in let e : Done r.0 ≡ Runs q.0 q.1 = sym r.1
+    ∙ q.2 in cc)
 
 -- a call that gives a slot to another task set finds none there
-renews-idle : (d : Shape) (h : List Entry) (w : ℕ) (a : Act) → IsLegal d h → w < d.workers → IsAllowed d (state_after d h) w a → renews a ≡ true → has_task ((state_after d h).slots (site a (place_of d h w))) ≡ false
+renews-idle : (d : Shape) (h : List Entry) (w : ℕ) (a : Act) → IsLegal d h → w < d.workers → IsAllowed d (state_after d h) w a → renews a ≡ true
+    → has_task ((state_after d h).slots (site a (place_of d h w))) ≡ false
 renews-idle d h w (ReserveGot s) legal low ok this = empty-idle ((state_after d h).slots s) ok.2
-renews-idle d h w (Install id) legal low ok this = subst (λ p. has_task ((state_after d h).slots (slot_of p)) ≡ false) (sym ok.2) (held-idle ((state_after d h).slots ok.0) w ok.1 (holder-slot d (state_after d h) (table d h legal) w ok.0 ok.1 low ok.2))
-renews-idle d h w Release legal low ok this = subst (λ p. has_task ((state_after d h).slots (slot_of p)) ≡ false) (sym ok.2) (held-idle ((state_after d h).slots ok.0) w ok.1 (holder-slot d (state_after d h) (table d h legal) w ok.0 ok.1 low ok.2))
+renews-idle d h w (Install id) legal low ok this = subst
+    (λ p. has_task ((state_after d h).slots (slot_of p)) ≡ false) (sym ok.2)
+    (held-idle ((state_after d h).slots ok.0) w ok.1 (holder-slot d (state_after d h) (table d h legal) w ok.0 ok.1 low ok.2))
+renews-idle d h w Release legal low ok this = subst (λ p. has_task ((state_after d h).slots (slot_of p)) ≡ false) (sym ok.2)
+    (held-idle ((state_after d h).slots ok.0) w ok.1 (holder-slot d (state_after d h) (table d h legal) w ok.0 ok.1 low ok.2))
 renews-idle d h w _ legal low ok this = absurd (cc)
 
-in-place : (d : Shape) (h : List Entry) (w : ℕ) (a : Act) (id : ℕ) → IsLegal d h → w < d.workers → IsAllowed d (state_after d h) w a → slot_with d id h ≡ Some (site a (place_of d h w)) → renews a ≡ true → 0 < lasts_of d id h
+in-place : (d : Shape) (h : List Entry) (w : ℕ) (a : Act) (id : ℕ) → IsLegal d h → w < d.workers → IsAllowed d (state_after d h) w a
+    → slot_with d id h ≡ Some (site a (place_of d h w)) → renews a ≡ true → 0 < lasts_of d id h
 in-place d h w a id legal low ok at this = ⊎_elim
     (λ some_last. some_last)
     (λ few. let none : lasts_of d id h ≡ 0 = omega arith in
@@ -96,5 +110,6 @@ once-in-place d h legal id some_last = record {
   slot = (counts-done d id h legal some_last).3;
   none_inside = λ early b past v. none-inside d id early (begins-legal d h early legal b) past v;
   untouched = λ e early b past. let k : IsLegal d (e ∷ early) = begins-legal d h (e ∷ early) legal b in untouched d early e.worker e.act id k.2 k.0 k.1 past;
-  in_place = λ e early b at this. let k : IsLegal d (e ∷ early) = begins-legal d h (e ∷ early) legal b in in-place d early e.worker e.act id k.2 k.0 k.1 at this;
+  in_place = λ e early b at this. let k : IsLegal d (e ∷ early) = begins-legal d h (e ∷ early) legal b in
+      in-place d early e.worker e.act id k.2 k.0 k.1 at this;
 }

@@ -30,7 +30,8 @@ within-slots d (Announcing s again told) k busy = k.0
 within-slots d _ k busy = k
 
 told-within : (d : Shape) (s : ℕ) (again : Bool) (k : ℕ) → IsPlaceWithin d (Announcing s again k) → IsPlaceWithin d (told_one d (Announcing s again k))
-told-within d s again k h = pick (k + 1) d.workers Free (Announcing s again (k + 1)) (IsPlaceWithin d) (λ e. tt) (λ n. (h.0, let b : k < d.workers = h.1 in omega arith))
+told-within d s again k h = pick (k + 1) d.workers Free (Announcing s again (k + 1)) (IsPlaceWithin d) (λ e. tt)
+    (λ n. (h.0, let b : k < d.workers = h.1 in omega arith))
 
 moves : (d : Shape) (S : ObjectState) (w : ℕ) (a : Act) → w < d.workers → IsAllowed d S w a → Moves d a (S.places w)
 moves d S w (Enter s) low ok = λ k. ok.1
@@ -84,7 +85,8 @@ reserve-cases : (a : Act) → ((s : ℕ) × (a ≡ ReserveGot s)) ⊎ ((s : ℕ)
 reserve-cases (ReserveGot s) = inl (s, refl)
 reserve-cases _ = inr (λ s e. absurd (cc))
 
-past-empty : (d : Shape) (S : ObjectState) (w : ℕ) (a : Act) → IsAllowed d S w a → d.slots ≤ site a (S.places w) → is_empty (S.slots (site a (S.places w))) ≡ true
+past-empty : (d : Shape) (S : ObjectState) (w : ℕ) (a : Act) → IsAllowed d S w a → d.slots ≤ site a (S.places w)
+    → is_empty (S.slots (site a (S.places w))) ≡ true
     → is_empty (slot_after d w a (S.slots (site a (S.places w)))) ≡ true
 past-empty d S w a ok high h = ⊎_elim
     (λ r. absurd (let P : Act → Type 0 = λ b. IsAllowed d S w b → d.slots ≤ site b (S.places w) → ⊥ in

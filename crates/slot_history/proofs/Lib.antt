@@ -42,3 +42,4 @@ pub mod SlotTasks
 pub mod Looks
 pub mod Subject
 pub mod Taken
+pub mod Finishers

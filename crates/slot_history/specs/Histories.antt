@@ -156,6 +156,12 @@ lasts_of d id [] = 0
 lasts_of d id (e ∷ es) =
     cond (is_last e.act && eqb (id_at (place_of d es e.worker)) id) 1 0 + lasts_of d id es
 
+-- the worker whose call was answered so, if there is one
+abbrev pub finisher_of : Shape → ℕ → List Entry → Option ℕ
+finisher_of d id [] = None
+finisher_of d id (e ∷ es) = let here = id_at (place_of d es e.worker) in
+    cond (is_last e.act && eqb here id) (Some e.worker) (finisher_of d id es)
+
 -- a look that answers an id, or a claim, a shut or a mark of it, by a worker at this place
 abbrev pub touches : Act → Place → ℕ → Bool
 touches (LookOpen jd) p id = eqb jd id

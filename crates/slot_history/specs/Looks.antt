@@ -6,10 +6,10 @@ use Rattle.slot_history.specs.declared.act.Act.{Act}
 use Rattle.slot_history.specs.declared.act.Act.TheVariants.{LookOpen}
 use Rattle.slot_history.specs.declared.act.Entry.{Entry}
 use Rattle.slot_history.specs.declared.place.Held.{Held}
-use Rattle.slot_history.specs.declared.place.Place.TheVariants.{Entered}
-use Rattle.slot_history.specs.States.{Finishing, slot_of, id_at, task_at}
+use Rattle.slot_history.specs.declared.place.Place.TheVariants.{Entered, Holding}
+use Rattle.slot_history.specs.States.{Finishing, slot_of, id_at, finalised_id, task_at}
 use Rattle.slot_history.specs.Steps.{state_after}
-use Rattle.slot_history.specs.Histories.{IsLegal, Begins, Tiles, entry, place_of, claims_of, is_last, installs_of, lasts_of, total_of, slot_with, task_in}
+use Rattle.slot_history.specs.Histories.{IsLegal, Begins, Tiles, entry, place_of, claims_of, is_last, installs_of, lasts_of, finisher_of, total_of, slot_with, task_in}
 use Rattle.slot_history.specs.Beginnings.{IsTiled}
 
 -- ---- the laws, as the functions of module `laws::slots` state them
@@ -60,3 +60,19 @@ SameQuerySeen = (d : Shape) (w u s id jd kd : ℕ) (h mid : List Entry)
 abbrev pub StageBefore : Shape → List Entry → Type 0
 StageBefore d h = (id s : ℕ) → slot_with d (id + 1) h ≡ Some s → (id + 1) % STAGES ≢ 0
     → (lasts_of d id h ≡ 1) × (slot_with d id h ≡ Some s)
+
+-- a task set that was finalised has a finisher, a worker of the shape
+abbrev pub HasFinisher : Shape → List Entry → Type 0
+HasFinisher d h = (id : ℕ) → 0 < lasts_of d id h
+    → (w : ℕ) × (w < d.workers) × (finisher_of d id h ≡ Some w)
+
+-- and whoever holds a slot after a finalisation is the finisher of its task set
+abbrev pub HolderIsFinisher : Shape → List Entry → Type 0
+HolderIsFinisher d h = (w s : ℕ) (held : Held) → w < d.workers
+    → place_of d h w ≡ Holding s held → held.again ≡ true
+    → finisher_of d (finalised_id held) h ≡ Some w
+
+-- the finisher of a task set stays
+abbrev pub FinisherStays : Type 0
+FinisherStays = (d : Shape) (h early : List Entry) (id w : ℕ) → IsLegal d h → Begins h early
+    → finisher_of d id early ≡ Some w → finisher_of d id h ≡ Some w

@@ -9,6 +9,7 @@ use Rattle.slot_history.specs.declared.place.Place.{Place}
 use Rattle.slot_history.specs.declared.place.Place.TheVariants.{Inside, Used, Behind, Leading, Asking, Owing}
 use Rattle.slot_history.specs.States.{ObjectState, slot_of, id_at, id_of, has_id}
 use Rattle.slot_history.specs.Steps.{state_after}
+use Rattle.slot_history.specs.Bounds.{IsShape}
 use Rattle.slot_history.specs.Histories.{Begins, Morsel, claims_of, installs_of, slot_with}
 
 -- the place names an id
@@ -43,6 +44,10 @@ pub record AreIdsWithin (d : Shape) (h : List Entry) : Type 0 where
   pub installed : (id : ℕ) → 0 < installs_of id h → id < STAGES * d.queries
   pub named : (e : Entry) (early : List Entry) (id : ℕ) → Begins h (e ∷ early)
       → named_id e.act ≡ Some id → id < STAGES * d.queries
+
+-- within the limits an id has at most 15 bits
+abbrev pub IdsAreSmall : Type 0
+IdsAreSmall = (d : Shape) (id : ℕ) → IsShape d → id < STAGES * d.queries → id < 32768
 
 -- task sets are installed in slots of the shape
 abbrev pub AreInstallsWithin : Shape → List Entry → Type 0

@@ -9,7 +9,7 @@ ghost use Rattle.slot_history.specs.Lives.{IsBookOf, CountsOf};
 ghost use Rattle.slot_history.specs.Table.{IsTable, AreLed};
 ghost use Rattle.slot_history.specs.Bounds.{IsWithin, AreCursors, IsCursorLimit, AreDebtsWithin, AreSlotsSound, IsFinishedBound};
 ghost use Rattle.slot_history.specs.Calls.{IsAnswered};
-ghost use Rattle.slot_history.specs.Numbers.{PlacesNameIds, AreIdsWithin, AreInstallsWithin, AreClaimsWithin};
+ghost use Rattle.slot_history.specs.Numbers.{PlacesNameIds, AreIdsWithin, IdsAreSmall, AreInstallsWithin, AreClaimsWithin};
 ghost use Rattle.slot_history.specs.Payments.{DebtsGoOn};
 ghost use Rattle.slot_history.specs.declared.shape.TheConstants.{MOST_SLOTS, PARTS, MOST_WORKERS, MOST_QUERIES, STAGES, MOST_CLAIM, MOST_TOTAL};
 
@@ -20,8 +20,8 @@ pub mod notices;
 pub mod slots;
 pub mod subject;
 
-/// The limits that every crate cites, by their numbers. The slots of all mask words are the most
-/// slots.
+/// The limits that every crate cites, by their numbers. The bits of all mask words are the most
+/// slots, and within the limits an id is below 32,768.
 ///
 /// Ruled out: a limit that was shifted in one place.
 pub fn limits()
@@ -33,6 +33,7 @@ pub fn limits()
     ensures stages { STAGES ≡ 8 }
     ensures most_claim { MOST_CLAIM ≡ 65536 }
     ensures most_total { MOST_TOTAL ≡ 1048576 }
+    ensures ids { IdsAreSmall }
 {}
 
 /// Every worker is at a place that the state of each slot allows it, and of a shut slot those that

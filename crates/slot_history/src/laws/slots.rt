@@ -1,7 +1,7 @@
 //! The slot of a task set and of a query.
 
 ghost use Rattle.slot_history.specs.Laws.{AfterAll};
-ghost use Rattle.slot_history.specs.Looks.{TaskInSlot, ServingSlot, TaskKeepsSlot, LastInSlot, FinishingInSlot, OneSlotSeen, SameQuerySeen, StageBefore};
+ghost use Rattle.slot_history.specs.Looks.{TaskInSlot, ServingSlot, TaskKeepsSlot, LastInSlot, FinishingInSlot, OneSlotSeen, SameQuerySeen, StageBefore, HasFinisher, HolderIsFinisher, FinisherStays};
 
 /// The task set that a slot serves, by the history, is the one that its state has, and was
 /// installed in this slot. The slot has served it at each moment since.
@@ -21,6 +21,16 @@ pub fn task_set_keeps_slot()
 pub fn last_in_slot()
     ensures last { LastInSlot }
     ensures finishing { AfterAll FinishingInSlot }
+{}
+
+/// A task set that was finalised has a finisher, the worker whose call was answered `Last`, which
+/// stays so. Whoever holds a slot after a finalisation is the finisher of its task set.
+///
+/// Ruled out: an answer `Last` that two workers get.
+pub fn finisher()
+    ensures has { AfterAll HasFinisher }
+    ensures holder { AfterAll HolderIsFinisher }
+    ensures stays { FinisherStays }
 {}
 
 /// A query is seen open in one slot only: looks that answer task sets of one query are at one slot.

@@ -30,51 +30,33 @@ alike-self x = record { book = λ m life claims s k. k; query = λ q k. k; task 
 
 pub alike-shut : (x : SlotState) (w : ℕ) → Alike x (shut_by w x)
 alike-shut (Open t) w = record { book = λ m life claims s k. k; query = λ q k. k; task = λ k. (refl, refl) }
-alike-shut (Shut t e) w = alike-self (Shut t e)
-alike-shut Empty w = alike-self Empty
-alike-shut (Reserved u h) w = alike-self (Reserved u h)
-alike-shut (Finishing id u h) w = alike-self (Finishing id u h)
+alike-shut x w = alike-self x
 
 pub alike-ended : (d : Shape) (w : ℕ) (a : Act) (x : SlotState) → Alike x (ended d w a x)
 alike-ended d w a (Shut t e) = record { book = λ m life claims s k. k; query = λ q k. k; task = λ k. (refl, refl) }
-alike-ended d w a (Open t) = alike-self (Open t)
-alike-ended d w a Empty = alike-self Empty
-alike-ended d w a (Reserved u h) = alike-self (Reserved u h)
-alike-ended d w a (Finishing id u h) = alike-self (Finishing id u h)
+alike-ended d w a x = alike-self x
 
 pub alike-held : (a : Act) (x : SlotState) → ((h : Held) → (held_after a h).query ≡ h.query) → Alike x (held_on a x)
 alike-held a (Reserved u h) same = record { book = λ m life claims s k q e. k q (sym (same h) ∙ e); query = λ q e. sym (same h) ∙ e; task = λ k. absurd (cc) }
 alike-held a (Finishing id u h) same = record { book = λ m life claims s k. k; query = λ q e. e; task = λ k. absurd (cc) }
-alike-held a Empty same = alike-self Empty
-alike-held a (Open t) same = alike-self (Open t)
-alike-held a (Shut t e) same = alike-self (Shut t e)
+alike-held a x same = alike-self x
 
 -- past its total, the cursor says nothing new
 pub tiles-spent : (ms : List Morsel) (c total n : ℕ) → total ≤ c → total ≡ n → Tiles ms (min c total) → Tiles ms n
 tiles-spent ms c total n spent same k = subst (Tiles ms) (let r : min c total ≡ n = omega arith in r) k
 
+running-used : (life : ℕ → Life) (claims : ℕ → List Morsel) (s n : ℕ) (t : TaskSet) → t.total ≤ t.cursor → IsRunning life claims s t
+    → IsRunning life claims s (grown t n)
+running-used life claims s n t spent k = record {
+  lives = k.lives;
+  tiles = tiles-spent (claims t.id) t.cursor t.total (min (t.cursor + n) t.total) spent (omega arith) k.tiles;
+  later = k.later;
+}
+
 pub alike-used : (x : SlotState) (n : ℕ) → (task_of x).total ≤ (task_of x).cursor → Alike x (claimed x n)
-alike-used (Open t) n spent = record {
-  book = λ m life claims s k. record {
-    lives = k.lives;
-    tiles = tiles-spent (claims t.id) t.cursor t.total (min (t.cursor + n) t.total) spent (omega arith) k.tiles;
-    later = k.later;
-  };
-  query = λ q k. k;
-  task = λ k. (refl, refl);
-}
-alike-used (Shut t e) n spent = record {
-  book = λ m life claims s k. record {
-    lives = k.lives;
-    tiles = tiles-spent (claims t.id) t.cursor t.total (min (t.cursor + n) t.total) spent (omega arith) k.tiles;
-    later = k.later;
-  };
-  query = λ q k. k;
-  task = λ k. (refl, refl);
-}
-alike-used Empty n spent = alike-self Empty
-alike-used (Reserved u h) n spent = alike-self (Reserved u h)
-alike-used (Finishing id u h) n spent = alike-self (Finishing id u h)
+alike-used (Open t) n spent = record { book = λ m life claims s. running-used life claims s n t spent; query = λ q k. k; task = λ k. (refl, refl) }
+alike-used (Shut t e) n spent = record { book = λ m life claims s. running-used life claims s n t spent; query = λ q k. k; task = λ k. (refl, refl) }
+alike-used x n spent = alike-self x
 
 pub alike-reserved : (x : SlotState) (w : ℕ) → is_empty x ≡ true → Alike x (Reserved w reservation)
 alike-reserved Empty w h = record { book = λ m life claims s k q e. absurd (cc); query = λ q e. e; task = λ k. absurd (cc) }
@@ -103,18 +85,18 @@ book-alike m slots life claims k y same ok =
 -- ---- a claim that got a range
 
 -- claims of other task sets than those that run in this slot do not matter to it
+running-claims : (life : ℕ → Life) (claims more : ℕ → List Morsel) (s : ℕ) (t : TaskSet) → ((id total : ℕ) → life id ≡ Runs s total → more id ≡ claims id)
+    → IsRunning life claims s t → IsRunning life more s t
+running-claims life claims more s t same k = record {
+  lives = k.lives;
+  tiles = subst (λ ms. Tiles ms (min t.cursor t.total)) (sym (same t.id t.total k.lives)) k.tiles;
+  later = k.later;
+}
+
 book-claims : (m : ℕ) (life : ℕ → Life) (claims more : ℕ → List Morsel) (s : ℕ) (x : SlotState)
     → ((id total : ℕ) → life id ≡ Runs s total → more id ≡ claims id) → IsSlotBook m life claims s x → IsSlotBook m life more s x
-book-claims m life claims more s (Open t) same k = record {
-  lives = k.lives;
-  tiles = subst (λ ms. Tiles ms (min t.cursor t.total)) (sym (same t.id t.total k.lives)) k.tiles;
-  later = k.later;
-}
-book-claims m life claims more s (Shut t e) same k = record {
-  lives = k.lives;
-  tiles = subst (λ ms. Tiles ms (min t.cursor t.total)) (sym (same t.id t.total k.lives)) k.tiles;
-  later = k.later;
-}
+book-claims m life claims more s (Open t) same k = running-claims life claims more s t same k
+book-claims m life claims more s (Shut t e) same k = running-claims life claims more s t same k
 book-claims m life claims more s _ same k = k
 
 -- one more claim, which begins at the cursor
@@ -199,17 +181,18 @@ pub running-low : (m : ℕ) (slots : ℕ → SlotState) (life : ℕ → Life) (c
     → id / STAGES < m
 running-low m slots life claims ok id was = ⊎_elim (λ h. h) (λ h. absurd (was (ok.late id h))) (cases_lt (id / STAGES) m)
 
+lives-low : (m : ℕ) (slots : ℕ → SlotState) (life : ℕ → Life) (claims : ℕ → List Morsel) → IsBook m slots life claims → (id q : ℕ) → id / STAGES ≡ q
+    → life id ≢ Never → q < m
+lives-low m slots life claims ok id q same lives = subst (λ j. j < m) same (running-low m slots life claims ok id lives)
+
 -- the query of a slot was admitted
 query-admitted : (m : ℕ) (slots : ℕ → SlotState) (life : ℕ → Life) (claims : ℕ → List Morsel) → IsBook m slots life claims → (s : ℕ) (x : SlotState) (q : ℕ)
     → IsSlotBook m life claims s x → query_in x ≡ Some q → q < m
 query-admitted m slots life claims ok s Empty q k e = absurd (cc)
 query-admitted m slots life claims ok s (Reserved w h) q k e = (k q e).0
-query-admitted m slots life claims ok s (Open t) q k e = let i : t.id / STAGES ≡ q = cc in subst
-    (λ j. j < m) i (running-low m slots life claims ok t.id (λ n. let r : Runs s t.total ≡ Never = sym k.lives ∙ n in absurd (cc)))
-query-admitted m slots life claims ok s (Shut t g) q k e = let i : t.id / STAGES ≡ q = cc in subst
-    (λ j. j < m) i (running-low m slots life claims ok t.id (λ n. let r : Runs s t.total ≡ Never = sym k.lives ∙ n in absurd (cc)))
-query-admitted m slots life claims ok s (Finishing id w h) q k e = let i : id / STAGES ≡ q = cc in subst
-    (λ j. j < m) i (running-low m slots life claims ok id (λ n. let r : Done k.0 ≡ Never = sym k.1 ∙ n in absurd (cc)))
+query-admitted m slots life claims ok s (Open t) q k e = lives-low m slots life claims ok t.id q (cc) (λ n. let r = sym k.lives ∙ n in cc)
+query-admitted m slots life claims ok s (Shut t g) q k e = lives-low m slots life claims ok t.id q (cc) (λ n. let r = sym k.lives ∙ n in cc)
+query-admitted m slots life claims ok s (Finishing id w h) q k e = lives-low m slots life claims ok id q (cc) (λ n. let r = sym k.1 ∙ n in cc)
 
 pub book-admitted : (m : ℕ) (slots : ℕ → SlotState) (life : ℕ → Life) (claims : ℕ → List Morsel) (k w : ℕ) (h : Held) → slots k ≡ Reserved w h → h.query ≡ None
     → IsBook m slots life claims → IsBook (m + 1) (upd slots k (held_on (AdmitGot m) (slots k))) life claims

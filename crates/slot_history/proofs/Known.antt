@@ -12,12 +12,13 @@ use Rattle.slot_history.specs.declared.act.Entry.{Entry}
 use Rattle.slot_history.specs.declared.place.Place.{Place}
 use Rattle.slot_history.specs.declared.place.Place.TheVariants.{Free, Announcing}
 use Rattle.slot_history.specs.States.{ObjectState, slot_of, id_of, is_open}
+use Rattle.slot_history.specs.Sets.{upd}
 use Rattle.slot_history.specs.Steps.{is_in_part, taken, changes_after, returns_after, state_after}
 use Rattle.slot_history.specs.Allowed.{IsAllowed}
 use Rattle.slot_history.specs.Histories.{IsLegal}
 use Rattle.slot_history.specs.Bounds.{IsWithin}
 use Rattle.slot_history.specs.Notices.{IsUntold, MayBe}
-use Rattle.slot_history.specs.LoneTurns.{IsLone, IsKnown, LookIsKnown, QuietIsKnown, ChangesStayTaken, ReturnsStayTaken}
+use Rattle.slot_history.specs.LoneTurns.{IsLone, IsKnown, LookIsKnown, QuietIsKnown, NoticesStayTaken}
 use Rattle.slot_history.proofs.Sets.{upd-same, upd-cases}
 use Rattle.slot_history.proofs.Within.{within}
 use Rattle.slot_history.proofs.Growth.{open-has}
@@ -80,22 +81,24 @@ taken-clear part pending s h = cond_both (is_in_part part s) false (pending s) (
 taken-gone : (pending : ℕ → Bool) (s : ℕ) → taken (s / 64) pending s ≡ false
 taken-gone pending s = ap (λ b. cond b false (pending s)) (eq-eqb (s / 64) (s / 64) refl)
 
-change-clear : (a : Act) (w : ℕ) (p : Place) (f : ℕ → ℕ → Bool) (v s : ℕ) → a ≢ Tell → f v s ≡ false → changes_after w a p f v s ≡ false
-change-clear Tell w p f v s n h = absurd (n refl)
-change-clear (TakeChange part bits) w p f v s n h = upd-cases f w (taken part (f w)) v (λ g. g s ≡ false)
-    (λ e. taken-clear part (f w) s (ap (λ j. f j s) (sym e) ∙ h)) (λ k. h)
-change-clear _ w p f v s n h = h
+-- the notices of one kind after a call
+abbrev notices_after : Bool → ℕ → Act → Place → (ℕ → ℕ → Bool) → ℕ → ℕ → Bool
+notices_after true = returns_after
+notices_after false = changes_after
 
-return-clear : (a : Act) (w : ℕ) (p : Place) (f : ℕ → ℕ → Bool) (v s : ℕ) → a ≢ Tell → f v s ≡ false → returns_after w a p f v s ≡ false
-return-clear Tell w p f v s n h = absurd (n refl)
-return-clear (TakeReturn part bits) w p f v s n h = upd-cases f w (taken part (f w)) v (λ g. g s ≡ false)
-    (λ e. taken-clear part (f w) s (ap (λ j. f j s) (sym e) ∙ h)) (λ k. h)
-return-clear _ w p f v s n h = h
+stays-clear : (part w : ℕ) (f : ℕ → ℕ → Bool) (v s : ℕ) → f v s ≡ false → upd f w (taken part (f w)) v s ≡ false
+stays-clear part w f v s h =
+    upd-cases f w (taken part (f w)) v (λ g. g s ≡ false) (λ e. taken-clear part (f w) s (ap (λ j. f j s) (sym e) ∙ h)) (λ k. h)
 
-pub changes-taken : ChangesStayTaken
-changes-taken d w bits s [] old quiet = ap (λ f. f s) (upd-same (state_after d old).changes w _) ∙ taken-gone ((state_after d old).changes w) s
-changes-taken d w bits s (e ∷ es) old quiet = change-clear e.act e.worker _ _ w s quiet.0 (changes-taken d w bits s es old quiet.1)
+notice-clear : (again : Bool) (a : Act) (w : ℕ) (p : Place) (f : ℕ → ℕ → Bool) (v s : ℕ) → a ≢ Tell → f v s ≡ false → notices_after again w a p f v s ≡ false
+notice-clear again Tell w p f v s n h = absurd (n refl)
+notice-clear true (TakeReturn part bits) w p f v s n h = stays-clear part w f v s h
+notice-clear false (TakeChange part bits) w p f v s n h = stays-clear part w f v s h
+notice-clear true _ w p f v s n h = h
+notice-clear false _ w p f v s n h = h
 
-pub returns-taken : ReturnsStayTaken
-returns-taken d w bits s [] old quiet = ap (λ f. f s) (upd-same (state_after d old).returns w _) ∙ taken-gone ((state_after d old).returns w) s
-returns-taken d w bits s (e ∷ es) old quiet = return-clear e.act e.worker _ _ w s quiet.0 (returns-taken d w bits s es old quiet.1)
+pub notices-taken : NoticesStayTaken
+notices-taken d true w bits s [] old quiet = ap (λ f. f s) (upd-same (state_after d old).returns w _) ∙ taken-gone ((state_after d old).returns w) s
+notices-taken d false w bits s [] old quiet = ap (λ f. f s) (upd-same (state_after d old).changes w _) ∙ taken-gone ((state_after d old).changes w) s
+notices-taken d true w bits s (e ∷ es) old quiet = notice-clear true e.act e.worker _ _ w s quiet.0 (notices-taken d true w bits s es old quiet.1)
+notices-taken d false w bits s (e ∷ es) old quiet = notice-clear false e.act e.worker _ _ w s quiet.0 (notices-taken d false w bits s es old quiet.1)

@@ -21,7 +21,7 @@ use Rattle.slot_history.proofs.Table.{table}
 use Rattle.slot_history.proofs.Holdings.{holder-slot, slots-sound}
 use Rattle.slot_history.proofs.Sets.{upd-same, upd-cases}
 use Rattle.slot_history.proofs.Growth.{open-has}
-use Rattle.slot_history.proofs.Announcements.{untold-next, IsNew, change-next, return-next}
+use Rattle.slot_history.proofs.Announcements.{untold-next, IsNew, notice-next}
 use Rattle.slot_history.proofs.SameTask.{IsSameTask, task-next}
 use Rattle.slot_history.proofs.Records.{group-after, drops-closed, active-after}
 
@@ -90,8 +90,9 @@ not-less-next d S w a s v fine lt same =
           (λ drops here. drops-closed d S w a s fine drops here (same.1 o) o)
           (subst (λ j. MayBe (S.records j s) q) e may) (ap (λ j. (S.records j s).active) (sym e) ∙ h))
           (λ n may h. h);
-      change = ⊎_elim (λ h. ⊎_elim (λ h'. inl (inl h')) (λ new. inr new) (change-next d S w a s v h)) (λ u. inl (untold-next d S w a false s v fine lt u));
-      return_ = ⊎_elim (λ h. ⊎_elim (λ h'. inl (inl h')) (λ act. inr act) (return-next d S w a s v h)) (λ u. inl (untold-next d S w a true s v fine lt u));
+      change = ⊎_elim (λ h. ⊎_elim (λ h'. inl (inl h')) (λ new. inr new) (notice-next false d S w a s v h))
+          (λ u. inl (untold-next d S w a false s v fine lt u));
+      return_ = ⊎_elim (λ h. ⊎_elim (λ h'. inl (inl h')) (λ act. inr act) (notice-next true d S w a s v h)) (λ u. inl (untold-next d S w a true s v fine lt u));
     }
 
 -- ---- an install

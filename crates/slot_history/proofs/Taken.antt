@@ -1,5 +1,5 @@
 -- What a worker knows once it took its notices while all workers were free.
-use Rattle.std.proofs.Common.{◌≡◌, ◌≢◌, ℕ, ◌/◌, true, false, List, [], ◌∷◌, ◌++◌, refl, sym, ap, ◌∙◌, subst, inl, inr, append_assoc}
+use Rattle.std.proofs.Common.{Bool, ◌≡◌, ◌≢◌, ℕ, ◌/◌, true, false, List, [], ◌∷◌, ◌++◌, refl, sym, ap, ◌∙◌, subst, inl, inr, append_assoc}
 use mathlib.Core.Bool.{true≢false}
 use Rattle.slot_history.specs.declared.shape.Shape.{Shape}
 use Rattle.slot_history.specs.declared.act.Act.{Act}
@@ -10,10 +10,10 @@ use Rattle.slot_history.specs.declared.place.Place.TheVariants.{Free}
 use Rattle.slot_history.specs.States.{ObjectState}
 use Rattle.slot_history.specs.Steps.{moved, state_after}
 use Rattle.slot_history.specs.Histories.{entry}
-use Rattle.slot_history.specs.Notices.{IsQuiet}
-use Rattle.slot_history.specs.LoneTurns.{TellsNobody, IsKnown, is_take, AreTakes, TookReturns, TookChanges, LetsIn, TakenIsKnown}
+use Rattle.slot_history.specs.Notices.{notices_of, take_of, IsQuiet}
+use Rattle.slot_history.specs.LoneTurns.{TellsNobody, IsKnown, is_take, AreTakes, Took, LetsIn, TakenIsKnown}
 use Rattle.slot_history.proofs.Sets.{upd-cases}
-use Rattle.slot_history.proofs.Known.{quiet-is-known, changes-taken, returns-taken}
+use Rattle.slot_history.proofs.Known.{quiet-is-known, notices-taken}
 
 take-stays : (d : Shape) (a : Act) (p : Place) → is_take a ≡ true → moved d a p ≡ p
 take-stays d (TakeReturn part bits) p h = refl
@@ -43,30 +43,21 @@ takes-after [] e early takes is all = tt
 takes-after (x ∷ more) e early takes is all =
     let r : AreTakes (x ∷ (more ++ e ∷ early)) = subst AreTakes is all in (r.0, takes-after more e early (more ++ e ∷ early) refl r.1)
 
-took-changes : (d : Shape) (w s : ℕ) (takes old : List Entry) → AreTakes takes → TookChanges w (s / 64) takes
-    → (state_after d (takes ++ old)).changes w s ≡ false
-took-changes d w s takes old all (bits, more, early, is) =
-    let e : Entry = entry w (TakeChange (s / 64) bits) in
+took-clear : (d : Shape) (again : Bool) (w s : ℕ) (takes old : List Entry) → AreTakes takes → Took again w (s / 64) takes
+    → notices_of again (state_after d (takes ++ old)) w s ≡ false
+took-clear d again w s takes old all (bits, more, early, is) =
+    let e : Entry = entry w (take_of again (s / 64) bits) in
     let whole : takes ++ old ≡ more ++ e ∷ (early ++ old) = ap (λ l. l ++ old) is ∙ append_assoc more (e ∷ early) old in
-    ap (λ l. (state_after d l).changes w s) whole ∙ changes-taken d w bits s more (early ++ old)
-    (takes-tell-nobody more (takes-after more e early takes is all))
-
-took-returns : (d : Shape) (w s : ℕ) (takes old : List Entry) → AreTakes takes → TookReturns w (s / 64) takes
-    → (state_after d (takes ++ old)).returns w s ≡ false
-took-returns d w s takes old all (bits, more, early, is) =
-    let e : Entry = entry w (TakeReturn (s / 64) bits) in
-    let whole : takes ++ old ≡ more ++ e ∷ (early ++ old) = ap (λ l. l ++ old) is ∙ append_assoc more (e ∷ early) old in
-    ap (λ l. (state_after d l).returns w s) whole ∙ returns-taken d w bits s more (early ++ old)
-    (takes-tell-nobody more (takes-after more e early takes is all))
+    ap (λ l. notices_of again (state_after d l) w s) whole
+    ∙ notices-taken d again w bits s more (early ++ old) (takes-tell-nobody more (takes-after more e early takes is all))
 
 -- a slot that is known, and not by a notice that is pending
-known-at-once : (S : ObjectState) (s w : ℕ) → S.changes w s ≡ false → S.returns w s ≡ false → IsKnown S s w → LetsIn S w s
-known-at-once S s w unchanged unreturned (inl k) = k
-known-at-once S s w unchanged unreturned (inr (inl pending)) = absurd (true≢false (sym pending ∙ unchanged))
-known-at-once S s w unchanged unreturned (inr (inr (pending, may))) = absurd (true≢false (sym pending ∙ unreturned))
+known-at-once : (S : ObjectState) (s w : ℕ) → ((again : Bool) → notices_of again S w s ≡ false) → IsKnown S s w → LetsIn S w s
+known-at-once S s w clear (inl k) = k
+known-at-once S s w clear (inr (inl pending)) = absurd (true≢false (sym pending ∙ clear false))
+known-at-once S s w clear (inr (inr (pending, may))) = absurd (true≢false (sym pending ∙ clear true))
 
 pub taken-is-known : TakenIsKnown
-taken-is-known d w s takes old low legal quiet all returns changes open_ =
-    let S : ObjectState = state_after d (takes ++ old) in
-    known-at-once S s w (took-changes d w s takes old all changes) (took-returns d w s takes old all returns)
+taken-is-known d w s takes old low legal quiet all took open_ =
+    known-at-once (state_after d (takes ++ old)) s w (λ again. took-clear d again w s takes old all (took again))
     (quiet-is-known d (takes ++ old) legal (takes-quiet d takes old all quiet) s w low open_)

@@ -1,4 +1,5 @@
--- The definitions of histories, lowest first, and the laws that the functions of module `laws` state.
+-- The definitions of histories, lowest first, and the laws that the functions of module `laws`
+-- state.
 pub mod Sets
 pub mod States
 pub mod Steps

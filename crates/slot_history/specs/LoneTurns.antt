@@ -9,7 +9,7 @@ use Rattle.slot_history.specs.declared.place.Place.TheVariants.{Free}
 use Rattle.slot_history.specs.States.{ObjectState, slot_of, id_of, is_open, owes}
 use Rattle.slot_history.specs.Steps.{state_after}
 use Rattle.slot_history.specs.Histories.{IsLegal, entry, admits_of}
-use Rattle.slot_history.specs.Notices.{MayBe, IsQuiet}
+use Rattle.slot_history.specs.Notices.{notices_of, take_of, MayBe, IsQuiet}
 
 -- all calls are of one worker
 abbrev pub IsOnlyBy : ℕ → List Entry → Type 0
@@ -88,13 +88,11 @@ QuietIsKnown d S = IsQuiet d S → (s v : ℕ) → v < d.workers → is_open (S.
     → IsKnown S s v
 
 -- notices that a worker took are not pending before somebody is told
-abbrev pub ChangesStayTaken : Type 0
-ChangesStayTaken = (d : Shape) (w bits s : ℕ) (more old : List Entry) → TellsNobody more
-    → (state_after d (more ++ entry w (TakeChange (s / 64) bits) ∷ old)).changes w s ≡ false
-
-abbrev pub ReturnsStayTaken : Type 0
-ReturnsStayTaken = (d : Shape) (w bits s : ℕ) (more old : List Entry) → TellsNobody more
-    → (state_after d (more ++ entry w (TakeReturn (s / 64) bits) ∷ old)).returns w s ≡ false
+abbrev pub NoticesStayTaken : Type 0
+NoticesStayTaken = (d : Shape) (again : Bool) (w bits s : ℕ) (more old : List Entry)
+    → TellsNobody more
+    → let S = state_after d (more ++ entry w (take_of again (s / 64) bits) ∷ old) in
+    notices_of again S w s ≡ false
 
 -- what `arrivals` answered stays the number of queries as long as none is admitted
 abbrev pub ArrivalsStay : Type 0
@@ -119,14 +117,10 @@ abbrev pub AreTakes : List Entry → Type 0
 AreTakes [] = Unit {0}
 AreTakes (e ∷ es) = (is_take e.act ≡ true) × AreTakes es
 
--- among the calls is a take, by w, of the return notices, and of the change notices, of this part
-abbrev pub TookReturns : ℕ → ℕ → List Entry → Type 0
-TookReturns w part takes = (bits : ℕ) × (more early : List Entry)
-    × (takes ≡ more ++ entry w (TakeReturn part bits) ∷ early)
-
-abbrev pub TookChanges : ℕ → ℕ → List Entry → Type 0
-TookChanges w part takes = (bits : ℕ) × (more early : List Entry)
-    × (takes ≡ more ++ entry w (TakeChange part bits) ∷ early)
+-- among the calls is a take, by w, of the notices of this kind of this part
+abbrev pub Took : Bool → ℕ → ℕ → List Entry → Type 0
+Took again w part takes = (bits : ℕ) × (more early : List Entry)
+    × (takes ≡ more ++ entry w (take_of again part bits) ∷ early)
 
 -- the record of w of an open slot is active and lets it in
 abbrev pub LetsIn : ObjectState → ℕ → ℕ → Type 0
@@ -137,5 +131,5 @@ LetsIn S w s = ((S.records w s).active ≡ true)
 abbrev pub TakenIsKnown : Type 0
 TakenIsKnown = (d : Shape) (w s : ℕ) (takes old : List Entry) → w < d.workers
     → IsLegal d (takes ++ old) → IsQuiet d (state_after d old) → AreTakes takes
-    → TookReturns w (s / 64) takes → TookChanges w (s / 64) takes
+    → ((again : Bool) → Took again w (s / 64) takes)
     → let S = state_after d (takes ++ old) in is_open (S.slots s) ≡ true → LetsIn S w s

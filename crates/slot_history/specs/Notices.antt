@@ -2,8 +2,20 @@
 use Rattle.std.specs.Prelude.{◌≡◌, ℕ, ◌/◌, ◌<◌, ◌≤◌, ◌⊎◌, Bool, true, false, Some, None}
 use Rattle.slot_history.specs.declared.shape.Shape.{Shape}
 use Rattle.slot_history.specs.declared.shape.TheConstants.{STAGES}
+use Rattle.slot_history.specs.declared.act.Act.{Act}
+use Rattle.slot_history.specs.declared.act.Act.TheVariants.{TakeReturn, TakeChange}
 use Rattle.slot_history.specs.declared.place.Place.TheVariants.{Free, Announcing}
 use Rattle.slot_history.specs.States.{NoticeRecord, ObjectState, id_of, has_id, is_open}
+
+-- the pending notices of one kind: return notices where it is `again`, else change notices
+abbrev pub notices_of : Bool → ObjectState → ℕ → ℕ → Bool
+notices_of true S = S.returns
+notices_of false S = S.changes
+
+-- the take of notices of this kind, with its answer
+abbrev pub take_of : Bool → ℕ → ℕ → Act
+take_of true part bits = TakeReturn part bits
+take_of false part bits = TakeChange part bits
 
 -- an announcer of this kind has still to tell the worker of the slot
 abbrev pub IsUntold : ObjectState → Bool → ℕ → ℕ → Type 0

@@ -2,7 +2,7 @@
 //! these laws.
 
 ghost use Rattle.slot_history.specs.Laws.{Always};
-ghost use Rattle.slot_history.specs.LoneTurns.{StaysLone, EndsQuiet, MeetsNobody, RunMeetsNobody, LookIsKnown, QuietIsKnown, ChangesStayTaken, ReturnsStayTaken, ArrivalsStay, AdmitIsGot, TakenIsKnown};
+ghost use Rattle.slot_history.specs.LoneTurns.{StaysLone, EndsQuiet, MeetsNobody, RunMeetsNobody, LookIsKnown, QuietIsKnown, NoticesStayTaken, ArrivalsStay, AdmitIsGot, TakenIsKnown};
 
 /// From a quiet state on, while only one worker calls, the others stay free and it is marked
 /// nowhere. Once it is free too, the state is quiet again.
@@ -45,8 +45,7 @@ pub fn quiet_is_known()
 ///
 /// Ruled out: a take that leaves a bit in its word.
 pub fn stays_taken()
-    ensures changes { ChangesStayTaken }
-    ensures returns { ReturnsStayTaken }
+    ensures { NoticesStayTaken }
 {}
 
 /// Once a worker took the change and the return notices of a slot, from a quiet state on, its

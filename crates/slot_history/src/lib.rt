@@ -11,3 +11,9 @@ pub mod act;
 pub mod laws;
 pub mod place;
 pub mod shape;
+
+pub use crate::act::{Act, Entry};
+pub use crate::place::{Held, Place};
+pub use crate::shape::{
+    MOST_CLAIM, MOST_QUERIES, MOST_SLOTS, MOST_TOTAL, MOST_WORKERS, PARTS, STAGES, Shape,
+};

@@ -43,3 +43,4 @@ pub mod Looks
 pub mod Subject
 pub mod Taken
 pub mod Finishers
+pub mod Inside

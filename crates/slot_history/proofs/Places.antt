@@ -1,13 +1,13 @@
 -- What the table of places says at once: of quiet states, of who is inside, and of cells. Each rules out a state word that
 -- is published only after the look: a worker that saw a slot open would be inside when its task set is finalised.
-use Rattle.std.proofs.Common.{◌≡◌, ◌≢◌, ℕ, ◌<◌, ◌⊎◌, Bool, true, false, not, refl, sym, ap, ◌∙◌, subst, inl, inr, ⊎_elim, eq-eqb, eqb-true}
+use Rattle.std.proofs.Common.{◌≡◌, ◌≢◌, ℕ, ◌<◌, ◌⊎◌, Bool, true, false, eqb, not, refl, sym, ap, ◌∙◌, subst, inl, inr, ⊎_elim, eq-eqb, eqb-true}
 use mathlib.Core.Bool.{true≢false}
-use Rattle.std.proofs.lemmas.Bool.{and_parts, false_from_ne_true}
+use Rattle.std.proofs.lemmas.Bool.{and_from, and_parts, false_from_ne_true}
 use Rattle.slot_history.specs.declared.shape.Shape.{Shape}
 use Rattle.slot_history.specs.declared.place.Held.{Held}
 use Rattle.slot_history.specs.declared.place.Place.{Place}
 use Rattle.slot_history.specs.declared.place.Place.TheVariants.{Free, Inside, Used, Behind, Leading, Holding}
-use Rattle.slot_history.specs.States.{TaskSet, Ending, SlotState, Empty, Reserved, Open, Shut, Finishing, ObjectState, slot_of, id_at, id_of, is_empty, is_open, is_shut, owes, is_inside, has_own_cell, holds}
+use Rattle.slot_history.specs.States.{TaskSet, Ending, SlotState, Empty, Reserved, Open, Shut, Finishing, ObjectState, slot_of, id_at, id_of, is_empty, is_open, is_shut, owes, has_cell, is_inside, has_own_cell, holds}
 use Rattle.slot_history.specs.Notices.{IsQuiet}
 use Rattle.slot_history.specs.Table.{Duty, Visits, Works, Unasked, Owes, Leads, Holds, owing, duty_at_end, duty_of, binds, Meets, IsChain, IsChainOf, IsTable}
 use Rattle.slot_history.specs.Bounds.{AreDebtsWithin}
@@ -15,34 +15,38 @@ use Rattle.slot_history.specs.Laws.{QuietSlots, InsideSlots, OneDebt, ShutInside
 use Rattle.slot_history.proofs.Sets.{pick, count-split, count-fewer}
 use Rattle.slot_history.proofs.Duties.{IsHeldBy, end-cases, end-leads, end-owes, held-mine, owes-duty, owes-slot, leading-leads, leads-slot, holding-holds, holds-slot}
 
-own-cell-slot : (p : Place) (s : ℕ) → has_own_cell p s ≡ true → slot_of p ≡ s
-own-cell-slot (Inside t id) s h = eqb-true t s h
-own-cell-slot (Used t id) s h = eqb-true t s h
-own-cell-slot (Behind t id) s h = eqb-true t s h
-own-cell-slot (Leading t id) s h = eqb-true t s h
-own-cell-slot _ s h = absurd (cc)
+-- ---- who is inside, by its place
+
+-- whoever has its own cell of a slot is inside, at this slot
+pub own-has : (p : Place) (s : ℕ) → has_own_cell p s ≡ true → has_cell p ≡ true
+own-has p s h = (and_parts (has_cell p) (eqb (slot_of p) s) h).0
+
+pub own-cell-slot : (p : Place) (s : ℕ) → has_own_cell p s ≡ true → slot_of p ≡ s
+own-cell-slot p s h = eqb-true (slot_of p) s (and_parts (has_cell p) (eqb (slot_of p) s) h).1
+
+-- with the id that its place names
+pub own-inside : (p : Place) (s : ℕ) → has_own_cell p s ≡ true → is_inside p (id_at p) ≡ true
+own-inside p s h = and_from (has_cell p) (eqb (id_at p) (id_at p)) (own-has p s h) (eq-eqb (id_at p) (id_at p) refl)
+
+pub has-own : (p : Place) → has_cell p ≡ true → has_own_cell p (slot_of p) ≡ true
+has-own p h = and_from (has_cell p) (eqb (slot_of p) (slot_of p)) h (eq-eqb (slot_of p) (slot_of p) refl)
+
+has-binds : (p : Place) → has_cell p ≡ true → binds p ≡ true
+has-binds (Inside t id) h = refl
+has-binds (Used t id) h = refl
+has-binds (Behind t id) h = refl
+has-binds (Leading t id) h = refl
+has-binds _ h = absurd (cc)
 
 own-cell-binds : (p : Place) (s : ℕ) → has_own_cell p s ≡ true → binds p ≡ true
-own-cell-binds (Inside t id) s h = refl
-own-cell-binds (Used t id) s h = refl
-own-cell-binds (Behind t id) s h = refl
-own-cell-binds (Leading t id) s h = refl
-own-cell-binds _ s h = absurd (cc)
+own-cell-binds p s h = has-binds p (own-has p s h)
 
 -- whoever is inside with an id has its own cell of the slot that it names
 pub inside-cell : (p : Place) (id : ℕ) → is_inside p id ≡ true → has_own_cell p (slot_of p) ≡ true
-inside-cell (Inside t jd) id h = eq-eqb t t refl
-inside-cell (Used t jd) id h = eq-eqb t t refl
-inside-cell (Behind t jd) id h = eq-eqb t t refl
-inside-cell (Leading t jd) id h = eq-eqb t t refl
-inside-cell _ id h = absurd (cc)
+inside-cell p id h = has-own p (and_parts (has_cell p) (eqb (id_at p) id) h).0
 
-inside-id : (p : Place) (id : ℕ) → is_inside p id ≡ true → id_at p ≡ id
-inside-id (Inside t jd) id h = eqb-true jd id h
-inside-id (Used t jd) id h = eqb-true jd id h
-inside-id (Behind t jd) id h = eqb-true jd id h
-inside-id (Leading t jd) id h = eqb-true jd id h
-inside-id _ id h = absurd (cc)
+pub inside-id : (p : Place) (id : ℕ) → is_inside p id ≡ true → id_at p ≡ id
+inside-id p id h = eqb-true (id_at p) id (and_parts (has_cell p) (eqb (id_at p) id) h).1
 
 -- ---- slots by the duties that they give
 
@@ -171,6 +175,12 @@ pub held-not : (x : SlotState) (u : ℕ) (h : Held) → IsHeldBy u h x → (is_o
 held-not x u h how open_ = ⊎_elim
     (λ e. ⊎_elim (λ k. true≢false (sym k ∙ ap is_open e)) (λ k. true≢false (sym k ∙ ap is_shut e)) open_)
     (λ r. ⊎_elim (λ k. true≢false (sym k ∙ ap is_open r.1)) (λ k. true≢false (sym k ∙ ap is_shut r.1)) open_) how
+
+-- nobody is inside a slot that is held
+pub held-outside : (d : Shape) (S : ObjectState) → IsTable d S → (s v u : ℕ) (k : Held) → v < d.workers → IsHeldBy u k (S.slots s)
+    → has_own_cell (S.places v) s ≡ false
+held-outside d S ok s v u k low held = false_from_ne_true (has_own_cell (S.places v) s)
+    (λ cell. held-not (S.slots s) u k held (inside-slot-by (S.slots s) v (id_at (S.places v)) (inside-of d S ok s v low cell)).0)
 
 inside-not-held : (d : Shape) (S : ObjectState) → IsTable d S → (s v u : ℕ) → v < d.workers → u < d.workers → has_own_cell (S.places v) s ≡ true
     → holds (S.places u) s ≡ true → ⊥

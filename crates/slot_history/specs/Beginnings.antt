@@ -7,6 +7,26 @@ use Rattle.slot_history.specs.declared.place.Place.TheVariants.{Holding}
 use Rattle.slot_history.specs.States.{finalised_id}
 use Rattle.slot_history.specs.Histories.{IsLegal, Begins, own_calls, place_of, ranges_of, own_record, claims_of, lasts_of, total_of, slot_with, Tiles}
 
+-- the calls that were added leave the place, the ranges and the notice records of w
+pub record StaysWithoutCalls (d : Shape) (w : ℕ) (more early : List Entry) : Type 0 where
+  pub place : place_of d (more ++ early) w ≡ place_of d early w
+  pub ranges : (id : ℕ) → ranges_of d w id (more ++ early) ≡ ranges_of d w id early
+  pub records : (s : ℕ) → own_record d w s (more ++ early) ≡ own_record d w s early
+
+-- What a beginning says of a task set stays: its total and its slot from its install on, and from
+-- its last call on also its claims, and so the ranges of each worker.
+pub record KeepsTaskSets (d : Shape) (h early : List Entry) : Type 0 where
+  pub total : (id total : ℕ) → total_of d id early ≡ Some total → total_of d id h ≡ Some total
+  pub slot : (id s : ℕ) → slot_with d id early ≡ Some s → slot_with d id h ≡ Some s
+  pub last : (id : ℕ) → 0 < lasts_of d id early → lasts_of d id h ≡ 1
+  pub claims : (id : ℕ) → 0 < lasts_of d id early → claims_of d id h ≡ claims_of d id early
+  pub ranges : (w id : ℕ) → 0 < lasts_of d id early → ranges_of d w id h ≡ ranges_of d w id early
+
+-- a task set was finalised, with a total that its claims tile
+abbrev pub IsTiled : Shape → List Entry → ℕ → Type 0
+IsTiled d h id = (0 < lasts_of d id h)
+    × ((total : ℕ) × (total_of d id h ≡ Some total) × Tiles (claims_of d id h) total)
+
 -- ---- the laws, as the functions of module `laws::beginnings` state them
 
 -- a beginning of a legal history is legal
@@ -16,7 +36,8 @@ BeginningsAreLegal = (d : Shape) (h early : List Entry) → IsLegal d h → Begi
 
 -- of two beginnings of one history, one begins the other
 abbrev pub BeginningsNest : Type 0
-BeginningsNest = (h a b : List Entry) → Begins h a → Begins h b → Begins a b ⊎ Begins b a
+BeginningsNest = (h one other : List Entry) → Begins h one → Begins h other
+    → Begins one other ⊎ Begins other one
 
 -- a beginning that has all own calls of every worker is the whole
 abbrev pub WholeByOwnCalls : Type 0
@@ -28,33 +49,15 @@ abbrev pub OwnCallsBetween : Type 0
 OwnCallsBetween = (w : ℕ) (h mid early : List Entry) → Begins h mid → Begins mid early
     → own_calls w h ≡ own_calls w early → own_calls w h ≡ own_calls w mid
 
--- where the calls that were added are not by w, its place, ranges and notice records stay
-pub record StaysWithoutCalls (d : Shape) (w : ℕ) (more early : List Entry) : Type 0 where
-  pub place : place_of d (more ++ early) w ≡ place_of d early w
-  pub ranges : (id : ℕ) → ranges_of d w id (more ++ early) ≡ ranges_of d w id early
-  pub records : (s : ℕ) → own_record d w s (more ++ early) ≡ own_record d w s early
-
+-- calls by others leave the place, the ranges and the notice records of a worker
 abbrev pub OthersLeaveIt : Type 0
 OthersLeaveIt = (d : Shape) (w : ℕ) (more early : List Entry) → own_calls w more ≡ []
     → StaysWithoutCalls d w more early
 
--- What a beginning says of a task set stays: its total and its slot from its install on, and from
--- its last call on also its claims, and so the ranges of each worker.
-pub record KeepsTaskSets (d : Shape) (h early : List Entry) : Type 0 where
-  pub total : (id total : ℕ) → total_of d id early ≡ Some total → total_of d id h ≡ Some total
-  pub slot : (id s : ℕ) → slot_with d id early ≡ Some s → slot_with d id h ≡ Some s
-  pub last : (id : ℕ) → 0 < lasts_of d id early → lasts_of d id h ≡ 1
-  pub claims : (id : ℕ) → 0 < lasts_of d id early → claims_of d id h ≡ claims_of d id early
-  pub ranges : (w id : ℕ) → 0 < lasts_of d id early → ranges_of d w id h ≡ ranges_of d w id early
-
+-- what a beginning of a legal history says of a task set stays
 abbrev pub TaskSetsStay : Type 0
 TaskSetsStay = (d : Shape) (h early : List Entry) → IsLegal d h → Begins h early
     → KeepsTaskSets d h early
-
--- a task set was finalised, with a total that its claims tile
-abbrev pub IsTiled : Shape → List Entry → ℕ → Type 0
-IsTiled d h id = (0 < lasts_of d id h)
-    × ((total : ℕ) × (total_of d id h ≡ Some total) × Tiles (claims_of d id h) total)
 
 -- the task set that a worker finalises is so, by any history in which it is the holder
 abbrev pub HolderTiles : Type 0

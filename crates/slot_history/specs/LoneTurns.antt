@@ -53,6 +53,27 @@ IsKnown S s v = let q = id_of (S.slots s) / STAGES in
     (((S.records v s).active ≡ true) × MayBe (S.records v s) q)
     ⊎ ((S.changes v s ≡ true) ⊎ ((S.returns v s ≡ true) × MayBe (S.records v s) q))
 
+-- the call takes notices
+abbrev pub is_take : Act → Bool
+is_take (TakeReturn part bits) = true
+is_take (TakeChange part bits) = true
+is_take _ = false
+
+-- all calls are takes
+abbrev pub AreTakes : List Entry → Type 0
+AreTakes [] = Unit {0}
+AreTakes (e ∷ es) = (is_take e.act ≡ true) × AreTakes es
+
+-- among the calls is a take, by w, of the notices of this kind of this part
+abbrev pub Took : Bool → ℕ → ℕ → List Entry → Type 0
+Took again w part takes = (bits : ℕ) × (more early : List Entry)
+    × (takes ≡ more ++ entry w (take_of again part bits) ∷ early)
+
+-- the record of w of an open slot is active and lets it in
+abbrev pub LetsIn : ObjectState → ℕ → ℕ → Type 0
+LetsIn S w s = ((S.records w s).active ≡ true)
+    × MayBe (S.records w s) (id_of (S.slots s) / STAGES)
+
 -- ---- the laws, as the functions of module `laws::lone_turns` state them
 
 -- from a quiet state on, while only one worker calls, it is lone
@@ -105,27 +126,6 @@ abbrev pub AdmitIsGot : Type 0
 AdmitIsGot = (d : Shape) (v w q now : ℕ) (more old : List Entry)
     → IsLegal d (entry w (AdmitLost q now) ∷ more ++ entry v (Arrivals q) ∷ old)
     → AdmitsNone more → ⊥
-
--- the call takes notices
-abbrev pub is_take : Act → Bool
-is_take (TakeReturn part bits) = true
-is_take (TakeChange part bits) = true
-is_take _ = false
-
--- all calls are takes
-abbrev pub AreTakes : List Entry → Type 0
-AreTakes [] = Unit {0}
-AreTakes (e ∷ es) = (is_take e.act ≡ true) × AreTakes es
-
--- among the calls is a take, by w, of the notices of this kind of this part
-abbrev pub Took : Bool → ℕ → ℕ → List Entry → Type 0
-Took again w part takes = (bits : ℕ) × (more early : List Entry)
-    × (takes ≡ more ++ entry w (take_of again part bits) ∷ early)
-
--- the record of w of an open slot is active and lets it in
-abbrev pub LetsIn : ObjectState → ℕ → ℕ → Type 0
-LetsIn S w s = ((S.records w s).active ≡ true)
-    × MayBe (S.records w s) (id_of (S.slots s) / STAGES)
 
 -- once a worker took both kinds of notices of a slot from a quiet state on, its record lets it in
 abbrev pub TakenIsKnown : Type 0

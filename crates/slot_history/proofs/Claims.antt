@@ -12,7 +12,7 @@ use Rattle.slot_history.specs.States.{TaskSet, SlotState, Open, Shut, ObjectStat
 use Rattle.slot_history.specs.Steps.{state_after}
 use Rattle.slot_history.specs.Allowed.{IsAllowed}
 use Rattle.slot_history.specs.Histories.{IsLegal, Morsel, Tiles, claims_of, claims_after, ranges_of, ranges_after, ranges_by, place_of, is_install, is_last, lasts_of}
-use Rattle.slot_history.specs.Lives.{Life, Never, Runs, Done, done, life_of, has_task, IsSlotBook}
+use Rattle.slot_history.specs.Lives.{Book, book_of, Life, Never, Runs, Done, done, life_of, has_task, IsSlotBook}
 use Rattle.slot_history.specs.Laws.{NoEarlyClaims, TilesCursor, TilesTotal, FinishingLast}
 use Rattle.slot_history.proofs.Sets.{pick}
 use Rattle.slot_history.proofs.Table.{table}
@@ -50,16 +50,16 @@ no-early-claims d h legal id none =
     let empty : claims_of d id h ≡ [] = (book d h legal).never id never in
     (empty, λ w. ranges-claims d w id h ∙ ap (ranges_by w) empty)
 
-running-tiles : (m : ℕ) (life : ℕ → Life) (claims : ℕ → List Morsel) (s : ℕ) (x : SlotState) → has_task x ≡ true → IsSlotBook m life claims s x
-    → Tiles (claims (task_of x).id) (min (task_of x).cursor (task_of x).total)
-running-tiles m life claims s (Open t) has k = k.tiles
-running-tiles m life claims s (Shut t e) has k = k.tiles
-running-tiles m life claims s _ has k = absurd (cc)
+running-tiles : (B : Book) (s : ℕ) (x : SlotState) → has_task x ≡ true → IsSlotBook B s x
+    → Tiles (B.claims (task_of x).id) (min (task_of x).cursor (task_of x).total)
+running-tiles B s (Open t) has k = k.tiles
+running-tiles B s (Shut t e) has k = k.tiles
+running-tiles B s _ has k = absurd (cc)
 
 pub tiles-cursor : (d : Shape) (h : List Entry) → IsLegal d h → TilesCursor d h
 tiles-cursor d h legal s has = let x : SlotState = (state_after d h).slots s in let t : TaskSet = task_of x in (
   (counts-as d t.id h legal (Runs s t.total) (slot-runs d h legal s has)).2,
-  running-tiles (state_after d h).admitted (λ j. life_of d j h) (λ j. claims_of d j h) s x has ((book d h legal).slot s),
+  running-tiles (book_of d h) s x has ((book d h legal).slot s),
 )
 
 -- a call that finalises claims nothing
@@ -116,5 +116,5 @@ tiles-total d h legal = (
 
 pub finishing-last : (d : Shape) (h : List Entry) → IsLegal d h → FinishingLast d h
 finishing-last d h legal s id w held is =
-    let k = subst (IsSlotBook (state_after d h).admitted (λ j. life_of d j h) (λ j. claims_of d j h) s) is ((book d h legal).slot s) in
+    let k = subst (IsSlotBook (book_of d h) s) is ((book d h legal).slot s) in
     let one : lasts_of d id h ≡ 1 = (counts-as d id h legal (Done k.0) k.1).1 in omega arith

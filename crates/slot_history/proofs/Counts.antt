@@ -12,7 +12,7 @@ use Rattle.slot_history.specs.Steps.{admitted_after, state_after}
 use Rattle.slot_history.specs.Allowed.{IsAllowed}
 use Rattle.slot_history.specs.Histories.{IsLegal, Tiles, claims_of, place_of, is_install, installs_of, is_admit, admits_of, is_last, lasts_of, total_of, slot_with}
 use Rattle.slot_history.specs.Table.{IsTable}
-use Rattle.slot_history.specs.Lives.{Life, Never, Runs, Done, Tally, done, life_of, tally_of, Counts, CountsOf, has_task, IsRunning, IsSlotBook}
+use Rattle.slot_history.specs.Lives.{book_of, Life, Never, Runs, Done, Tally, done, life_of, tally_of, Counts, CountsOf, has_task, IsRunning, IsSlotBook}
 use Rattle.slot_history.specs.Laws.{OnlyOnce}
 use Rattle.slot_history.proofs.Sets.{pick, some-unwrapped}
 use Rattle.slot_history.proofs.Table.{table}
@@ -38,15 +38,14 @@ pub install-never : (d : Shape) (h : List Entry) (w : ℕ) (a : Act) (id : ℕ) 
 install-never d h w a id legal low ok this = let S : ObjectState = state_after d h in
     subst (λ b. IsAllowed d S w b → (life_of d id h ≡ Never) × IsSome (held_at (S.places w)).total) (sym (install-is a id this))
     (λ fine. (
-      (install-fresh d S w id (λ j. life_of d j h) (λ j. claims_of d j h) low (table d h legal) (slots-sound d h legal) fine (book d h legal)).never,
+      (install-fresh d S w id (book_of d h) low (table d h legal) (slots-sound d h legal) fine (book d h legal)).never,
       subst (λ p. IsSome (held_at p).total) (sym fine.2) fine.3.has_total,
     )) ok
 
 -- a task set that a slot has, runs there
-pub slot-runs : (d : Shape) (h : List Entry) → IsLegal d h → (s : ℕ) → has_task ((state_after d h).slots s) ≡ true → let t =
-    task_of ((state_after d h).slots s) in life_of d t.id h ≡ Runs s t.total
-slot-runs d h legal s has = running-life (state_after d h).admitted (λ j. life_of d j h)
-    (λ j. claims_of d j h) s ((state_after d h).slots s) has ((book d h legal).slot s)
+pub slot-runs : (d : Shape) (h : List Entry) → IsLegal d h → (s : ℕ) → has_task ((state_after d h).slots s) ≡ true
+    → let t = task_of ((state_after d h).slots s) in life_of d t.id h ≡ Runs s t.total
+slot-runs d h legal s has = running-life (book_of d h) s ((state_after d h).slots s) has ((book d h legal).slot s)
 
 -- where a call finalises an id, its task set is shut in the slot that its worker names
 last-slot : (d : Shape) (S : ObjectState) (w : ℕ) (a : Act) → w < d.workers → IsTable d S → IsAllowed d S w a → is_last a ≡ true
@@ -66,8 +65,8 @@ last-runs d h w a id legal low ok this at =
     let r = last-slot d S w a low (table d h legal) ok this in
     let s : ℕ = slot_of (S.places w) in
     let t : TaskSet = r.0 in
-    let k : IsRunning (λ j. life_of d j h) (λ j. claims_of d j h) s t =
-    subst (IsSlotBook S.admitted (λ j. life_of d j h) (λ j. claims_of d j h) s) r.2 ((book d h legal).slot s) in
+    let k : IsRunning (book_of d h) s t =
+    subst (IsSlotBook (book_of d h) s) r.2 ((book d h legal).slot s) in
     let is : t.id ≡ id = r.3 ∙ at in (
       t,
       ap (λ j. life_of d j h) (sym is) ∙ k.lives,

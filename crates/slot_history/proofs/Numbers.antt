@@ -14,7 +14,7 @@ use Rattle.slot_history.specs.States.{SlotState, Open, Shut, Finishing, ObjectSt
 use Rattle.slot_history.specs.Steps.{state_after}
 use Rattle.slot_history.specs.Allowed.{IsAllowed}
 use Rattle.slot_history.specs.Histories.{IsLegal, Called, Morsel, entry, place_of, claims_of, claims_after, is_install, installs_of, slot_with}
-use Rattle.slot_history.specs.Lives.{Life, Never, IsSlotBook, life_of}
+use Rattle.slot_history.specs.Lives.{Book, book_of, Never, IsSlotBook, life_of}
 use Rattle.slot_history.specs.Table.{IsTable}
 use Rattle.slot_history.specs.Bounds.{IsPlaceWithin}
 use Rattle.slot_history.specs.Numbers.{names_id, named_id, PlacesNameIds, AreIdsWithin, AreInstallsWithin, AreClaimsWithin}
@@ -29,18 +29,18 @@ use Rattle.slot_history.proofs.Beginnings.{begins-legal}
 
 -- ---- ids
 
-some-life : (admitted : ℕ) (life : ℕ → Life) (claims : ℕ → List Morsel) (s : ℕ) (x : SlotState) → has_id x ≡ true → IsSlotBook admitted life claims s x
-    → life (id_of x) ≢ Never
-some-life admitted life claims s (Open t) has b = λ e. let r = sym b.lives ∙ e in cc
-some-life admitted life claims s (Shut t g) has b = λ e. let r = sym b.lives ∙ e in cc
-some-life admitted life claims s (Finishing id w h) has b = λ e. let r = sym b.1 ∙ e in cc
-some-life admitted life claims s _ has b = absurd (cc)
+some-life : (B : Book) (s : ℕ) (x : SlotState) → has_id x ≡ true → IsSlotBook B s x
+    → B.life (id_of x) ≢ Never
+some-life B s (Open t) has b = λ e. let r = sym b.lives ∙ e in cc
+some-life B s (Shut t g) has b = λ e. let r = sym b.lives ∙ e in cc
+some-life B s (Finishing id w h) has b = λ e. let r = sym b.1 ∙ e in cc
+some-life B s _ has b = absurd (cc)
 
 -- a task set that was installed is of a query of the shape
 life-low : (d : Shape) (h : List Entry) → IsLegal d h → (id : ℕ) → life_of d id h ≢ Never → id < STAGES * d.queries
 life-low d h legal id lives =
     let S : ObjectState = state_after d h in
-    let low : id / STAGES < S.admitted = running-low S.admitted S.slots (λ j. life_of d j h) (λ j. claims_of d j h) (book d h legal) id lives in
+    let low : id / STAGES < S.admitted = running-low (book_of d h) S.slots (book d h legal) id lives in
     let most = (within d h legal).admitted in omega arith
 
 pub installed-low : (d : Shape) (h : List Entry) → IsLegal d h → (id : ℕ) → 0 < installs_of id h → id < STAGES * d.queries
@@ -51,7 +51,7 @@ pub slot-id-installed : (d : Shape) (h : List Entry) → IsLegal d h → (s : �
     → 0 < installs_of (id_of ((state_after d h).slots s)) h
 slot-id-installed d h legal s has =
     let S : ObjectState = state_after d h in let id : ℕ = id_of (S.slots s) in
-    lives-installed d id h legal (some-life S.admitted (λ j. life_of d j h) (λ j. claims_of d j h) s (S.slots s) has ((book d h legal).slot s))
+    lives-installed d id h legal (some-life (book_of d h) s (S.slots s) has ((book d h legal).slot s))
 
 pub id-low : (d : Shape) (h : List Entry) → IsLegal d h → (s : ℕ) → has_id ((state_after d h).slots s) ≡ true
     → id_of ((state_after d h).slots s) < STAGES * d.queries

@@ -15,10 +15,10 @@ use Rattle.slot_history.specs.declared.place.Place.{Place}
 use Rattle.slot_history.specs.States.{Finishing, ObjectState, slot_of, next_id, task_at}
 use Rattle.slot_history.specs.Steps.{site, state_after}
 use Rattle.slot_history.specs.Allowed.{IsAllowed}
-use Rattle.slot_history.specs.Histories.{IsLegal, Begins, place_of, claims_of, installs_of, lasts_of, slot_with, renews, task_given, task_in}
+use Rattle.slot_history.specs.Histories.{IsLegal, Begins, place_of, installs_of, lasts_of, slot_with, renews, task_given, task_in}
 use Rattle.slot_history.specs.Table.{IsTable}
 use Rattle.slot_history.specs.Bounds.{IsReservation, IsFinalisation, IsSlotSound, AreSlotsSound}
-use Rattle.slot_history.specs.Lives.{Never, life_of}
+use Rattle.slot_history.specs.Lives.{book_of, Never, life_of}
 use Rattle.slot_history.specs.Laws.{StagesInOrder, QueryKeepsSlot}
 use Rattle.slot_history.proofs.Beginnings.{begins-cases}
 use Rattle.slot_history.proofs.TaskSetsKept.{installs-grow}
@@ -67,8 +67,7 @@ given-is _ id e = absurd (cc)
 first-new : (d : Shape) (h : List Entry) (w id jd : ℕ) → IsLegal d h → w < d.workers → IsAllowed d (state_after d h) w (Install id) → id % STAGES ≡ 0
     → jd / STAGES ≡ id / STAGES → installs_of jd h ≡ 0
 first-new d h w id jd legal low ok first same =
-    let fresh = install-fresh d (state_after d h) w id (λ j. life_of d j h)
-    (λ j. claims_of d j h) low (table d h legal) (slots-sound d h legal) ok (book d h legal) in
+    let fresh = install-fresh d (state_after d h) w id (book_of d h) low (table d h legal) (slots-sound d h legal) ok (book d h legal) in
     let never : life_of d jd h ≡ Never = dite (ℕ_discrete jd id) (λ e. ap (λ j. life_of d j h) e ∙ fresh.never) (λ ne. fresh.later jd (omega arith) same) in
     (counts-as d jd h legal Never never).0
 

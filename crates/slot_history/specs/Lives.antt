@@ -74,41 +74,51 @@ query_in (Open t) = Some (t.id / STAGES)
 query_in (Shut t end) = Some (t.id / STAGES)
 query_in (Finishing id w held) = Some (id / STAGES)
 
+-- the book of task sets: how many queries were admitted, what became of each task set, and the
+-- claims of it
+pub record Book : Type 0 where
+  pub admitted : ℕ
+  pub life : ℕ → Life
+  pub claims : ℕ → List Morsel
+
+abbrev pub book_of : Shape → List Entry → Book
+book_of d h = record {
+  admitted = (state_after d h).admitted;
+  life = λ id. life_of d id h;
+  claims = λ id. claims_of d id h;
+}
+
 -- the later task sets of its query were never installed
-abbrev pub AreLaterNever : (ℕ → Life) → ℕ → Type 0
-AreLaterNever life id = (j : ℕ) → id < j → j / STAGES ≡ id / STAGES → life j ≡ Never
+abbrev pub AreLaterNever : Book → ℕ → Type 0
+AreLaterNever B id = (j : ℕ) → id < j → j / STAGES ≡ id / STAGES → B.life j ≡ Never
 
 -- the task set t runs in the slot s, and its claims tile what was claimed of it
-pub record IsRunning (life : ℕ → Life) (claims : ℕ → List Morsel) (s : ℕ) (t : TaskSet)
-    : Type 0 where
-  pub lives : life t.id ≡ Runs s t.total
-  pub tiles : Tiles (claims t.id) (min t.cursor t.total)
-  pub later : AreLaterNever life t.id
+pub record IsRunning (B : Book) (s : ℕ) (t : TaskSet) : Type 0 where
+  pub lives : B.life t.id ≡ Runs s t.total
+  pub tiles : Tiles (B.claims t.id) (min t.cursor t.total)
+  pub later : AreLaterNever B t.id
 
--- what a slot knows of the task sets of its query, where so many queries were admitted
-abbrev pub IsSlotBook : ℕ → (ℕ → Life) → (ℕ → List Morsel) → ℕ → SlotState → Type 0
-IsSlotBook admitted life claims s Empty = Unit {0}
-IsSlotBook admitted life claims s (Reserved w held) = (q : ℕ) → held.query ≡ Some q → (q < admitted)
-    × ((id : ℕ) → id / STAGES ≡ q → life id ≡ Never)
-IsSlotBook admitted life claims s (Open t) = IsRunning life claims s t
-IsSlotBook admitted life claims s (Shut t end) = IsRunning life claims s t
-IsSlotBook admitted life claims s (Finishing id w held) = (total : ℕ) × (life id ≡ Done total)
-    × AreLaterNever life id
+-- what a slot in this state knows of the task sets of its query
+abbrev pub IsSlotBook : Book → ℕ → SlotState → Type 0
+IsSlotBook B s Empty = Unit {0}
+IsSlotBook B s (Reserved w held) = (q : ℕ) → held.query ≡ Some q
+    → (q < B.admitted) × ((id : ℕ) → id / STAGES ≡ q → B.life id ≡ Never)
+IsSlotBook B s (Open t) = IsRunning B s t
+IsSlotBook B s (Shut t end) = IsRunning B s t
+IsSlotBook B s (Finishing id w held) = (total : ℕ) × (B.life id ≡ Done total) × AreLaterNever B id
 
--- The book of task sets: each slot runs its own; a task set that runs is in its slot, one that was
--- never installed has no claims, none of a query that was not admitted was installed, and no two
--- slots serve one query.
-pub record IsBook (admitted : ℕ) (slots : ℕ → SlotState) (life : ℕ → Life)
-    (claims : ℕ → List Morsel) : Type 0 where
-  pub slot : (s : ℕ) → IsSlotBook admitted life claims s (slots s)
-  pub runs : (id s total : ℕ) → life id ≡ Runs s total
+-- The book is right: each slot runs its own task set; a task set that runs is in its slot, one that
+-- was never installed has no claims, none of a query that was not admitted was installed, and no
+-- two slots serve one query.
+pub record IsBook (B : Book) (slots : ℕ → SlotState) : Type 0 where
+  pub slot : (s : ℕ) → IsSlotBook B s (slots s)
+  pub runs : (id s total : ℕ) → B.life id ≡ Runs s total
       → (has_task (slots s) ≡ true) × ((task_of (slots s)).id ≡ id)
-  pub never : (id : ℕ) → life id ≡ Never → claims id ≡ []
-  pub late : (id : ℕ) → admitted ≤ id / STAGES → life id ≡ Never
+  pub never : (id : ℕ) → B.life id ≡ Never → B.claims id ≡ []
+  pub late : (id : ℕ) → B.admitted ≤ id / STAGES → B.life id ≡ Never
   pub apart : (s other q : ℕ) → query_in (slots s) ≡ Some q → query_in (slots other) ≡ Some q
       → s ≡ other
 
--- the book of a history
+-- the book of a history is right
 abbrev pub IsBookOf : Shape → List Entry → Type 0
-IsBookOf d h = let S = state_after d h in
-    IsBook S.admitted S.slots (λ id. life_of d id h) (λ id. claims_of d id h)
+IsBookOf d h = IsBook (book_of d h) (state_after d h).slots

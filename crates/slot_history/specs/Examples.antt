@@ -36,45 +36,37 @@ pair_answers = opened_answers ++ (Tell ∷ Tell ∷ [])
 abbrev pub PaysBeforeSweep : Type 0
 PaysBeforeSweep =
     answers_of 2 (pair_calls ++ ((0, Entering 0) ∷ (0, Looking) ∷ (0, Claiming 16) ∷ (1, Entering 0)
-    ∷ (0, Shutting) ∷ (0, Leaving) ∷ (0, Marking)
-    ∷ (1, Looking) ∷ (1, Leaving) ∷ (1, Paying) ∷ (0, Sweeping) ∷ []))
+    ∷ (0, Shutting) ∷ (0, Leaving) ∷ (0, Marking) ∷ (1, Looking) ∷ (1, Leaving) ∷ (1, Paying)
+    ∷ (0, Sweeping) ∷ []))
     ≡ pair_answers ++ (Enter 0 ∷ LookOpen 0 ∷ ClaimUsed 16 ∷ Enter 0 ∷ ShutWon ∷ LeaveLeft
-    ∷ MarkMarked
-    ∷ LookInvalid ∷ LeaveOwe 0 ∷ PayDone ∷ SweepLast ∷ [])
+    ∷ MarkMarked ∷ LookInvalid ∷ LeaveOwe 0 ∷ PayDone ∷ SweepLast ∷ [])
 
 -- two workers do so
 abbrev pub BothPayBeforeSweep : Type 0
 BothPayBeforeSweep =
     answers_of 3 (opened_calls ++ ((0, Telling) ∷ (0, Telling) ∷ (0, Telling) ∷ (0, Entering 0)
-    ∷ (0, Looking)
-    ∷ (0, Claiming 16) ∷ (1, Entering 0) ∷ (2, Entering 0)
-    ∷ (0, Shutting) ∷ (0, Leaving) ∷ (0, Marking) ∷ (0, Marking) ∷ (1, Looking) ∷ (2, Looking)
-    ∷ (1, Leaving)
+    ∷ (0, Looking) ∷ (0, Claiming 16) ∷ (1, Entering 0) ∷ (2, Entering 0) ∷ (0, Shutting)
+    ∷ (0, Leaving) ∷ (0, Marking) ∷ (0, Marking) ∷ (1, Looking) ∷ (2, Looking) ∷ (1, Leaving)
     ∷ (1, Paying) ∷ (2, Leaving) ∷ (2, Paying) ∷ (0, Sweeping) ∷ []))
     ≡ opened_answers ++ (Tell ∷ Tell ∷ Tell ∷ Enter 0 ∷ LookOpen 0 ∷ ClaimUsed 16 ∷ Enter 0
-    ∷ Enter 0
-    ∷ ShutWon ∷ LeaveLeft ∷ MarkMarked ∷ MarkMarked ∷ LookInvalid ∷ LookInvalid ∷ LeaveOwe 0
-    ∷ PayDone
-    ∷ LeaveOwe 0 ∷ PayDone ∷ SweepLast ∷ [])
+    ∷ Enter 0 ∷ ShutWon ∷ LeaveLeft ∷ MarkMarked ∷ MarkMarked ∷ LookInvalid ∷ LookInvalid
+    ∷ LeaveOwe 0 ∷ PayDone ∷ LeaveOwe 0 ∷ PayDone ∷ SweepLast ∷ [])
 
 -- a worker that looked before the task set was installed is marked for it, learns the id from its
 -- leave, and pays last
 abbrev pub StrayPaysLast : Type 0
 StrayPaysLast =
     answers_of 2 ((1, Entering 0) ∷ (1, Looking) ∷ (pair_calls ++ ((0, Entering 0) ∷ (0, Looking)
-    ∷ (0, Claiming 16) ∷ (0, Shutting) ∷ (0, Leaving) ∷ (0, Marking) ∷ (0, Sweeping)
-    ∷ (1, Leaving) ∷ (1, Paying) ∷ (1, Noting 1) ∷ (1, Releasing) ∷ [])))
-    ≡ Enter 0 ∷ LookVacant ∷ (pair_answers
-    ++ (Enter 0 ∷ LookOpen 0 ∷ ClaimUsed 16 ∷ ShutWon ∷ LeaveLeft
-    ∷ MarkMarked ∷ SweepOthers 1
-    ∷ LeaveOwe 0 ∷ PayLast ∷ Note 1 ∷ Release ∷ []))
+    ∷ (0, Claiming 16) ∷ (0, Shutting) ∷ (0, Leaving) ∷ (0, Marking) ∷ (0, Sweeping) ∷ (1, Leaving)
+    ∷ (1, Paying) ∷ (1, Noting 1) ∷ (1, Releasing) ∷ [])))
+    ≡ Enter 0 ∷ LookVacant ∷ (pair_answers ++ (Enter 0 ∷ LookOpen 0 ∷ ClaimUsed 16 ∷ ShutWon
+    ∷ LeaveLeft ∷ MarkMarked ∷ SweepOthers 1 ∷ LeaveOwe 0 ∷ PayLast ∷ Note 1 ∷ Release ∷ []))
 
 -- a slot that is reserved or open is taken
 abbrev pub SlotIsTaken : Type 0
 SlotIsTaken =
     answers_of 2 ((0, Reserving 0) ∷ (1, Reserving 0) ∷ (0, Admitting 0) ∷ (0, Totalling 7)
-    ∷ (0, Installing 0)
-    ∷ (1, Reserving 0) ∷ [])
+    ∷ (0, Installing 0) ∷ (1, Reserving 0) ∷ [])
     ≡ ReserveGot 0 ∷ ReserveTaken 0 1 ∷ AdmitGot 0 ∷ Total 7 ∷ Install 0 ∷ ReserveTaken 0 6 ∷ []
 
 -- a slot is filled again while a worker has entered it and not looked: it sees the new task set,
@@ -82,14 +74,12 @@ SlotIsTaken =
 abbrev pub SlotIsFilledAgain : Type 0
 SlotIsFilledAgain =
     answers_of 2 (pair_calls ++ ((0, Entering 0) ∷ (0, Looking) ∷ (0, Claiming 16) ∷ (0, Shutting)
-    ∷ (0, Leaving)
-    ∷ (0, Marking) ∷ (1, Entering 0) ∷ (0, Sweeping) ∷ (0, Noting 1) ∷ (0, Releasing)
+    ∷ (0, Leaving) ∷ (0, Marking) ∷ (1, Entering 0) ∷ (0, Sweeping) ∷ (0, Noting 1) ∷ (0, Releasing)
     ∷ (0, Reserving 0) ∷ (0, Admitting 1) ∷ (0, Totalling 5) ∷ (0, Installing 8) ∷ (1, Looking)
     ∷ (1, Claiming 16) ∷ []))
     ≡ pair_answers ++ (Enter 0 ∷ LookOpen 0 ∷ ClaimUsed 16 ∷ ShutWon ∷ LeaveLeft ∷ MarkMissed
-    ∷ Enter 0 ∷ SweepLast
-    ∷ Note 1 ∷ Release
-    ∷ ReserveGot 0 ∷ AdmitGot 1 ∷ Total 5 ∷ Install 8 ∷ LookOpen 8 ∷ ClaimRange 16 0 5 ∷ [])
+    ∷ Enter 0 ∷ SweepLast ∷ Note 1 ∷ Release ∷ ReserveGot 0 ∷ AdmitGot 1 ∷ Total 5 ∷ Install 8
+    ∷ LookOpen 8 ∷ ClaimRange 16 0 5 ∷ [])
 
 -- A worker takes the return notice of a slot whose change notice is still to come: the slot's
 -- second query is announced by worker 0, and its second stage by worker 1, which is faster.
@@ -97,25 +87,16 @@ abbrev pub NoticesCross : Type 0
 NoticesCross =
     answers_of 3 (opened_calls ++ ((0, Telling) ∷ (0, Telling) ∷ (0, Telling) ∷ (2, TakingChange 0)
     ∷ (2, Entering 0) ∷ (2, Looking) ∷ (2, Claiming 16) ∷ (2, Shutting) ∷ (2, Leaving)
-    ∷ (2, Marking)
-    ∷ (2, Marking) ∷ (2, Sweeping) ∷ (2, Noting 1) ∷ (2, Releasing)
+    ∷ (2, Marking) ∷ (2, Marking) ∷ (2, Sweeping) ∷ (2, Noting 1) ∷ (2, Releasing)
     ∷ (0, Reserving 0) ∷ (0, Admitting 1) ∷ (0, Totalling 0) ∷ (0, Installing 8) ∷ (0, Telling)
-    ∷ (0, Telling)
-    ∷ (1, TakingChange 0) ∷ (1, Entering 0) ∷ (1, Looking) ∷ (1, Claiming 16) ∷ (1, Shutting)
-    ∷ (1, Leaving)
-    ∷ (1, Marking) ∷ (1, Marking) ∷ (1, Sweeping) ∷ (1, Noting 1) ∷ (1, Totalling 0)
-    ∷ (1, Installing 9)
-    ∷ (1, Telling) ∷ (1, Telling) ∷ (1, Telling)
+    ∷ (0, Telling) ∷ (1, TakingChange 0) ∷ (1, Entering 0) ∷ (1, Looking) ∷ (1, Claiming 16)
+    ∷ (1, Shutting) ∷ (1, Leaving) ∷ (1, Marking) ∷ (1, Marking) ∷ (1, Sweeping) ∷ (1, Noting 1)
+    ∷ (1, Totalling 0) ∷ (1, Installing 9) ∷ (1, Telling) ∷ (1, Telling) ∷ (1, Telling)
     ∷ (2, TakingReturn 0) ∷ (2, TakingChange 0) ∷ (2, Entering 0) ∷ (2, Looking) ∷ (2, Leaving)
-    ∷ (0, Telling)
-    ∷ (2, TakingChange 0) ∷ (2, AskingArrivals) ∷ []))
+    ∷ (0, Telling) ∷ (2, TakingChange 0) ∷ (2, AskingArrivals) ∷ []))
     ≡ opened_answers ++ (Tell ∷ Tell ∷ Tell ∷ TakeChange 0 1 ∷ Enter 0 ∷ LookOpen 0 ∷ ClaimUsed 16
-    ∷ ShutWon
-    ∷ LeaveLeft ∷ MarkMissed ∷ MarkMissed ∷ SweepLast ∷ Note 1 ∷ Release
-    ∷ ReserveGot 0 ∷ AdmitGot 1 ∷ Total 0 ∷ Install 8 ∷ Tell ∷ Tell
-    ∷ TakeChange 0 1 ∷ Enter 0 ∷ LookOpen 8 ∷ ClaimUsed 16 ∷ ShutWon ∷ LeaveLeft ∷ MarkMissed
-    ∷ MarkMissed
-    ∷ SweepLast ∷ Note 1 ∷ Total 0 ∷ Install 9 ∷ Tell ∷ Tell ∷ Tell
-    ∷ TakeReturn 0 1 ∷ TakeChange 0 0 ∷ Enter 0 ∷ LookOpen 9 ∷ LeaveLeft ∷ Tell ∷ TakeChange 0 1
-    ∷ Arrivals 2
-    ∷ [])
+    ∷ ShutWon ∷ LeaveLeft ∷ MarkMissed ∷ MarkMissed ∷ SweepLast ∷ Note 1 ∷ Release ∷ ReserveGot 0
+    ∷ AdmitGot 1 ∷ Total 0 ∷ Install 8 ∷ Tell ∷ Tell ∷ TakeChange 0 1 ∷ Enter 0 ∷ LookOpen 8
+    ∷ ClaimUsed 16 ∷ ShutWon ∷ LeaveLeft ∷ MarkMissed ∷ MarkMissed ∷ SweepLast ∷ Note 1 ∷ Total 0
+    ∷ Install 9 ∷ Tell ∷ Tell ∷ Tell ∷ TakeReturn 0 1 ∷ TakeChange 0 0 ∷ Enter 0 ∷ LookOpen 9
+    ∷ LeaveLeft ∷ Tell ∷ TakeChange 0 1 ∷ Arrivals 2 ∷ [])

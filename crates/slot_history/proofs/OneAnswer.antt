@@ -11,7 +11,7 @@ use Rattle.slot_history.specs.States.{SlotState, Empty, Reserved, Open, Shut, Fi
 use Rattle.slot_history.specs.Steps.{ended}
 use Rattle.slot_history.specs.Allowed.{IsAllowed, debts, next_is_at}
 use Rattle.slot_history.specs.Table.{IsTable}
-use Rattle.slot_history.specs.Calls.{Call, Entering, Looking, Claiming, Shutting, Leaving, Paying, Marking, Sweeping, Reserving, Admitting, AskingArrivals, AskingFinished, Noting, Totalling, Installing, Releasing, Telling, TakingReturn, TakingChange, call_of, MayCall, looked_at, answer_at, call_site, reply_of, IsAnswered}
+use Rattle.slot_history.specs.Calls.{Call, Entering, Looking, Claiming, Shutting, Leaving, Paying, Marking, Sweeping, Reserving, Admitting, AskingArrivals, AskingFinished, NotingDone, SettingTotal, Installing, Releasing, AnnouncingNext, TakingReturn, TakingChange, call_of, MayCall, looked_at, answer_at, call_site, reply_of, IsAnswered}
 use Rattle.slot_history.proofs.Records.{shut-closed}
 use Rattle.slot_history.proofs.Masks.{mask-is, mask-only}
 use Rattle.slot_history.proofs.Places.{inside-slots}
@@ -73,11 +73,11 @@ answered d S tab w (Admitting q) low ok = cond_both (eqb S.admitted q) (AdmitGot
     (λ k. (ok.0, ok.1, ok.2, ok.3, ok.4, refl, λ e. true≢false (sym (eq-eqb S.admitted q e) ∙ k)))
 answered d S tab w AskingArrivals low ok = refl
 answered d S tab w AskingFinished low ok = refl
-answered d S tab w (Noting k) low ok = ok
-answered d S tab w (Totalling t) low ok = ok
+answered d S tab w (NotingDone k) low ok = ok
+answered d S tab w (SettingTotal t) low ok = ok
 answered d S tab w (Installing id) low ok = ok
 answered d S tab w Releasing low ok = ok
-answered d S tab w Telling low ok = ok
+answered d S tab w AnnouncingNext low ok = ok
 answered d S tab w (TakingReturn part) low ok = (ok, mask-is part (S.returns w))
 answered d S tab w (TakingChange part) low ok = (ok, mask-is part (S.changes w))
 

@@ -11,7 +11,7 @@ use Rattle.slot_history.specs.States.{SlotState, Empty, Reserved, Open, Shut, Fi
 use Rattle.slot_history.specs.Steps.{ended}
 use Rattle.slot_history.specs.Allowed.{IsAllowed, IsReady, debts, next_is_at}
 
--- a call with its numbers
+-- a call with its numbers, under the name of the call of a station
 pub data Call : Type 0 where
   Entering : ℕ → Call
   Looking : Call
@@ -25,11 +25,11 @@ pub data Call : Type 0 where
   Admitting : ℕ → Call
   AskingArrivals : Call
   AskingFinished : Call
-  Noting : ℕ → Call
-  Totalling : ℕ → Call
+  NotingDone : ℕ → Call
+  SettingTotal : ℕ → Call
   Installing : ℕ → Call
   Releasing : Call
-  Telling : Call
+  AnnouncingNext : Call
   TakingReturn : ℕ → Call
   TakingChange : ℕ → Call
 
@@ -57,11 +57,11 @@ call_of (AdmitGot q) = Admitting q
 call_of (AdmitLost q now) = Admitting q
 call_of (Arrivals n) = AskingArrivals
 call_of (Finished n) = AskingFinished
-call_of (Note n) = Noting n
-call_of (Total n) = Totalling n
+call_of (Note n) = NotingDone n
+call_of (Total n) = SettingTotal n
 call_of (Install id) = Installing id
 call_of Release = Releasing
-call_of Tell = Telling
+call_of Tell = AnnouncingNext
 call_of (TakeReturn part bits) = TakingReturn part
 call_of (TakeChange part bits) = TakingChange part
 
@@ -82,15 +82,15 @@ MayAt d p (Admitting q) = (s : ℕ) × (held : Held) × (p ≡ Holding s held) �
     × (q < d.queries)
 MayAt d p AskingArrivals = Unit {0}
 MayAt d p AskingFinished = Unit {0}
-MayAt d p (Noting n) = (s : ℕ) × (held : Held) × (p ≡ Holding s held) × IsSome held.query
+MayAt d p (NotingDone n) = (s : ℕ) × (held : Held) × (p ≡ Holding s held) × IsSome held.query
     × (held.noted ≡ 0) × (0 < n) × (held.stage + n ≤ STAGES)
-MayAt d p (Totalling n) = (s : ℕ) × (held : Held) × (p ≡ Holding s held) × IsSome held.query
+MayAt d p (SettingTotal n) = (s : ℕ) × (held : Held) × (p ≡ Holding s held) × IsSome held.query
     × (n ≤ MOST_TOTAL)
 MayAt d p (Installing id) = (s : ℕ) × (held : Held) × (p ≡ Holding s held) × IsReady held
     × (id ≡ next_id held)
 MayAt d p Releasing = (s : ℕ) × (held : Held) × (p ≡ Holding s held)
     × ((held.query ≡ None) ⊎ (0 < held.noted))
-MayAt d p Telling = (s : ℕ) × (again : Bool) × (told : ℕ) × (p ≡ Announcing s again told)
+MayAt d p AnnouncingNext = (s : ℕ) × (again : Bool) × (told : ℕ) × (p ≡ Announcing s again told)
 MayAt d p (TakingReturn part) = part < PARTS
 MayAt d p (TakingChange part) = part < PARTS
 
@@ -126,11 +126,11 @@ answer_at d S w (Reserving s) x = cond (is_empty x) (ReserveGot s) (ReserveTaken
 answer_at d S w (Admitting q) x = cond (eqb S.admitted q) (AdmitGot q) (AdmitLost q S.admitted)
 answer_at d S w AskingArrivals x = Arrivals S.admitted
 answer_at d S w AskingFinished x = Finished S.finished
-answer_at d S w (Noting n) x = Note n
-answer_at d S w (Totalling n) x = Total n
+answer_at d S w (NotingDone n) x = Note n
+answer_at d S w (SettingTotal n) x = Total n
 answer_at d S w (Installing id) x = Install id
 answer_at d S w Releasing x = Release
-answer_at d S w Telling x = Tell
+answer_at d S w AnnouncingNext x = Tell
 answer_at d S w (TakingReturn part) x =
     TakeReturn part (mask_of 64 (λ k. S.returns w (part * 64 + k)))
 answer_at d S w (TakingChange part) x =

@@ -5,7 +5,7 @@ use Rattle.slot_history.specs.declared.act.Act.{Act}
 use Rattle.slot_history.specs.declared.act.Act.TheVariants.{Enter, LookOpen, LookInvalid, LookVacant, ClaimRange, ClaimUsed, ShutWon, LeaveLeft, LeaveOwe, PayLast, PayDone, MarkMarked, MarkMissed, SweepLast, SweepOthers, ReserveGot, ReserveTaken, AdmitGot, Arrivals, Note, Total, Install, Release, Tell, TakeReturn, TakeChange}
 use Rattle.slot_history.specs.States.{ObjectState, opening}
 use Rattle.slot_history.specs.Steps.{next}
-use Rattle.slot_history.specs.Calls.{Call, Entering, Looking, Claiming, Shutting, Leaving, Paying, Marking, Sweeping, Reserving, Admitting, AskingArrivals, Noting, Totalling, Installing, Releasing, Telling, TakingReturn, TakingChange, reply_of}
+use Rattle.slot_history.specs.Calls.{Call, Entering, Looking, Claiming, Shutting, Leaving, Paying, Marking, Sweeping, Reserving, Admitting, AskingArrivals, NotingDone, SettingTotal, Installing, Releasing, AnnouncingNext, TakingReturn, TakingChange, reply_of}
 
 -- the answers to calls, each with its worker, from a state on
 abbrev pub answers_from : Shape → ObjectState → List (ℕ × Call) → List Act
@@ -20,14 +20,14 @@ answers_of workers calls = answers_from
 
 -- worker 0 opens slot 0 for the first stage of query 0, without tuples, and tells nobody yet
 abbrev opened_calls : List (ℕ × Call)
-opened_calls = (0, Reserving 0) ∷ (0, Admitting 0) ∷ (0, Totalling 0) ∷ (0, Installing 0) ∷ []
+opened_calls = (0, Reserving 0) ∷ (0, Admitting 0) ∷ (0, SettingTotal 0) ∷ (0, Installing 0) ∷ []
 
 abbrev opened_answers : List Act
 opened_answers = ReserveGot 0 ∷ AdmitGot 0 ∷ Total 0 ∷ Install 0 ∷ []
 
 -- of two workers, worker 0 opens the slot and tells both
 abbrev pair_calls : List (ℕ × Call)
-pair_calls = opened_calls ++ ((0, Telling) ∷ (0, Telling) ∷ [])
+pair_calls = opened_calls ++ ((0, AnnouncingNext) ∷ (0, AnnouncingNext) ∷ [])
 
 abbrev pair_answers : List Act
 pair_answers = opened_answers ++ (Tell ∷ Tell ∷ [])
@@ -44,10 +44,10 @@ PaysBeforeSweep =
 -- two workers do so
 abbrev pub BothPayBeforeSweep : Type 0
 BothPayBeforeSweep =
-    answers_of 3 (opened_calls ++ ((0, Telling) ∷ (0, Telling) ∷ (0, Telling) ∷ (0, Entering 0)
-    ∷ (0, Looking) ∷ (0, Claiming 16) ∷ (1, Entering 0) ∷ (2, Entering 0) ∷ (0, Shutting)
-    ∷ (0, Leaving) ∷ (0, Marking) ∷ (0, Marking) ∷ (1, Looking) ∷ (2, Looking) ∷ (1, Leaving)
-    ∷ (1, Paying) ∷ (2, Leaving) ∷ (2, Paying) ∷ (0, Sweeping) ∷ []))
+    answers_of 3 (opened_calls ++ ((0, AnnouncingNext) ∷ (0, AnnouncingNext) ∷ (0, AnnouncingNext)
+    ∷ (0, Entering 0) ∷ (0, Looking) ∷ (0, Claiming 16) ∷ (1, Entering 0) ∷ (2, Entering 0)
+    ∷ (0, Shutting) ∷ (0, Leaving) ∷ (0, Marking) ∷ (0, Marking) ∷ (1, Looking) ∷ (2, Looking)
+    ∷ (1, Leaving) ∷ (1, Paying) ∷ (2, Leaving) ∷ (2, Paying) ∷ (0, Sweeping) ∷ []))
     ≡ opened_answers ++ (Tell ∷ Tell ∷ Tell ∷ Enter 0 ∷ LookOpen 0 ∷ ClaimUsed 16 ∷ Enter 0
     ∷ Enter 0 ∷ ShutWon ∷ LeaveLeft ∷ MarkMarked ∷ MarkMarked ∷ LookInvalid ∷ LookInvalid
     ∷ LeaveOwe 0 ∷ PayDone ∷ LeaveOwe 0 ∷ PayDone ∷ SweepLast ∷ [])
@@ -58,14 +58,14 @@ abbrev pub StrayPaysLast : Type 0
 StrayPaysLast =
     answers_of 2 ((1, Entering 0) ∷ (1, Looking) ∷ (pair_calls ++ ((0, Entering 0) ∷ (0, Looking)
     ∷ (0, Claiming 16) ∷ (0, Shutting) ∷ (0, Leaving) ∷ (0, Marking) ∷ (0, Sweeping) ∷ (1, Leaving)
-    ∷ (1, Paying) ∷ (1, Noting 1) ∷ (1, Releasing) ∷ [])))
+    ∷ (1, Paying) ∷ (1, NotingDone 1) ∷ (1, Releasing) ∷ [])))
     ≡ Enter 0 ∷ LookVacant ∷ (pair_answers ++ (Enter 0 ∷ LookOpen 0 ∷ ClaimUsed 16 ∷ ShutWon
     ∷ LeaveLeft ∷ MarkMarked ∷ SweepOthers 1 ∷ LeaveOwe 0 ∷ PayLast ∷ Note 1 ∷ Release ∷ []))
 
 -- a slot that is reserved or open is taken
 abbrev pub SlotIsTaken : Type 0
 SlotIsTaken =
-    answers_of 2 ((0, Reserving 0) ∷ (1, Reserving 0) ∷ (0, Admitting 0) ∷ (0, Totalling 7)
+    answers_of 2 ((0, Reserving 0) ∷ (1, Reserving 0) ∷ (0, Admitting 0) ∷ (0, SettingTotal 7)
     ∷ (0, Installing 0) ∷ (1, Reserving 0) ∷ [])
     ≡ ReserveGot 0 ∷ ReserveTaken 0 1 ∷ AdmitGot 0 ∷ Total 7 ∷ Install 0 ∷ ReserveTaken 0 6 ∷ []
 
@@ -74,9 +74,9 @@ SlotIsTaken =
 abbrev pub SlotIsFilledAgain : Type 0
 SlotIsFilledAgain =
     answers_of 2 (pair_calls ++ ((0, Entering 0) ∷ (0, Looking) ∷ (0, Claiming 16) ∷ (0, Shutting)
-    ∷ (0, Leaving) ∷ (0, Marking) ∷ (1, Entering 0) ∷ (0, Sweeping) ∷ (0, Noting 1) ∷ (0, Releasing)
-    ∷ (0, Reserving 0) ∷ (0, Admitting 1) ∷ (0, Totalling 5) ∷ (0, Installing 8) ∷ (1, Looking)
-    ∷ (1, Claiming 16) ∷ []))
+    ∷ (0, Leaving) ∷ (0, Marking) ∷ (1, Entering 0) ∷ (0, Sweeping) ∷ (0, NotingDone 1)
+    ∷ (0, Releasing) ∷ (0, Reserving 0) ∷ (0, Admitting 1) ∷ (0, SettingTotal 5) ∷ (0, Installing 8)
+    ∷ (1, Looking) ∷ (1, Claiming 16) ∷ []))
     ≡ pair_answers ++ (Enter 0 ∷ LookOpen 0 ∷ ClaimUsed 16 ∷ ShutWon ∷ LeaveLeft ∷ MarkMissed
     ∷ Enter 0 ∷ SweepLast ∷ Note 1 ∷ Release ∷ ReserveGot 0 ∷ AdmitGot 1 ∷ Total 5 ∷ Install 8
     ∷ LookOpen 8 ∷ ClaimRange 16 0 5 ∷ [])
@@ -85,15 +85,16 @@ SlotIsFilledAgain =
 -- second query is announced by worker 0, and its second stage by worker 1, which is faster.
 abbrev pub NoticesCross : Type 0
 NoticesCross =
-    answers_of 3 (opened_calls ++ ((0, Telling) ∷ (0, Telling) ∷ (0, Telling) ∷ (2, TakingChange 0)
-    ∷ (2, Entering 0) ∷ (2, Looking) ∷ (2, Claiming 16) ∷ (2, Shutting) ∷ (2, Leaving)
-    ∷ (2, Marking) ∷ (2, Marking) ∷ (2, Sweeping) ∷ (2, Noting 1) ∷ (2, Releasing)
-    ∷ (0, Reserving 0) ∷ (0, Admitting 1) ∷ (0, Totalling 0) ∷ (0, Installing 8) ∷ (0, Telling)
-    ∷ (0, Telling) ∷ (1, TakingChange 0) ∷ (1, Entering 0) ∷ (1, Looking) ∷ (1, Claiming 16)
-    ∷ (1, Shutting) ∷ (1, Leaving) ∷ (1, Marking) ∷ (1, Marking) ∷ (1, Sweeping) ∷ (1, Noting 1)
-    ∷ (1, Totalling 0) ∷ (1, Installing 9) ∷ (1, Telling) ∷ (1, Telling) ∷ (1, Telling)
-    ∷ (2, TakingReturn 0) ∷ (2, TakingChange 0) ∷ (2, Entering 0) ∷ (2, Looking) ∷ (2, Leaving)
-    ∷ (0, Telling) ∷ (2, TakingChange 0) ∷ (2, AskingArrivals) ∷ []))
+    answers_of 3 (opened_calls ++ ((0, AnnouncingNext) ∷ (0, AnnouncingNext) ∷ (0, AnnouncingNext)
+    ∷ (2, TakingChange 0) ∷ (2, Entering 0) ∷ (2, Looking) ∷ (2, Claiming 16) ∷ (2, Shutting)
+    ∷ (2, Leaving) ∷ (2, Marking) ∷ (2, Marking) ∷ (2, Sweeping) ∷ (2, NotingDone 1)
+    ∷ (2, Releasing) ∷ (0, Reserving 0) ∷ (0, Admitting 1) ∷ (0, SettingTotal 0) ∷ (0, Installing 8)
+    ∷ (0, AnnouncingNext) ∷ (0, AnnouncingNext) ∷ (1, TakingChange 0) ∷ (1, Entering 0)
+    ∷ (1, Looking) ∷ (1, Claiming 16) ∷ (1, Shutting) ∷ (1, Leaving) ∷ (1, Marking) ∷ (1, Marking)
+    ∷ (1, Sweeping) ∷ (1, NotingDone 1) ∷ (1, SettingTotal 0) ∷ (1, Installing 9)
+    ∷ (1, AnnouncingNext) ∷ (1, AnnouncingNext) ∷ (1, AnnouncingNext) ∷ (2, TakingReturn 0)
+    ∷ (2, TakingChange 0) ∷ (2, Entering 0) ∷ (2, Looking) ∷ (2, Leaving) ∷ (0, AnnouncingNext)
+    ∷ (2, TakingChange 0) ∷ (2, AskingArrivals) ∷ []))
     ≡ opened_answers ++ (Tell ∷ Tell ∷ Tell ∷ TakeChange 0 1 ∷ Enter 0 ∷ LookOpen 0 ∷ ClaimUsed 16
     ∷ ShutWon ∷ LeaveLeft ∷ MarkMissed ∷ MarkMissed ∷ SweepLast ∷ Note 1 ∷ Release ∷ ReserveGot 0
     ∷ AdmitGot 1 ∷ Total 0 ∷ Install 8 ∷ Tell ∷ Tell ∷ TakeChange 0 1 ∷ Enter 0 ∷ LookOpen 8

@@ -1,5 +1,5 @@
 -- How often a name or a sink failed, and when such a count rose.
-use Rattle.std.specs.Prelude.{◌≡◌, ℕ, ◌+◌, ◌-◌, ◌^◌, ◌<◌, ◌≤◌, min, List, ◌++◌, count_by}
+use Rattle.std.specs.Prelude.{◌≡◌, ℕ, ◌+◌, ◌-◌, ◌^◌, ◌<◌, ◌≤◌, min, List, [], ◌∷◌, ◌++◌, count_by}
 use Rattle.std.specs.Str.{bytes_eq}
 
 -- the count of faults of a name: how often it stands in the list of the names that failed
@@ -14,6 +14,14 @@ Grew old new = (more : List (List ℕ)) × (new ≡ old ++ more)
 abbrev pub NameFailed : List (List ℕ) → List (List ℕ) → List ℕ → Type 0
 NameFailed old new name = fault_count old name < fault_count new name
 
+-- the name failed once between the old list and the new one, and no other name did
+abbrev pub OnlyFailed : List (List ℕ) → List (List ℕ) → List ℕ → Type 0
+OnlyFailed old new name = new ≡ old ++ name ∷ []
+
 -- a counter went up by one at least, and stands still at the last value of its type
 abbrev pub CountRose : ℕ → ℕ → Type 0
 CountRose old new = min (old + 1) (2 ^ 64 - 1) ≤ new
+
+-- a counter went up by one, and stands still at the last value of its type
+abbrev pub CountedOne : ℕ → ℕ → Type 0
+CountedOne old new = new ≡ min (old + 1) (2 ^ 64 - 1)

@@ -1,7 +1,7 @@
 //! The list of the names whose reading failed.
 ghost use Rattle.std.specs.Prelude.{◌≡◌, [], ◌∷◌, ◌++◌, OnErr, OnOk, map};
 ghost use Rattle.std.specs.String.{string_bytes};
-ghost use Rattle.outside_io.specs.Faults.{Grew, NameFailed};
+ghost use Rattle.outside_io.specs.Faults.{Grew, NameFailed, OnlyFailed};
 
 use super::reading::PieceRefusal;
 use std::alloc::{AllocError, Global};
@@ -11,6 +11,8 @@ pub(super) fn note_fault(alloc: Global, failed: &mut Vec<String>, name: &str) ->
     ensures grew { Grew (map string_bytes failed.old.items) (map string_bytes failed.new.items) }
     ensures fault { result ≡ PieceRefusal.Failed →
         NameFailed (map string_bytes failed.old.items) (map string_bytes failed.new.items) name.now }
+    ensures only { result ≡ PieceRefusal.Failed →
+        OnlyFailed (map string_bytes failed.old.items) (map string_bytes failed.new.items) name.now }
     ensures memory { result ≡ PieceRefusal.OutOfMemory → failed.new.items ≡ failed.old.items }
 {
     match push_name(alloc, failed, name) {

@@ -1,11 +1,12 @@
 //! What a program meets outside itself: files that it reads in pieces, and a place that it writes to.
 //!
 //! The layer stands on no other. It has the two traits, the loops that read a whole file and write a
-//! whole text over them, forms in memory that tell what they hold, and adapters over the real files
-//! and standard output, which tell nothing of what they hold.
+//! whole text over them, forms in memory whose contents are known, the adapter of the real files, and
+//! sinks over writers, of which standard output is one.
 //!
-//! The one fact for the layer above: a read or a write that fails did so where the count of faults of
-//! the name or of the sink rose, and what was read and written is exact where it is told.
+//! The one fact for the layer above: a read that fails puts just the name that was asked on the list of
+//! faults, and a write that fails raises the count of faults by one. What was read and written is exact
+//! where contents are known.
 #![tactic(auto)]
 
 pub mod adapters;
@@ -14,9 +15,9 @@ pub mod memory;
 pub mod reading;
 pub mod writing;
 
-pub use adapters::{DirFiles, StdSink};
+pub use adapters::{DirFiles, StdSink, StdWriter, WriterSink};
 pub use memory::{MemFiles, MemSink, SureFiles};
-pub use reading::{Files, MOST_BYTES, PieceRefusal, ReadRefusal, read_whole};
+pub use reading::{Files, MOST_BYTES, PieceRefusal, ReadRefusal, limits, read_whole};
 pub use writing::{Failed, Sink, write_all};
 
 #[cfg(test)]

@@ -3,7 +3,7 @@ ghost use Rattle.std.specs.Prelude.{Some, ◌≡◌, ℕ, ◌+◌, ◌-◌, ◌^
 ghost use Rattle.std.specs.String.{string_bytes};
 ghost use Rattle.std.specs.Str.{bytes_eq};
 ghost use Rattle.std.specs.Io.KnownBytes.{WriteAppends};
-ghost use Rattle.outside_io.specs.Faults.{CountRose, Grew, NameFailed};
+ghost use Rattle.outside_io.specs.Faults.{CountedOne, CountRose, Grew, NameFailed, OnlyFailed};
 ghost use Rattle.outside_io.specs.Pieces.{IsPiece};
 
 use super::faults::note_fault;
@@ -72,6 +72,8 @@ impl Files for MemFiles {
         ensures ok { OnOk result (failed_names self.new ≡ failed_names self.old) }
         ensures fault { result ≡ Err PieceRefusal.Failed →
             NameFailed (failed_names self.old) (failed_names self.new) name.now }
+        ensures only { result ≡ Err PieceRefusal.Failed →
+            OnlyFailed (failed_names self.old) (failed_names self.new) name.now }
         ensures memory { result ≡ Err PieceRefusal.OutOfMemory →
             failed_names self.new ≡ failed_names self.old }
         ensures answer { MatchOption (file_read_next self.old name.now) (IsErr result)
@@ -193,6 +195,7 @@ impl Sink for MemSink {
         ensures never_falls { faults_met self.old ≤ faults_met self.new }
         ensures ok { OnOk result (faults_met self.new ≡ faults_met self.old) }
         ensures failed { OnErr result (CountRose (faults_met self.old) (faults_met self.new)) }
+        ensures once { OnErr result (CountedOne (faults_met self.old) (faults_met self.new)) }
         ensures answer { MatchBool (refuses_piece self.old bytes.now) (IsErr result)
             (result ≡ Ok (bytes_taken self.old bytes.now)) }
         ensures terms { KeepsTerms self.old self.new }

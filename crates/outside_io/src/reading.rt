@@ -1,6 +1,6 @@
 //! Files that are read in pieces.
 ghost use Rattle.std.specs.Prelude.{◌≡◌, ◌≢◌, ℕ, ◌+◌, ◌<◌, ◌≤◌, List, Option, None, IfOk, IfSome, IsOkUnless, OnOk, length, vec_len};
-ghost use Rattle.outside_io.specs.Faults.{Grew, NameFailed};
+ghost use Rattle.outside_io.specs.Faults.{Grew, NameFailed, OnlyFailed};
 ghost use Rattle.outside_io.specs.Pieces.{AppendsPiece, IsPiece};
 
 use std::alloc::Global;
@@ -11,6 +11,12 @@ pub const MOST_BYTES: u64 = 67_108_864;
 
 // How many bytes `read_whole` asks for at each call.
 const PIECE: usize = 65_536;
+
+/// The limits of this layer: a file has at most 67,108,864 bytes, and a piece 65,536.
+pub fn limits()
+    ensures most_bytes { MOST_BYTES ≡ 67_108_864 }
+    ensures piece { PIECE ≡ 65_536 }
+{}
 
 /// Why a piece was not read.
 #[derive(Clone, Copy, Debug, PartialEq, Eq, Error)]
@@ -64,6 +70,8 @@ pub trait Files {
         ensures ok { OnOk result (failed self.new ≡ failed self.old) }
         ensures fault { result ≡ Err PieceRefusal.Failed →
             NameFailed (failed self.old) (failed self.new) name.now }
+        ensures only { result ≡ Err PieceRefusal.Failed →
+            OnlyFailed (failed self.old) (failed self.new) name.now }
         ensures memory { result ≡ Err PieceRefusal.OutOfMemory → failed self.new ≡ failed self.old };
 }
 
@@ -87,6 +95,8 @@ pub fn read_whole<F: Files>(
         IfSome (F.content files.old name.now) (λ file. limit < length file) }
     ensures fault { result ≡ Err ReadRefusal.Failed →
         NameFailed (F.failed files.old) (F.failed files.new) name.now }
+    ensures only { result ≡ Err ReadRefusal.Failed →
+        OnlyFailed (F.failed files.old) (F.failed files.new) name.now }
     ensures no_fault { result ≢ Err ReadRefusal.Failed → F.failed files.new ≡ F.failed files.old }
 {
     let mut piece = empty_piece(alloc)?;
@@ -125,6 +135,8 @@ fn take_piece<F: Files>(
     ensures not_too_long { result ≢ Err ReadRefusal.TooLong }
     ensures fault { result ≡ Err ReadRefusal.Failed →
         NameFailed (F.failed files.old) (F.failed files.new) name.now }
+    ensures only { result ≡ Err ReadRefusal.Failed →
+        OnlyFailed (F.failed files.old) (F.failed files.new) name.now }
     ensures no_fault { result ≢ Err ReadRefusal.Failed → F.failed files.new ≡ F.failed files.old }
 {
     let count = files.read_piece(name, taken.len() as u64, piece)?;

@@ -1,7 +1,10 @@
 use super::*;
 use std::alloc::{AllocError, Global};
+use std::cell::{Cell, RefCell};
+use std::fmt::Display;
+use std::rt::Env;
 use std::test::Fail;
-use std::{env, fs, process};
+use std::{env, fs, io, process};
 
 fn files(alloc: Global, fails: &[u64], name: &str, len: usize) -> Result<MemFiles, AllocError> {
     let mut files = MemFiles::new(alloc, Vec::from_slice(alloc, fails)?);
@@ -18,14 +21,27 @@ fn reads_a_file_whole(rt: HostRuntime) -> Result<(), Fail> {
         (65_536, 65_536, &[3], Ok(65_536)),
         (65_536, 65_536, &[2], Err(ReadRefusal::Failed)),
         (65_536, 65_535, &[2], Err(ReadRefusal::TooLong)),
-        (65_537, MOST_BYTES, &[4], Ok(65_537)),
-        (65_537, MOST_BYTES, &[3], Err(ReadRefusal::Failed)),
+        (65_537, 67_108_864, &[4], Ok(65_537)),
+        (65_537, 67_108_864, &[3], Err(ReadRefusal::Failed)),
         (3, 2, &[1], Err(ReadRefusal::Failed)),
     ];
     for (len, limit, fails, want) in cases {
         let mut files = files(rt.alloc(), fails, "t.csv", len)?;
         let read = read_whole(rt.alloc(), &mut files, "t.csv", limit).map(|bytes| bytes.len());
         assert_eq!(rt; read, want, "{len} bytes up to {limit}");
+    }
+    Ok(())
+}
+
+#[test]
+fn reads_files_up_to_the_limit(rt: HostRuntime) -> Result<(), Fail> {
+    for (len, want) in [
+        (67_108_864, Ok(67_108_864)),
+        (67_108_865, Err(ReadRefusal::TooLong)),
+    ] {
+        let mut files = files(rt.alloc(), &[], "t.csv", len)?;
+        let read = read_whole(rt.alloc(), &mut files, "t.csv", 67_108_864).map(|bytes| bytes.len());
+        assert_eq!(rt; read, want, "{len} bytes");
     }
     Ok(())
 }
@@ -81,21 +97,136 @@ fn writes_in_pieces(rt: HostRuntime) -> Result<(), Fail> {
 }
 
 #[test]
-fn reads_and_writes_outside(rt: HostRuntime) -> Result<(), Fail> {
+fn refusals_have_their_numbers(rt: HostRuntime) {
+    let refusals = [
+        ReadRefusal::Failed as u8,
+        ReadRefusal::TooLong as u8,
+        ReadRefusal::OutOfMemory as u8,
+    ];
+    assert_eq!(rt; refusals, [1, 2, 3]);
+}
+
+// A name in the folder for temporary files that no other test of this process and no other process has.
+fn temp_name<R: Env + AllocGlobal>(rt: &R, process: u32, test: &str) -> io::Result<String> {
+    Ok(format!(in rt.alloc();
+        "{}/outside_io_{process}_{test}",
+        env::temp_dir(rt)?.display()
+    )?)
+}
+
+#[test]
+fn reads_real_files(rt: HostRuntime) -> Result<(), Fail> {
     let alloc = rt.alloc();
-    let name = format!(in alloc;
-        "{}/outside_io_test_{}",
-        env::temp_dir(&rt)?.display(),
-        process::id(rt.process())
-    )?;
+    let name = temp_name(&rt, process::id(rt.process()), "read")?;
     fs::write(&rt, name.as_str(), b"k,v\n")?;
     let mut files = DirFiles::new(rt, alloc);
     let read = read_whole(alloc, &mut files, name.as_str(), 4)?;
     fs::remove_file(&rt, name.as_str())?;
     assert_eq!(rt; read.as_slice(), b"k,v\n".as_slice());
-    assert!(rt; read_whole(alloc, &mut files, name.as_str(), 4).is_err());
-
-    let mut sink = StdSink::new(rt);
-    assert!(rt; write_all(&mut sink, b"written\n").is_ok());
+    let again = read_whole(alloc, &mut files, name.as_str(), 4).map(|bytes| bytes.len());
+    assert_eq!(rt; again, Err(ReadRefusal::Failed));
     Ok(())
+}
+
+#[test]
+fn a_file_that_is_replaced_is_read_as_one(rt: HostRuntime) -> Result<(), Fail> {
+    let alloc = rt.alloc();
+    let name = temp_name(&rt, process::id(rt.process()), "name")?;
+    let next = temp_name(&rt, process::id(rt.process()), "next")?;
+    fs::write(&rt, name.as_str(), b"old bytes")?;
+    fs::write(&rt, next.as_str(), b"new text")?;
+    let mut files = DirFiles::new(rt, alloc);
+    let mut piece = [0u8; 4];
+
+    assert_eq!(rt; files.read_piece(name.as_str(), 0, &mut piece), Ok(4));
+    assert_eq!(rt; piece, *b"old ");
+    fs::rename(&rt, next.as_str(), name.as_str())?;
+    assert_eq!(rt; files.read_piece(name.as_str(), 4, &mut piece), Ok(4));
+    assert_eq!(rt; piece, *b"byte");
+
+    // From its start it is opened again.
+    let read = read_whole(alloc, &mut files, name.as_str(), 8)?;
+    fs::remove_file(&rt, name.as_str())?;
+    assert_eq!(rt; read.as_slice(), b"new text".as_slice());
+    Ok(())
+}
+
+#[test]
+fn writes_to_a_real_file(rt: HostRuntime) -> Result<(), Fail> {
+    let name = temp_name(&rt, process::id(rt.process()), "write")?;
+    let mut sink = WriterSink::over(fs::create(&rt, name.as_str())?);
+    let wrote = write_all(&mut sink, b"query 0");
+    let read = fs::read(&rt, name.as_str())?;
+    fs::remove_file(&rt, name.as_str())?;
+    assert_eq!(rt; wrote, Ok(()));
+    assert_eq!(rt; read.as_slice(), b"query 0".as_slice());
+    Ok(())
+}
+
+// A runtime whose standard output is a list of bytes. It takes four bytes at a call, and one call fails.
+#[derive(Drop)]
+struct Recorder {
+    written: RefCell<Vec<u8>>,
+    calls: Cell<u64>,
+    fails: u64,
+}
+
+impl Recorder {
+    fn take(&self, bytes: &[u8]) -> io::Result<()> {
+        match self.written.try_borrow_mut() {
+            Ok(mut written) => Ok(written.extend_from_slice(bytes)?),
+            Err(_) => Err(io::Error::from(io::ErrorKind::Other)),
+        }
+    }
+}
+
+impl Print for Recorder {
+    fn print<D: Display + Drop>(&self, _value: D) -> io::Result<()> {
+        Err(io::Error::from(io::ErrorKind::Unsupported))
+    }
+
+    fn println<D: Display + Drop>(&self, _value: D) -> io::Result<()> {
+        Err(io::Error::from(io::ErrorKind::Unsupported))
+    }
+
+    fn write_all(&self, bytes: &[u8]) -> io::Result<()> {
+        self.take(bytes)
+    }
+
+    fn write_some(&self, bytes: &[u8]) -> io::Result<usize> {
+        self.calls.set(self.calls.get().saturating_add(1));
+        if self.calls.get() == self.fails {
+            return Err(io::Error::from(io::ErrorKind::BrokenPipe));
+        }
+        let count = bytes.len().min(4);
+        self.take(&bytes[..count])?;
+        Ok(count)
+    }
+}
+
+#[test]
+fn standard_output_gets_every_byte(rt: HostRuntime) -> Result<(), Fail> {
+    // the call that fails, and what is written of `query 0`
+    let cases: [(u64, bool, &[u8]); 3] = [
+        (0, true, b"query 0"),
+        (2, false, b"quer"),
+        (1, false, b""),
+    ];
+    for (fails, whole, want) in cases {
+        let recorder = Recorder {
+            written: RefCell::new(Vec::new(rt.alloc())),
+            calls: Cell::new(0),
+            fails,
+        };
+        let wrote = write_all(&mut StdSink::new(&recorder), b"query 0");
+        assert_eq!(rt; wrote.is_ok(), whole, "call {fails} fails");
+        let written = recorder.written.into_inner();
+        assert_eq!(rt; written.as_slice(), want, "call {fails} fails");
+    }
+    Ok(())
+}
+
+#[test]
+fn writes_to_standard_output(rt: HostRuntime) {
+    assert!(rt; write_all(&mut StdSink::new(rt), b"written\n").is_ok());
 }

@@ -1,7 +1,7 @@
 //! The place that a program writes to.
 ghost use Rattle.std.specs.Prelude.{◌≡◌, ℕ, ◌<◌, ◌≤◌, List, Option, None, IfOk, OnErr, OnOk, length};
 ghost use Rattle.std.specs.Io.KnownBytes.{Appends, WriteAppends};
-ghost use Rattle.outside_io.specs.Faults.{CountRose};
+ghost use Rattle.outside_io.specs.Faults.{CountedOne, CountRose};
 ghost use Rattle.outside_io.specs.Pieces.{AppendsPrefix};
 
 use thiserror::Error;
@@ -27,7 +27,8 @@ pub trait Sink {
         ensures appended { WriteAppends (written self.old) (written self.new) result bytes.now }
         ensures never_falls { faults self.old ≤ faults self.new }
         ensures ok { OnOk result (faults self.new ≡ faults self.old) }
-        ensures failed { OnErr result (CountRose (faults self.old) (faults self.new)) };
+        ensures failed { OnErr result (CountRose (faults self.old) (faults self.new)) }
+        ensures once { OnErr result (CountedOne (faults self.old) (faults self.new)) };
 }
 
 /// Writes all the bytes, in as many pieces as the sink wants. Each call of the sink is handed all that
@@ -38,6 +39,7 @@ pub fn write_all<S: Sink>(sink: &mut S, bytes: &[u8]) -> Result<(), Failed>
     ensures never_falls { S.faults sink.old ≤ S.faults sink.new }
     ensures no_fault { OnOk result (S.faults sink.new ≡ S.faults sink.old) }
     ensures failed { OnErr result (CountRose (S.faults sink.old) (S.faults sink.new)) }
+    ensures once { OnErr result (CountedOne (S.faults sink.old) (S.faults sink.new)) }
 {
     let mut rest = bytes;
     while !rest.is_empty() {

@@ -14,7 +14,7 @@ mod table;
 
 pub use crate::lists::{ListOf, Text};
 pub use crate::name::{BadName, ColumnName, MAX_NAME_BYTES};
-pub use crate::table::{MAX_COLUMNS, MAX_ROWS, RowRefusal, ShapeRefusal, Table};
+pub use crate::table::{MAX_COLUMNS, MAX_ROWS, RowRefusal, ShapeRefusal, Table, limits};
 
 /// The name of a column or of a table.
 pub type Name = ColumnName;

@@ -4,7 +4,7 @@ ghost use Rattle.col_table.specs.Columns.{HasRoom, IsExtended, values_of};
 ghost use Rattle.col_table.specs.NamedRows.{AllDiffer, IsFirstTwice, IsHeading, IsTable, column_of, no_rows, value_at, with_row};
 ghost use Rattle.col_table.specs.Refusals.{RefusesHeading, RefusesNames};
 
-use crate::name::ColumnName;
+use crate::name::{ColumnName, MAX_NAME_BYTES};
 use std::alloc::{AllocError, Global};
 use std::marker::Model;
 use thiserror::Error;
@@ -14,6 +14,13 @@ pub const MAX_COLUMNS: usize = 32;
 
 /// The greatest number of rows of a table.
 pub const MAX_ROWS: u32 = 1_048_576;
+
+/// The limits of this layer: a table has at most 32 columns and 1,048,576 rows, and a name 64 bytes.
+pub fn limits()
+    ensures columns { MAX_COLUMNS ≡ 32 }
+    ensures rows { MAX_ROWS ≡ 1_048_576 }
+    ensures name { MAX_NAME_BYTES ≡ 64 }
+{}
 
 /// Why names make no table.
 #[derive(Clone, Copy, Debug, PartialEq, Eq)]

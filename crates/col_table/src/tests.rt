@@ -23,20 +23,52 @@ fn comes_back(rt: &HostRuntime, text: &str) -> Result<bool, Fail> {
 
 #[test]
 fn tells_names(rt: HostRuntime) -> Result<(), Fail> {
+    // 64 bytes in characters of one byte, of two bytes and of four, and 65 in each
     let longest = "0123456789abcdef0123456789abcdef0123456789abcdef0123456789abcdef";
+    let longest_of_two = "ééééééééééééééééééééééééééééé\u{80}éé";
+    let longest_of_four = "🜁🜁🜁🜁🜁🜁🜁🜁🜁🜁🜁🜁🜁🜁🜁🜁";
     let too_long = "0123456789abcdef0123456789abcdef0123456789abcdef0123456789abcdef!";
-    for text in ["", " ", "k", "\u{80}", "\u{feff}k", longest] {
+    let too_long_of_two = "ééééééééééééééééééééééééééééé\u{80}éé!";
+    let too_long_of_four = "🜁🜁🜁🜁🜁🜁🜁🜁🜁🜁🜁🜁🜁🜁🜁🜁!";
+    let longest_ones = [longest, longest_of_two, longest_of_four];
+    for text in ["", " ", "k", "\u{80}", "\u{feff}k"] {
         assert!(rt; name(&rt, text)?.clone()?.as_str() == text, "at {text:?}");
     }
-    for text in ["\u{1f}", "a\tb", "~\u{7f}", too_long] {
+    for text in longest_ones {
+        assert_eq!(rt; text.len(), 64);
+        assert!(rt; name(&rt, text)?.as_str() == text, "at {text:?}");
+    }
+    for text in [too_long, too_long_of_two, too_long_of_four] {
+        assert_eq!(rt; text.len(), 65);
         assert!(rt; comes_back(&rt, text)?, "at {text:?}");
+    }
+    for text in ["\u{1f}", "a\tb", "~\u{7f}"] {
+        assert!(rt; comes_back(&rt, text)?, "at {text:?}");
+    }
+    Ok(())
+}
+
+// So many names, of which no two are equal.
+fn numbered(rt: &HostRuntime, count: u32) -> Result<Vec<ColumnName>, Fail> {
+    let mut names = Vec::new(rt.alloc());
+    for number in 0..count {
+        names.push(name(rt, format!(in rt.alloc(); "{number}")?.as_str())?)?;
+    }
+    Ok(names)
+}
+
+#[test]
+fn a_table_has_at_most_32_columns(rt: HostRuntime) -> Result<(), Fail> {
+    for (count, want) in [(32, Ok(32)), (33, Err(ShapeRefusal::TooManyColumns))] {
+        let cols = Table::new(rt.alloc(), numbered(&rt, count)?).map(|table| table.cols());
+        assert_eq!(rt; cols, want, "{count} names");
     }
     Ok(())
 }
 
 #[test]
 fn refuses_headings(rt: HostRuntime) -> Result<(), Fail> {
-    let same = ["a"; MAX_COLUMNS + 1];
+    let same = ["a"; 33];
     for (texts, want) in [
         ([].as_slice(), ShapeRefusal::NoColumns),
         (&same, ShapeRefusal::TooManyColumns),
@@ -68,15 +100,15 @@ fn keeps_rows(rt: HostRuntime) -> Result<(), Fail> {
 }
 
 #[test]
-fn fills_up(rt: HostRuntime) -> Result<(), Fail> {
+fn a_table_has_at_most_1_048_576_rows(rt: HostRuntime) -> Result<(), Fail> {
     let mut table = Table::new(rt.alloc(), names(&rt, &["v"])?)?;
-    for row in 0..MAX_ROWS {
+    for row in 0..1_048_576 {
         assert_eq!(rt; table.cols(), 1);
-        table.push_row(&[i64::from(row)])?;
+        table.push_row(&[row])?;
     }
     assert_eq!(rt; table.cols(), 1);
     assert_eq!(rt; table.push_row(&[0]), Err(RowRefusal::Full));
-    assert_eq!(rt; table.rows(), MAX_ROWS);
+    assert_eq!(rt; table.rows(), 1_048_576);
     Ok(())
 }
 

@@ -1,3 +1,4 @@
+-- The size of the next morsel, by the pace of those before it.
 use Rattle.std.specs.Prelude.{ℕ, List, ◌+◌, ◌-◌, ◌*◌, ◌/◌, ◌^◌, ◌≤◌, min, max, fold, nat_lt, nat_le, if◌then◌else◌}
 use Rattle.std.specs.Int.{div_ceil}
 use Rattle.morsel_size.specs.declared.Pace.{Pace}

@@ -9,6 +9,19 @@
 //!
 //! The layer stands on no other. The one fact for the layer above: `next` is `size_of` of the morsels
 //! taken so far, the tuples of the task set, the end of the last range and the number of workers.
+//!
+//! An example, which is proved beside the tests: a morsel of 10,000 tuples in a millisecond ends
+//! startup, and from then on a morsel is to have the 20,000 tuples that take two.
+//!
+//! ```
+//! fn size_after_a_millisecond() -> u32
+//!     ensures { result ≡ 20_000 }
+//! {
+//!     let mut sizer = Sizer::new(1);
+//!     sizer.took(10_000, 1_000_000);
+//!     sizer.next(200_000, 10_000)
+//! }
+//! ```
 #![tactic(auto)]
 
 ghost use Rattle.std.specs.Prelude.{◌≡◌, ℕ, List, [], ◌∷◌, ◌++◌, ◌-◌, ◌^◌, ◌<◌, ◌≤◌};
@@ -34,8 +47,18 @@ pub const DEFAULT_TIME: u64 = 2_000_000 * PARTS_PER_NS;
 /// What a morsel in shutdown is to take at least, in parts of a nanosecond: 250,000 nanoseconds.
 pub const SHUTDOWN_TIME: u64 = 250_000 * PARTS_PER_NS;
 
+/// The numbers of this layer.
+pub fn limits()
+    ensures first_size { FIRST_SIZE ≡ 16 }
+    ensures largest_size { LARGEST_SIZE ≡ 65_536 }
+    ensures startup { STARTUP_NS ≡ 1_000_000 }
+    ensures parts { PARTS_PER_NS ≡ 1_024 }
+    ensures default_time { DEFAULT_TIME ≡ 2_048_000_000 }
+    ensures shutdown_time { SHUTDOWN_TIME ≡ 256_000_000 }
+{}
+
 /// How fast a worker gets through the tuples of a task set.
-#[derive(Clone, Copy, Debug)]
+#[derive(Clone, Copy, Debug, PartialEq, Eq)]
 pub enum Pace {
     /// Not known yet: the size of the next morsel, in tuples.
     Startup(u32),
@@ -147,6 +170,19 @@ fn measured_size(workers: u32, estimate: u64, rest: u32) -> u32
 #[cfg(test)]
 mod tests {
     use super::*;
+
+    fn size_after_a_millisecond() -> u32
+        ensures { result ≡ 20_000 }
+    {
+        let mut sizer = Sizer::new(1);
+        sizer.took(10_000, 1_000_000);
+        sizer.next(200_000, 10_000)
+    }
+
+    #[test]
+    fn the_example_of_the_head(rt: HostRuntime) {
+        assert_eq!(rt; size_after_a_millisecond(), 20_000);
+    }
 
     #[test]
     fn sizes_double_then_settle_then_share_the_rest(rt: HostRuntime) {

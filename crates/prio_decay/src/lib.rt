@@ -7,9 +7,22 @@
 //!
 //! The layer stands on no other. The one fact for the layer above: `priority` is `priority_after` of the
 //! whole quanta in all the nanoseconds that were spent.
+//!
+//! An example, which is proved beside the tests: weight 10 starts at 10,000, and the eighth quantum is
+//! the first that takes a tenth off.
+//!
+//! ```
+//! fn priority_after_eight_quanta() -> u32
+//!     ensures { result ≡ 9_000 }
+//! {
+//!     let mut decay = Decay::new(Params::of_weight(10));
+//!     decay.spend(8 * QUANTUM_NS);
+//!     decay.priority()
+//! }
+//! ```
 #![tactic(auto)]
 
-ghost use Rattle.std.specs.Prelude.{◌≡◌, ℕ, List, ◌*◌, ◌/◌, ◌<◌, ◌≤◌, sum, fold};
+ghost use Rattle.std.specs.Prelude.{◌≡◌, ◌↔◌, ℕ, IsTrue, List, ◌*◌, ◌/◌, ◌<◌, ◌≤◌, sum, fold};
 ghost use Rattle.prio_decay.specs.declared.Params.{Params};
 ghost use Rattle.prio_decay.specs.declared.TheConstants.{QUANTUM_NS};
 ghost use Rattle.prio_decay.specs.Priority.{IsUsable, Spending, HasSpent, unspent, after_spending, priority_after, priority_of};
@@ -22,8 +35,19 @@ pub const LEAST_PRIORITY: u32 = 100;
 /// The greatest priority that a decay may start at.
 pub const MOST_PRIORITY: u32 = 10_000;
 
+/// The greatest denominator of the factor of a decay.
+pub const MOST_DENOMINATOR: u32 = 1_000;
+
 /// A quantum of time, in nanoseconds: what a priority decays by.
 pub const QUANTUM_NS: u64 = 2_000_000;
+
+/// The numbers of this layer.
+pub fn limits()
+    ensures least { LEAST_PRIORITY ≡ 100 }
+    ensures most { MOST_PRIORITY ≡ 10_000 }
+    ensures denominator { MOST_DENOMINATOR ≡ 1_000 }
+    ensures quantum { QUANTUM_NS ≡ 2_000_000 }
+{}
 
 /// How a priority decays. Of use where `start` is 100 to 10,000, `num` is below `den`, and `den` is at
 /// most 1,000.
@@ -54,6 +78,16 @@ impl Params {
             num: 9,
             den: 10,
         }
+    }
+
+    /// Whether a decay may have these parameters, for a caller who read them from elsewhere.
+    pub fn is_usable(self) -> bool
+        ensures { IsTrue result ↔ IsUsable self }
+    {
+        LEAST_PRIORITY <= self.start
+            && self.start <= MOST_PRIORITY
+            && self.num < self.den
+            && self.den <= MOST_DENOMINATOR
     }
 }
 
@@ -137,6 +171,40 @@ pub fn spending_adds_up()
 #[cfg(test)]
 mod tests {
     use super::*;
+
+    fn priority_after_eight_quanta() -> u32
+        ensures { result ≡ 9_000 }
+    {
+        let mut decay = Decay::new(Params::of_weight(10));
+        decay.spend(8 * QUANTUM_NS);
+        decay.priority()
+    }
+
+    #[test]
+    fn the_example_of_the_head(rt: HostRuntime) {
+        assert_eq!(rt; priority_after_eight_quanta(), 9_000);
+    }
+
+    #[test]
+    fn parameters_are_usable_within_their_limits(rt: HostRuntime) {
+        // the start, the numerator, the denominator, and whether they are usable
+        for (start, num, den, usable) in [
+            (100, 0, 1, true),
+            (10_000, 999, 1_000, true),
+            (99, 9, 10, false),
+            (10_001, 9, 10, false),
+            (100, 10, 10, false),
+            (100, 1_000, 1_001, false),
+        ] {
+            let params = Params {
+                start,
+                hold: 7,
+                num,
+                den,
+            };
+            assert_eq!(rt; params.is_usable(), usable, "at {params:?}");
+        }
+    }
 
     #[test]
     fn weight_ten_is_held_for_seven_quanta_and_then_decays(rt: HostRuntime) {

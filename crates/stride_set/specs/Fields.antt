@@ -1,3 +1,4 @@
+-- The fields of a set as contracts see them.
 use Rattle.stride_set.specs.declared.StrideSet.TheInside.{Inside}
 use Rattle.stride_set.specs.Strides.{StrideState}
 

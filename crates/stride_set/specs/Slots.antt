@@ -1,3 +1,4 @@
+-- The slots of a list: which is chosen, and how far their passes lie apart.
 use Rattle.std.specs.Prelude.{◌≡◌, ℕ, ◌<◌, ◌≤◌, Bool, true, false, Option, Some, None, List, length, ◌&&◌, ◌-◌, zero, suc, max, nat_lt, if◌then◌else◌, slice_index_or}
 use Rattle.stride_set.specs.declared.Slot.{Slot}
 

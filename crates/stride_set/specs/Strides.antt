@@ -1,3 +1,4 @@
+-- The state of a stride set, what each call does to it, and the bounds that hold between calls.
 use Rattle.std.specs.Prelude.{◌≡◌, ℕ, Bool, true, false, Option, List, [], ◌∷◌, ◌+◌, ◌-◌, ◌*◌, ◌/◌, ◌^◌, ◌<◌, ◌≤◌, ◌==◌, length, min, max, if◌then◌else◌}
 use Rattle.stride_set.specs.declared.Slot.{Slot}
 use Rattle.stride_set.specs.declared.TheConstants.{STRIDE_UNIT}

@@ -10,9 +10,24 @@
 //! The layer stands on no other. The one fact for the layer above: each call is `stride_after` of the set,
 //! and between any two calls each active pass lies within the floor and the floor plus the largest advance,
 //! and the widest gap of two active slots is at most the largest advance.
+//!
+//! An example, which is proved beside the tests: a turn, in which the active slot of least pass runs for
+//! so many nanoseconds.
+//!
+//! ```
+//! fn turn(set: &mut StrideSet, ns: u64, priority: u32) -> Option<u32>
+//!     requires time { ns ≤ 2 ^ 36 }
+//!     requires priority { 0 < priority }
+//!     ensures { IfSome result (λ s. IsChoice (strides_of set.old) s) }
+//! {
+//!     let s = set.choose()?;
+//!     set.advance(s, ns, priority);
+//!     Some(s)
+//! }
+//! ```
 #![tactic(auto)]
 
-ghost use Rattle.std.specs.Prelude.{◌≡◌, ℕ, List, ◌+◌, ◌*◌, ◌^◌, ◌<◌, ◌≤◌, length, fold, true, false, IfOk, IfSome, IfNone};
+ghost use Rattle.std.specs.Prelude.{◌≡◌, ◌↔◌, ℕ, List, ◌+◌, ◌*◌, ◌^◌, ◌<◌, ◌≤◌, length, fold, true, false, IfOk, IfSome, IfNone, IsTrue};
 ghost use Rattle.std.specs.Option.{ForSome};
 ghost use Rattle.stride_set.specs.Slots.{pass_in, spread_among, choice_among, comes_before};
 ghost use Rattle.stride_set.specs.Strides.{StrideState, Strides, Call, JoinChange, JoinReturn, DropSlot, Choose, Advance, IsChoice, MayAdvance, IsBounded, AreLawful, strides_of, new_strides, stride_after, choice_of, widest_gap};
@@ -23,8 +38,13 @@ use std::marker::Model;
 /// The stride of a slot of priority 1 for one nanosecond: the constant `stride1` of Waldspurger and Weihl.
 pub const STRIDE_UNIT: u64 = 1_048_576;
 
+/// The number of this layer.
+pub fn limits()
+    ensures { STRIDE_UNIT ≡ 1_048_576 }
+{}
+
 /// One slot of a set.
-#[derive(Clone, Copy, Debug)]
+#[derive(Clone, Copy, Debug, PartialEq, Eq)]
 pub struct Slot {
     /// Whether it may be chosen.
     pub active: bool,
@@ -69,6 +89,13 @@ impl StrideSet {
             largest: 0,
             widest: 0,
         })
+    }
+
+    /// How many slots there are: their numbers are below it. Takes constant time.
+    pub fn slots(&self) -> u32
+        ensures { result ≡ (strides_of self.now).slots }
+    {
+        self.slots.len() as u32
     }
 
     /// Slot `s` joins at the floor, as with new work. Takes one pass over the slots.
@@ -132,6 +159,17 @@ impl StrideSet {
         slot.pass = slot.pass.saturating_add(u128::from(advance));
         self.largest = self.largest.max(advance);
         self.widest = self.widest.max(spread(&self.slots));
+    }
+
+    /// Whether slot `s` may advance, for a caller who did not keep what `choose` answered. Takes constant
+    /// time.
+    pub fn may_advance(&self, s: u32) -> bool
+        ensures { IsTrue result ↔ MayAdvance (strides_of self.now) s }
+    {
+        match self.slots.get(s as usize) {
+            Some(slot) => slot.active && slot.pass == self.floor,
+            None => false,
+        }
     }
 
     /// The pass of the slot chosen last, 0 before any. Takes constant time, as each call below does.
@@ -231,12 +269,36 @@ mod tests {
     use super::*;
     use std::test::Fail;
 
+    fn turn(set: &mut StrideSet, ns: u64, priority: u32) -> Option<u32>
+        requires time { ns ≤ 2 ^ 36 }
+        requires priority { 0 < priority }
+        ensures { IfSome result (λ s. IsChoice (strides_of set.old) s) }
+    {
+        let s = set.choose()?;
+        set.advance(s, ns, priority);
+        Some(s)
+    }
+
+    #[test]
+    fn the_example_of_the_head(rt: HostRuntime) -> Result<(), Fail> {
+        let mut set = StrideSet::new(rt.alloc(), 2)?;
+        set.join_change(0);
+        set.join_change(1);
+        assert_eq!(rt; turn(&mut set, 300, 10_000), Some(0));
+        assert_eq!(rt; turn(&mut set, 300, 5_000), Some(1));
+        assert_eq!(rt; turn(&mut set, 300, 10_000), Some(0));
+        Ok(())
+    }
+
     #[test]
     fn an_advance_is_inverse_to_the_priority(rt: HostRuntime) -> Result<(), Fail> {
         let mut set = StrideSet::new(rt.alloc(), 1)?;
         set.join_change(0);
+        assert_eq!(rt; set.slots(), 1);
         assert_eq!(rt; set.choose(), Some(0));
+        assert!(rt; set.may_advance(0) && !set.may_advance(1));
         set.advance(0, 2_000_000, 10_000);
+        assert!(rt; !set.may_advance(0));
         assert_eq!(rt; set.pass(0), 209_715_200);
         assert_eq!(rt; set.largest(), 209_715_200);
         assert_eq!(rt; set.choose(), Some(0));

@@ -96,6 +96,22 @@ fn writes_in_pieces(rt: HostRuntime) -> Result<(), Fail> {
     Ok(())
 }
 
+// The time that two ranges took.
+fn measured<M: Meter, G: Gate>(meter: &mut M, gate: &G) -> [u64; 2] {
+    gate.pass(0, 0);
+    meter.start();
+    let first = meter.stop(3, 100);
+    gate.pass(0, 1);
+    meter.start();
+    [first, meter.stop(u32::MAX, u32::MAX)]
+}
+
+#[test]
+fn a_tuple_takes_what_its_query_costs(rt: HostRuntime) {
+    let times = measured(&mut CostMeter::new(), &OpenGate::new());
+    assert_eq!(rt; times, [300, 18_446_744_065_119_617_025]);
+}
+
 #[test]
 fn refusals_have_their_numbers(rt: HostRuntime) {
     let refusals = [

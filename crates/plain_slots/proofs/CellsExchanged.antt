@@ -25,9 +25,9 @@ use Rattle.plain_slots.specs.declared.log.Logged.{Logged}
 use Rattle.plain_slots.specs.declared.log.Logged.TheVariants.{Exchanged}
 use Rattle.plain_slots.specs.Cells.{has_cell, kept_note, fresh_note, finalised_id, NoteSays, FitsNext, FitsFinalised}
 use Rattle.plain_slots.specs.Log.{calls_of, note_in}
-use Rattle.plain_slots.specs.Desks.{Desk, place_at, OwnFits, NextFits, FinalisedFits}
+use Rattle.plain_slots.specs.Desks.{Seen, own_place, OwnFits, NextFits, FinalisedFits, OwnCellSays, CellSays}
 use Rattle.plain_slots.specs.Plain.{FitsClaims, IsPlain}
-use Rattle.plain_slots.specs.Seats.{trail_in}
+use Rattle.plain_slots.specs.Seats.{trail_in, shown_by}
 use Rattle.plain_slots.proofs.Lists.{get-set_same, get-set_other, pair-within}
 use Rattle.plain_slots.proofs.Trails.{place-trail, ranges-trail, ranges-finalised, finalises}
 use Rattle.plain_slots.proofs.ExchangedCells.{has-within, says-kept, says-fresh, says-held, held-says, own-cell-is, inside-only, inside-holds, cell-else}
@@ -60,8 +60,9 @@ module _ {B Sub : Type 0} (queries : Sub → ℕ) (total : Sub → ℕ → Optio
   abbrev trail : List Entry
   trail = trail_in w h
 
-  abbrev desk : Desk Sub
-  desk = record { worker = w; shape = d; subject = subject }
+  -- what its seat shows, but for the origin
+  abbrev shown : Seen (Unit {0}) Sub
+  shown = shown_by (record { worker = w; shape = d; subject = subject }) log
 
   -- what is known of the cell of v at the slot t, with this log
   abbrev Cell : List Logged → ℕ → ℕ → Option B → Type 0
@@ -88,7 +89,7 @@ module _ {B Sub : Type 0} (queries : Sub → ℕ) (total : Sub → ℕ → Optio
 
   -- ---- the own cell, of the slot that the worker is inside
 
-  module _ (has : has_cell (place_at desk trail) ≡ true) where
+  module _ (has : has_cell (own_place shown) ≡ true) where
     abbrev p : Place
     p = place_of d h w
 
@@ -96,25 +97,25 @@ module _ {B Sub : Type 0} (queries : Sub → ℕ) (total : Sub → ℕ → Optio
     has-cell = ap has_cell (sym (place-trail d w h)) ∙ has
 
     -- what a kept value fits, by the history and by the trail
-    own-fits : FitsClaims (fits subject w) (λ id. ranges_of d w id h) (id_at p) ≡ OwnFits fits desk trail
+    own-fits : FitsClaims (fits subject w) (λ id. ranges_of d w id h) (id_at p) ≡ OwnFits fits shown
     own-fits =
-        let id : ℕ = id_at (place_at desk trail) in
+        let id : ℕ = id_at (own_place shown) in
         ap (λ q. FitsClaims (fits subject w) (λ id. ranges_of d w id h) (id_at q)) (sym (place-trail d w h)) ∙ ap (λ r. fits subject w id r) (sym (ranges-trail d w id h))
 
-    own-is : (l : List Logged) (x : Option B) → Cell l (slot_of p) w x ≡ NoteSays (OwnFits fits desk trail) (λ b. ⊥) (note_in l w w) x
+    own-is : (l : List Logged) (x : Option B) → Cell l (slot_of p) w x ≡ NoteSays (OwnFits fits shown) (λ b. ⊥) (note_in l w w) x
     own-is l x = own-cell-is d h w low legal has-cell (fits subject w) (note_in l) x ∙ ap (λ P. NoteSays P (λ b. ⊥) (note_in l w w) x) own-fits
 
-    pub own-cell-says : (x : Option B) → slice_get cells (slot_of p * d.workers + w) ≡ Some x → NoteSays (OwnFits fits desk trail) (λ b. ⊥) (note_in log w w) x
+    pub own-cell-says : (x : Option B) → slice_get cells (slot_of p * d.workers + w) ≡ Some x → OwnCellSays fits shown x
     own-cell-says x at = transport (own-is log x) (ok.cells_are (slot_of p) w x (has-within d p has-cell ((within d h legal).places w)) low at)
 
-    pub plain-own-cell : (new : Option B) (n : Note) → n ≡ kept_note new → IfSome new (OwnFits fits desk trail)
+    pub plain-own-cell : (new : Option B) (n : Note) → n ≡ kept_note new → IfSome new (OwnFits fits shown)
         → IsPlain queries total fits d subject (Exchanged (record { worker = w; cell = w; note = n }) ∷ log) (set cells (slot_of p * d.workers + w) new)
     plain-own-cell new n is fit = exchanged (slot_of p) w n low (inside-only d h w low legal has-cell) (inside-holds d h w low legal has-cell) new
-        (transport (sym (own-is (longer w w n log) new)) (subst (λ m. NoteSays (OwnFits fits desk trail) (λ b. ⊥) m new) (sym (note-exchanged w w n log ∙ is)) (says-kept (OwnFits fits desk trail) (λ b. ⊥) new fit)))
+        (transport (sym (own-is (longer w w n log) new)) (subst (λ m. NoteSays (OwnFits fits shown) (λ b. ⊥) m new) (sym (note-exchanged w w n log ∙ is)) (says-kept (OwnFits fits shown) (λ b. ⊥) new fit)))
 
   -- ---- the cell of v, of the slot s that the worker holds
 
-  module _ (s : ℕ) (k : Held) (holds : place_at desk trail ≡ Holding s k) (v : ℕ) (in_v : v < d.workers) where
+  module _ (s : ℕ) (k : Held) (holds : own_place shown ≡ Holding s k) (v : ℕ) (in_v : v < d.workers) where
     place-is : place_of d h w ≡ Holding s k
     place-is = sym (place-trail d w h) ∙ holds
 
@@ -122,7 +123,7 @@ module _ {B Sub : Type 0} (queries : Sub → ℕ) (total : Sub → ℕ → Optio
     held = holder-slot d S (table d h legal) w s k low place-is
 
     -- what a value fits that is kept for the task set that is finalised
-    finalised-fits : (id : ℕ) → S.slots s ≡ Finishing id w k → (y : B) → FitsClaims (fits subject v) (λ id. ranges_of d v id h) id y → FinalisedFits fits desk trail v y
+    finalised-fits : (id : ℕ) → S.slots s ≡ Finishing id w k → (y : B) → FitsClaims (fits subject v) (λ id. ranges_of d v id h) id y → FinalisedFits fits shown v y
     finalised-fits id is y f =
         let sound : IsFinalisation id k = subst IsSlotSound is (slots-sound d h legal s) in
         let same : id ≡ finalised_id k = sym (ap id_of is) ∙ (finalises w k (S.slots s) held (slots-sound d h legal s) sound.again).1 in
@@ -131,12 +132,12 @@ module _ {B Sub : Type 0} (queries : Sub → ℕ) (total : Sub → ℕ → Optio
         subst (λ r. fits subject v (finalised_id k) r y) (sym (ranges-finalised d w s k sound.again h legal low place-is v)) by_history in
         subst (λ q. FitsFinalised (fits subject v) (λ id. ranges_of d v id trail) (held_at q) y) (sym holds) (sound.again, by_trail)
 
-    pub cell-says : (x : Option B) → slice_get cells (s * d.workers + v) ≡ Some x → NoteSays (FinalisedFits fits desk trail v) (NextFits fits desk trail v) (note_in log w v) x
-    cell-says x at = subst (λ q. NoteSays (FinalisedFits fits desk trail v) (FitsNext (fits subject v) (held_at q)) (note_in log w v) x) (sym holds)
-        (held-says (fits subject v) (λ id. ranges_of d v id h) (λ u. note_in log u v) x w k (S.slots s) (has_own_cell (S.places v) s) (note_in log v v) (FinalisedFits fits desk trail v) held finalised-fits
+    pub cell-says : (x : Option B) → slice_get cells (s * d.workers + v) ≡ Some x → CellSays fits shown v x
+    cell-says x at = subst (λ q. NoteSays (FinalisedFits fits shown v) (FitsNext (fits subject v) (held_at q)) (note_in log w v) x) (sym holds)
+        (held-says (fits subject v) (λ id. ranges_of d v id h) (λ u. note_in log u v) x w k (S.slots s) (has_own_cell (S.places v) s) (note_in log v v) (FinalisedFits fits shown v) held finalised-fits
         (ok.cells_are s v x (subst (IsPlaceWithin d) place-is ((within d h legal).places w)) in_v at))
 
-    pub plain-cell : (new : Option B) (n : Note) → n ≡ fresh_note new → IfSome new (NextFits fits desk trail v)
+    pub plain-cell : (new : Option B) (n : Note) → n ≡ fresh_note new → IfSome new (NextFits fits shown v)
         → IsPlain queries total fits d subject (Exchanged (record { worker = w; cell = v; note = n }) ∷ log) (set cells (s * d.workers + v) new)
     plain-cell new n is fit = exchanged s v n in_v
         (λ t other. ap (λ q. has_own_cell q t) place-is)

@@ -13,12 +13,12 @@ use Rattle.plain_slots.specs.declared.log.Logged.TheVariants.{Exchanged}
 use Rattle.plain_slots.specs.declared.log.Logged.{Logged}
 use Rattle.plain_slots.specs.declared.station.Fits.{Ghosts}
 use Rattle.plain_slots.specs.declared.token.Holder.{Holder}
-use Rattle.plain_slots.specs.Cells.{has_cell, kept_note, fresh_note, NoteSays}
-use Rattle.plain_slots.specs.Desks.{Desk, place_at, OwnFits, NextFits, FinalisedFits}
-use Rattle.plain_slots.specs.Log.{calls_of, note_in}
+use Rattle.plain_slots.specs.Cells.{has_cell, kept_note, fresh_note}
+use Rattle.plain_slots.specs.Desks.{Desk, own_place, OwnFits, NextFits, OwnCellSays, CellSays}
+use Rattle.plain_slots.specs.Log.{calls_of}
 use Rattle.plain_slots.specs.Objects.{Story, place_in}
 use Rattle.plain_slots.specs.Plain.{IsPlain}
-use Rattle.plain_slots.specs.Seats.{desk_over, trail_in}
+use Rattle.plain_slots.specs.Seats.{desk_over, shown_by}
 use Rattle.plain_slots.specs.Tokens.{IsHolder}
 use Rattle.plain_slots.proofs.CellsExchanged.{own-cell-says, plain-own-cell, cell-says, plain-cell}
 use Rattle.plain_slots.proofs.Lists.{pair-within}
@@ -59,12 +59,12 @@ module _ {B Sub : Type 0} {b : Ghosts B Sub} (seat : Seat b) (legal : IsLegal se
 
   -- ---- the cell of v at the slot that is held
 
-  module _ (x : Holder) (is : IsHolder own.shape w (place_at own (trail_in w (calls_of now))) x) (v : ℕ) (in_v : v < own.shape.workers) {i : ℕ} (at : i ≡ x.slot * o.shape.workers + v) where
+  module _ (x : Holder) (is : IsHolder own.shape w (own_place (shown_by own now)) x) (v : ℕ) (in_v : v < own.shape.workers) {i : ℕ} (at : i ≡ x.slot * o.shape.workers + v) where
     abbrev held : Held
     held = record { query = x.query; stage = x.stage; again = x.again; noted = is.noted; total = is.total }
 
-    holds : place_at desk (trail_in w (calls_of o.log)) ≡ Holding x.slot held
-    holds = to-object seat (λ D l. place_at D (trail_in D.worker (calls_of l)) ≡ Holding x.slot held) is.place
+    holds : own_place (shown_by desk o.log) ≡ Holding x.slot held
+    holds = to-object seat (λ D l. own_place (shown_by D l) ≡ Holding x.slot held) is.place
 
     in-workers : v < o.shape.workers
     in-workers = shape-for seat (λ d. v < d.workers) in_v
@@ -76,16 +76,16 @@ module _ {B Sub : Type 0} {b : Ghosts B Sub} (seat : Seat b) (legal : IsLegal se
     cell-index = let c = seat.plain.count in let p = pair-within o.shape.slots o.shape.workers x.slot v in-slots in-workers in omega arith
 
     pub seat-cell-says : {r : Option B} → r ≡ get_or cells i r
-        → NoteSays (FinalisedFits b.fits own (trail_in w (calls_of now)) v) (NextFits b.fits own (trail_in w (calls_of now)) v) (note_in now w v) r
+        → CellSays b.fits (shown_by own now) v r
     seat-cell-says {r = r} read =
-        to-seat seat (λ D l. NoteSays (FinalisedFits b.fits D (trail_in D.worker (calls_of l)) v) (NextFits b.fits D (trail_in D.worker (calls_of l)) v) (note_in l D.worker v) r)
+        to-seat seat (λ D l. CellSays b.fits (shown_by D l) v r)
         (cell-says b.queries b.total b.fits o.shape seat.inside.subject.value o.log cells w (own-below seat) legal seat.plain x.slot held holds v in-workers r
         (element x.slot v i in-slots in-workers at r read))
 
-    pub seat-cell : {new dest : Option B} → dest ≡ new → {n : Note} → n ≡ fresh_note new → IfSome new (NextFits b.fits own (trail_in w (calls_of now)) v)
+    pub seat-cell : {new dest : Option B} → dest ≡ new → {n : Note} → n ≡ fresh_note new → IfSome new (NextFits b.fits (shown_by own now) v)
         → {o' : Story} → o' ≡ longer v n → IsTable o' (set cells i dest)
     seat-cell {new = new} {dest = dest} puts {n = n} notes fit {o' = o'} grows =
-        let f = to-object seat (λ D l. IfSome new (NextFits b.fits D (trail_in D.worker (calls_of l)) v)) fit in
+        let f = to-object seat (λ D l. IfSome new (NextFits b.fits (shown_by D l) v)) fit in
         let p = plain-cell b.queries b.total b.fits o.shape seat.inside.subject.value o.log cells w (own-below seat) legal seat.plain x.slot held holds
         v in-workers new n notes f in
         subst (λ y. IsTable y (set cells i dest)) (sym grows)
@@ -94,9 +94,9 @@ module _ {B Sub : Type 0} {b : Ghosts B Sub} (seat : Seat b) (legal : IsLegal se
 
   -- ---- the own cell
 
-  module _ (has : has_cell (place_at own (trail_in w (calls_of now))) ≡ true) {i : ℕ} (at : i ≡ slot_of (place_in o w) * o.shape.workers + w) where
-    own-has : has_cell (place_at desk (trail_in w (calls_of o.log))) ≡ true
-    own-has = to-object seat (λ D l. has_cell (place_at D (trail_in D.worker (calls_of l))) ≡ true) has
+  module _ (has : has_cell (own_place (shown_by own now)) ≡ true) {i : ℕ} (at : i ≡ slot_of (place_in o w) * o.shape.workers + w) where
+    own-has : has_cell (own_place (shown_by desk o.log)) ≡ true
+    own-has = to-object seat (λ D l. has_cell (own_place (shown_by D l)) ≡ true) has
 
     own-slots : slot_of (place_in o w) < o.shape.slots
     own-slots = has-within o.shape (place_in o w) (ap has_cell (sym (place-trail o.shape w (calls_of o.log))) ∙ own-has) ((within o.shape (calls_of o.log) legal).places w)
@@ -104,16 +104,16 @@ module _ {B Sub : Type 0} {b : Ghosts B Sub} (seat : Seat b) (legal : IsLegal se
     pub own-index : i < length cells
     own-index = let c = seat.plain.count in let p = pair-within o.shape.slots o.shape.workers (slot_of (place_in o w)) w own-slots (own-below seat) in omega arith
 
-    pub seat-own_says : {r : Option B} → r ≡ get_or cells i r → NoteSays (OwnFits b.fits own (trail_in w (calls_of now))) (λ b. ⊥) (note_in now w w) r
+    pub seat-own_says : {r : Option B} → r ≡ get_or cells i r → OwnCellSays b.fits (shown_by own now) r
     seat-own_says {r = r} read =
-        to-seat seat (λ D l. NoteSays (OwnFits b.fits D (trail_in D.worker (calls_of l))) (λ b. ⊥) (note_in l D.worker D.worker) r)
+        to-seat seat (λ D l. OwnCellSays b.fits (shown_by D l) r)
         (own-cell-says b.queries b.total b.fits o.shape seat.inside.subject.value o.log cells w (own-below seat) legal seat.plain own-has r
         (element (slot_of (place_in o w)) w i own-slots (own-below seat) at r read))
 
-    pub seat-own : {new dest : Option B} → dest ≡ new → {n : Note} → n ≡ kept_note new → IfSome new (OwnFits b.fits own (trail_in w (calls_of now)))
+    pub seat-own : {new dest : Option B} → dest ≡ new → {n : Note} → n ≡ kept_note new → IfSome new (OwnFits b.fits (shown_by own now))
         → {o' : Story} → o' ≡ longer w n → IsTable o' (set cells i dest)
     seat-own {new = new} {dest = dest} puts {n = n} notes fit {o' = o'} grows =
-        let f = to-object seat (λ D l. IfSome new (OwnFits b.fits D (trail_in D.worker (calls_of l)))) fit in
+        let f = to-object seat (λ D l. IfSome new (OwnFits b.fits (shown_by D l))) fit in
         let p = plain-own-cell b.queries b.total b.fits o.shape seat.inside.subject.value o.log cells w (own-below seat) legal seat.plain
         own-has new n notes f in
         subst (λ y. IsTable y (set cells i dest)) (sym grows)

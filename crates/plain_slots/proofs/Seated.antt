@@ -1,5 +1,5 @@
 -- A call over a seat of a table.
-use Rattle.std.proofs.Common.{◌≡◌, ◌≢◌, ℕ, ◌+◌, ◌<◌, ◌⊎◌, ⊎_elim, min, IsSome, IsSomeAnd, Bool, true, false, cond, eqb, ◌&&◌, inl, inr, arith, List, [], ◌∷◌, ◌++◌, All, Option, Some, None, slice_get, refl, sym, ap, ap₂, ◌∙◌, subst, eq-eqb, ne_eqb}
+use Rattle.std.proofs.Common.{◌≡◌, ◌≢◌, ℕ, ◌+◌, ◌<◌, ◌≤◌, ◌⊎◌, ⊎_elim, min, IsSome, IsSomeAnd, Bool, true, false, cond, eqb, ◌&&◌, inl, inr, arith, List, [], ◌∷◌, ◌++◌, All, Option, Some, None, slice_get, refl, sym, ap, ap₂, ◌∙◌, subst, eq-eqb, ne_eqb}
 use Rattle.std.proofs.lemmas.List.Elements.{All-cons}
 use Rattle.std.proofs.lemmas.Option.{get_or_from_slice_get, slice_get_within}
 use mathlib.Core.Bool.{true≢false}
@@ -8,6 +8,7 @@ use native.Mathlib.Decide.{ℕ_discrete}
 use Rattle.std.proofs.lemmas.Bool.{cond_both}
 use Rattle.std.specs.Option.{is_some}
 use Rattle.slot_history.specs.declared.shape.Shape.{Shape}
+use Rattle.slot_history.specs.declared.shape.TheConstants.{MOST_SLOTS, MOST_WORKERS}
 use Rattle.slot_history.specs.declared.act.Act.{Act}
 use Rattle.slot_history.specs.declared.act.Act.TheVariants.{Enter, LookOpen, LookInvalid, LookVacant, ClaimRange, ClaimUsed, ShutWon, ShutLost, LeaveLeft, LeaveOwe, PayLast, PayDone, MarkMarked, MarkMissed, SweepLast, SweepOthers, ReserveGot, ReserveTaken, AdmitGot, AdmitLost, Arrivals, Finished, Note as NoteDone, Total, Install, Release, Tell, TakeReturn, TakeChange}
 use Rattle.slot_history.specs.declared.act.Entry.{Entry}
@@ -56,12 +57,12 @@ use Rattle.plain_slots.specs.declared.seat.PlainSeat.{PlainSeat}
 use Rattle.plain_slots.specs.declared.table.PlainTable.TheInside.{Inside}
 use Rattle.plain_slots.specs.Cells.{has_cell, noted}
 use Rattle.plain_slots.specs.Replies.{look_act, leave_act, claim_act, shut_act, mark_act, sweep_act, pay_act, reserve_act, admit_act, admitted_holder, marked_more, SeesTaskSet, OwesTaskSet, IsCutRange, LiesPast}
-use Rattle.plain_slots.specs.Desks.{Desk, place_at, held_by, ranges_at, Makes}
+use Rattle.plain_slots.specs.Desks.{Desk, Seen, own_place, own_holding, own_ranges, AllNoted, KeptOwn, Makes}
 use Rattle.plain_slots.specs.Log.{calls_of, note_in, call, who}
 use Rattle.plain_slots.specs.Plain.{Plain, IsPlain, InstallsOf, AllOfTotals, HoldsTaskSet}
 use Rattle.plain_slots.specs.Objects.{Story, MakesCall, place_in, state_in}
 use Rattle.plain_slots.specs.Tokens.{IsHolder, IsCoordinator, IsAnnouncer, IsDone, opens, last_opened}
-use Rattle.plain_slots.specs.Seats.{IsSince, desk_over, trail_in}
+use Rattle.plain_slots.specs.Seats.{IsSince, desk_over, trail_in, seen_by, shown_by}
 use Rattle.plain_slots.proofs.Trails.{own-trail, place-trail}
 use Rattle.plain_slots.proofs.OwnCells.{NotesAllow}
 use Rattle.plain_slots.proofs.CellsKept.{plain-call}
@@ -82,11 +83,13 @@ trail-call w a h = ap (λ b. cond b (entry w a ∷ h) (trail_in w h)) (eq-eqb w 
 pub called : (d : Shape) (w : ℕ) (a : Act) (h : List Entry) → IsLegal d (entry w a ∷ h) → Called d w a (trail_in w h) (trail_in w (entry w a ∷ h))
 called d w a h legal = (h, trail-call w a h, begins w h, sym (own-trail w h), subst (IsLegal d) (sym (trail-call w a h)) legal)
 
--- what a call makes of the worker's trail and notes
-pub made : {Sub : Type 0} (total : Sub → ℕ → Option ℕ) (D : Desk Sub) (a : Act) (log : List Logged)
+-- what a call makes of what the seat shows
+pub made : {O Sub : Type 0} (o : O) (total : Sub → ℕ → Option ℕ) (D : Desk Sub) (a : Act) (log : List Logged)
     → IsLegal D.shape (calls_of (call D.worker a ∷ log)) → IsOfTotals (total D.subject) D.shape (calls_of (call D.worker a ∷ log))
-    → Makes total D a (trail_in D.worker (calls_of log)) (trail_in D.worker (calls_of (call D.worker a ∷ log))) (note_in log D.worker) (note_in (call D.worker a ∷ log) D.worker)
-made total D a log legal of_totals = record {
+    → Makes total a (seen_by o D log) (seen_by o D (call D.worker a ∷ log))
+made o total D a log legal of_totals = record {
+  origin = refl;
+  desk = refl;
   called = called D.shape D.worker a (calls_of log) legal;
   of_subject = subst (IsOfTotals (total D.subject) D.shape) (sym (trail-call D.worker a (calls_of log))) of_totals;
   notes = λ v h. ap (λ b. cond b (noted a D.worker v (note_in log D.worker v)) (note_in log D.worker v)) (eq-eqb D.worker D.worker refl);
@@ -149,8 +152,12 @@ module _ {B Sub : Type 0} {b : Ghosts B Sub} (x : Seat b) where
   abbrev trail : List Entry
   trail = trail_in worker (calls_of now.log)
 
+  -- what the seat shows, but for its origin
+  abbrev shown : Seen (Unit {0}) Sub
+  shown = shown_by desk now.log
+
   abbrev place : Place
-  place = place_at desk trail
+  place = own_place shown
 
   pub object-shape : object.shape ≡ start.shape
   object-shape = ap (λ (t : Plain Sub). t.shape) x.view ∙ x.seat.shape
@@ -202,25 +209,25 @@ module _ {B Sub : Type 0} {b : Ghosts B Sub} (x : Seat b) where
   own-trail-place : place_of object.shape (trail_in worker (calls_of object.log)) worker ≡ place
   own-trail-place = place-trail object.shape worker (calls_of object.log) ∙ place-of
 
-  all-cells : (n : Note) → ((v : ℕ) → v < start.shape.workers → note_in now.log worker v ≡ n) → (v : ℕ) → v < object.shape.workers → note_in object.log worker v ≡ n
+  all-cells : (n : Note) → AllNoted n shown → (v : ℕ) → v < object.shape.workers → note_in object.log worker v ≡ n
   all-cells n cells v low = notes-for (λ f. f v ≡ n) (cells v (subst (λ (d : Shape). v < d.workers) object-shape low))
 
   -- who leaves has kept its own cell, as a leave asks
-  leave-kept : (has_cell place ≡ true → note_in now.log worker worker ≡ Kept) → has_cell (place_of object.shape (trail_in worker (calls_of object.log)) worker) ≡ true
+  leave-kept : KeptOwn shown → has_cell (place_of object.shape (trail_in worker (calls_of object.log)) worker) ≡ true
       → note_in object.log worker worker ≡ Kept
   leave-kept h k = notes-for (λ n. n worker ≡ Kept) (h (subst (λ p. has_cell p ≡ true) own-trail-place k))
 
-  pub leave-allows : (l : Leave) → (has_cell place ≡ true → note_in now.log worker worker ≡ Kept) → Allows (leave_act l)
+  pub leave-allows : (l : Leave) → KeptOwn shown → Allows (leave_act l)
   leave-allows leave.Left h = leave-kept h
   leave-allows (leave.Owe y) h = leave-kept h
 
-  pub install-allows : (id : ℕ) → IsReady (held_by desk trail) → (held_by desk trail).total ≡ b.total start.subject id
-      → ((v : ℕ) → v < start.shape.workers → note_in now.log worker v ≡ Fresh) → Allows (Install id)
+  pub install-allows : (id : ℕ) → IsReady (own_holding shown) → (own_holding shown).total ≡ b.total start.subject id
+      → AllNoted Fresh shown → Allows (Install id)
   install-allows id ready set cells =
       let totals = ap (λ u. b.total u id) table-subject ∙ sym set in
       (all-cells Fresh cells, subst (λ p. IsSome (held_at p).total × (b.total subject id ≡ (held_at p).total)) (sym own-trail-place) (ready.has_total, totals))
 
-  pub release-allows : ((v : ℕ) → v < start.shape.workers → note_in now.log worker v ≡ note.Empty) → Allows Release
+  pub release-allows : AllNoted note.Empty shown → Allows Release
   release-allows cells = all-cells note.Empty cells
 
   pub look-allows : (l : Look) → Allows (look_act l)
@@ -262,6 +269,9 @@ module _ {B Sub : Type 0} {b : Ghosts B Sub} (x : Seat b) where
   abbrev SeatOver : Plain Sub → Type 0
   SeatOver t = record {
     below : worker < t.shape.workers;
+    workers : (0 < start.shape.workers) × (start.shape.workers ≤ MOST_WORKERS);
+    slots : (0 < start.shape.slots) × (start.shape.slots ≤ MOST_SLOTS);
+    queries : start.shape.queries ≡ b.queries start.subject;
     shape : t.shape ≡ start.shape;
     subject : t.subject ≡ start.subject;
     since : ∥ IsSince start t worker ∥₁;
@@ -273,7 +283,7 @@ module _ {B Sub : Type 0} {b : Ghosts B Sub} (x : Seat b) where
       let P : Story → Type 0 = λ y. SeatOver (record { shape = y.shape; subject = subject; log = y.log }) in
       let longer : Plain Sub = record { shape = object.shape; subject = subject; log = e ∷ object.log } in
       let since = ∥∥₁_map x.seat.since (since-step start now longer worker e mine (ap (λ (t : Plain Sub). record t { log = e ∷ t.log }) x.view)) in
-      subst P (sym grows) (record { below = own-below; shape = object-shape; subject = table-subject; since = since })
+      subst P (sym grows) (record { below = own-below; workers = x.seat.workers; slots = x.seat.slots; queries = x.seat.queries; shape = object-shape; subject = table-subject; since = since })
 
   module _ {a : Act} {new : Story} (m : MakesCall object worker a new) where
     abbrev after : Plain Sub
@@ -306,17 +316,17 @@ module _ {B Sub : Type 0} {b : Ghosts B Sub} (x : Seat b) where
     pub seat-after : SeatOver after
     seat-after =
         let below = subst (λ (d : Shape). worker < d.workers) (x.seat.shape ∙ sym new-shape) x.seat.below in
-        record { below = below; shape = new-shape; subject = table-subject; since = new-since }
+        record { below = below; workers = x.seat.workers; slots = x.seat.slots; queries = x.seat.queries; shape = new-shape; subject = table-subject; since = new-since }
 
     -- a token, by the place after the call
-    pub token-for : (X : Shape → Place → Type 0) → X object.shape (place_in new worker) → X start.shape (place_at desk (trail_in worker (calls_of new.log)))
+    pub token-for : (X : Shape → Place → Type 0) → X object.shape (place_in new worker) → X start.shape (own_place (shown_by desk new.log))
     token-for X h =
         let at = ap (λ d. place_of d (calls_of new.log) worker) new-shape ∙ sym (place-trail start.shape worker (calls_of new.log)) in
         subst (X start.shape) at (subst (λ d. X d (place_in new worker)) object-shape h)
 
-    -- what the call makes of trail and notes
-    pub seat-makes : Allows a → Makes b.total desk a trail (trail_in worker (calls_of new.log)) (note_in now.log worker) (note_in new.log worker)
-    seat-makes allow =
+    -- what the call makes of what the seat shows
+    pub seat-makes : {O : Type 0} {o : O} → Allows a → Makes b.total a (seen_by o desk now.log) (seen_by o desk new.log)
+    seat-makes {o = o} allow =
         let d = start.shape in
         let totals = b.total start.subject in
         let legal : IsLegal d (calls_of (call worker a ∷ now.log)) = subst (λ l. IsLegal d (calls_of l)) grows (subst (λ e. IsLegal e (calls_of new.log)) new-shape m.legal) in
@@ -324,8 +334,8 @@ module _ {B Sub : Type 0} {b : Ghosts B Sub} (x : Seat b) where
         subst (λ l. AllOfTotals totals d (calls_of l)) grows
         (subst (λ e. AllOfTotals totals e (calls_of new.log)) new-shape
         (subst (λ u. AllOfTotals (b.total u) new.shape (calls_of new.log)) table-subject (table-after allow).of_subject)) in
-        subst (λ l. Makes b.total desk a trail (trail_in worker (calls_of l)) (note_in now.log worker) (note_in l worker)) (sym grows)
-        (made b.total desk a now.log legal (of-totals totals d (calls_of (call worker a ∷ now.log)) all))
+        subst (λ l. Makes b.total a (seen_by o desk now.log) (seen_by o desk l)) (sym grows)
+        (made o b.total desk a now.log legal (of-totals totals d (calls_of (call worker a ∷ now.log)) all))
 
 -- ---- what a caller needs of a reply's numbers
 
@@ -409,10 +419,10 @@ module _ {B Sub : Type 0} {b : Ghosts B Sub} (x : Seat b) where
     seat-owes l m = subst (λ u. OwesTaskSet (b.total u) l) (table-subject x) (owes-set (b.total (subject x)) (object x) x.plain.task_sets (worker x) l new m)
 
     -- whoever shut the task set leaves without a debt
-    pub seat-leaves : (l : Leave) → MakesCall (object x) (worker x) (leave_act l) new → (has_cell (place x) ≡ true → note_in (now x).log (worker x) (worker x) ≡ Kept)
+    pub seat-leaves : (l : Leave) → MakesCall (object x) (worker x) (leave_act l) new → KeptOwn (shown x)
         → (s id : ℕ) → place x ≡ Leading s id → l ≡ leave.Left
     seat-leaves l m kept =
-        let made = seat-makes x m (leave-allows x l kept) in
+        let made = seat-makes x m {o = tt {0}} (leave-allows x l kept) in
         leading-left (start x).shape (worker x) l (trail x) (trail_in (worker x) (calls_of new.log)) made.called
 
     pub seat-cuts : (n : ℕ) (c : Claim) → MakesCall (object x) (worker x) (claim_act n c) new → IsCutRange (totals (id_at (place x))) n c
@@ -422,9 +432,9 @@ module _ {B Sub : Type 0} {b : Ghosts B Sub} (x : Seat b) where
         (subst (λ u. IsCutRange (b.total u (id_at (place_in (object x) (worker x)))) n c) (table-subject x) cut)
 
     -- a range lies past the worker's earlier ones of its task set
-    pub seat-past : (n : ℕ) (c : Claim) → MakesCall (object x) (worker x) (claim_act n c) new → (s id : ℕ) × (place x ≡ At s id) → LiesPast (ranges_at (desk x) (trail x)) c
+    pub seat-past : (n : ℕ) (c : Claim) → MakesCall (object x) (worker x) (claim_act n c) new → (s id : ℕ) × (place x ≡ At s id) → LiesPast (own_ranges (shown x)) c
     seat-past n c m at =
-        let made = seat-makes x m (claim-allows x n c) in
+        let made = seat-makes x m {o = tt {0}} (claim-allows x n c) in
         range-past (start x).shape (worker x) n c (trail x) (trail_in (worker x) (calls_of new.log)) made.called at
 
 -- ---- the cells of a new table
@@ -571,9 +581,12 @@ announcer-opened d w s again [] k at = absurd (cc at)
 announcer-opened d w s again (e ∷ es) k at = opened-step d w s k again e es (announcer-opened d w s again es) (ℕ_discrete w e.worker) at
 
 -- an announcer that told every worker
-pub tell-done : (d : Shape) (w : ℕ) (h : List Entry) (x : Announcer) → IsAnnouncer d w (place_of d (trail_in w h) w) x → x.told + 1 ≡ d.workers
-    → IsDone d w (trail_in w (entry w Tell ∷ h)) (record x { told = x.told + 1 })
-tell-done d w h x ok all =
+pub tell-done : {O Sub : Type 0} (o : O) (D : Desk Sub) (log : List Logged) (x : Announcer) → let d = D.shape in let w = D.worker in let h = calls_of log in
+    IsAnnouncer d w (own_place (seen_by o D log)) x → x.told + 1 ≡ d.workers → IsDone (seen_by o D (call w Tell ∷ log)) (record x { told = x.told + 1 })
+tell-done o D log x ok all =
+    let d = D.shape in
+    let w = D.worker in
+    let h = calls_of log in
     let at : place_of d h w ≡ Announcing x.slot x.again x.told = sym (place-trail d w h) ∙ ok.place in record {
       worker = ok.worker;
       workers = ok.workers;
@@ -585,9 +598,7 @@ tell-done d w h x ok all =
           ∙ announcer-opened d w x.slot x.again h x.told at;
     }
 
-pub seat-done : {B Sub : Type 0} {b : Ghosts B Sub} (s : Seat b) {new : Story} → MakesCall (object s) (worker s) Tell new → (x : Announcer)
+pub seat-done : {O B Sub : Type 0} {o : O} {b : Ghosts B Sub} (s : Seat b) {new : Story} → MakesCall (object s) (worker s) Tell new → (x : Announcer)
     → IsAnnouncer (start s).shape (worker s) (place s) x → x.told + 1 ≡ (start s).shape.workers
-    → IsDone (start s).shape (worker s) (trail_in (worker s) (calls_of new.log)) (record x { told = x.told + 1 })
-seat-done s m x ok all =
-    let told = tell-done (start s).shape (worker s) (calls_of (now s).log) x ok all in
-    subst (λ l. IsDone (start s).shape (worker s) (trail_in (worker s) (calls_of l)) (record x { told = x.told + 1 })) (sym (grows s m)) told
+    → IsDone (seen_by o (desk s) new.log) (record x { told = x.told + 1 })
+seat-done {o = o} s m x ok all = subst (λ l. IsDone (seen_by o (desk s) l) (record x { told = x.told + 1 })) (sym (grows s m)) (tell-done o (desk s) (now s).log x ok all)

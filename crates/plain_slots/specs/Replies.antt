@@ -3,6 +3,7 @@ use Rattle.std.specs.Prelude.{◌≡◌, ℕ, ◌+◌, ◌*◌, ◌<◌, ◌≤�
 use Rattle.std.specs.Int.{bit_at}
 use Rattle.slot_history.specs.declared.act.Act.{Act}
 use Rattle.slot_history.specs.declared.act.Act.TheVariants as act
+use Rattle.plain_slots.specs.declared.token.Coordinator.{Coordinator}
 use Rattle.plain_slots.specs.declared.token.Holder.{Holder}
 use Rattle.plain_slots.specs.declared.reply.Look.{Look}
 use Rattle.plain_slots.specs.declared.reply.Look.TheVariants as look
@@ -91,6 +92,10 @@ OwesTaskSet total (leave.Owe x) = IsSome (total x.id)
 abbrev pub marked_more : Mark → ℕ
 marked_more mark.Marked = 1
 marked_more mark.Missed = 0
+
+-- what a mark makes of the coordinator
+abbrev pub marked_coordinator : Mark → Coordinator → Coordinator
+marked_coordinator m c = record c { asked = c.asked + 1; marked = c.marked + marked_more m }
 
 -- what the admission makes of the holder
 abbrev pub admitted_holder : ℕ → Admit → Holder → Holder

@@ -2,8 +2,8 @@
 use Rattle.std.specs.Prelude.{◌≡◌, ℕ, List, [], ◌∷◌, ◌++◌, cond, eqb, All}
 use Rattle.slot_history.specs.declared.act.Entry.{Entry}
 use Rattle.plain_slots.specs.declared.log.Logged.{Logged}
-use Rattle.plain_slots.specs.Desks.{Desk}
-use Rattle.plain_slots.specs.Log.{who}
+use Rattle.plain_slots.specs.Desks.{Desk, Seen}
+use Rattle.plain_slots.specs.Log.{calls_of, note_in, who}
 use Rattle.plain_slots.specs.Plain.{Plain}
 
 -- which table a seat borrows, by the name of the borrow, the table as it was when the seat was made, and whose seat it is
@@ -16,13 +16,23 @@ pub record SeatOrigin (Sub : Type 0) : Type 0 where
 abbrev pub desk_over : {Sub : Type 0} → Plain Sub → ℕ → Desk Sub
 desk_over t w = record { worker = w; shape = t.shape; subject = t.subject }
 
-abbrev pub desk_of : {Sub : Type 0} → SeatOrigin Sub → Desk Sub
-desk_of o = desk_over o.start o.worker
-
 -- the trail of w: the history up to its last entry
 abbrev pub trail_in : ℕ → List Entry → List Entry
 trail_in w [] = []
 trail_in w (e ∷ es) = cond (eqb w e.worker) (e ∷ es) (trail_in w es)
+
+-- what a seat with this origin and desk shows of itself, over a table with this log
+abbrev pub seen_by : {O Sub : Type 0} → O → Desk Sub → List Logged → Seen O Sub
+seen_by o desk l = record {
+  origin = o;
+  desk = desk;
+  trail = trail_in desk.worker (calls_of l);
+  notes = note_in l desk.worker;
+}
+
+-- and what it shows but for its origin
+abbrev pub shown_by : {Sub : Type 0} → Desk Sub → List Logged → Seen (Unit {0}) Sub
+shown_by desk l = seen_by tt desk l
 
 -- the table was `start`, and since then only w has made steps on it
 pub record IsSince {Sub : Type 0} (start now : Plain Sub) (w : ℕ) : Type 0 where

@@ -8,6 +8,7 @@ use Rattle.slot_history.specs.declared.place.Place.{Place}
 use Rattle.slot_history.specs.declared.place.Place.TheVariants.{Free, Used, Leading, Asking, Owing, Holding, Announcing}
 use Rattle.slot_history.specs.States.{slot_of, held_at}
 use Rattle.slot_history.specs.Histories.{place_of}
+use Rattle.plain_slots.specs.Desks.{Seen, own_place}
 use Rattle.plain_slots.specs.declared.token.Spent.{Spent}
 use Rattle.plain_slots.specs.declared.token.Debt.{Debt}
 use Rattle.plain_slots.specs.declared.token.Coordinator.{Coordinator}
@@ -99,10 +100,10 @@ abbrev pub last_opened : Shape → ℕ → List Entry → Option (ℕ × Bool)
 last_opened d w [] = None
 last_opened d w (e ∷ es) = cond (eqb w e.worker && opens e.act) (Some (slot_of (place_of d es w), (held_at (place_of d es w)).again)) (last_opened d w es)
 
--- the token of the worker's last install, by the trail t, after it has told every worker
-pub record IsDone (d : Shape) (w : ℕ) (t : List Entry) (x : Announcer) : Type 0 where
-  pub worker : x.worker ≡ w
-  pub workers : x.workers ≡ d.workers
-  pub told : x.told ≡ d.workers
-  pub free : place_of d t w ≡ Free
-  pub opened : last_opened d w t ≡ Some (x.slot, x.again)
+-- the token of the worker's last install, after it has told every worker
+pub record IsDone {O Sub : Type 0} (x : Seen O Sub) (token : Announcer) : Type 0 where
+  pub worker : token.worker ≡ x.desk.worker
+  pub workers : token.workers ≡ x.desk.shape.workers
+  pub told : token.told ≡ x.desk.shape.workers
+  pub free : own_place x ≡ Free
+  pub opened : last_opened x.desk.shape x.desk.worker x.trail ≡ Some (token.slot, token.again)

@@ -1,6 +1,6 @@
 //! A table and its workers, played entry by entry.
 ghost use Rattle.std.specs.Prelude.{◌≡◌, ◌<◌};
-ghost use Rattle.plain_slots.specs.Desks.{place_at};
+ghost use Rattle.plain_slots.specs.Desks.{own_place};
 ghost use Rattle.plain_slots.specs.Played.{seat_place};
 
 use crate::seat::PlainSeat;
@@ -101,9 +101,9 @@ fn call<S: Station<Piece>, L: Ledger>(
     act: &Act,
     steps: &mut Steps<L>,
 ) -> (Act, Hand)
-    requires place { place.now ≡ place_at (S.desk (S.origin station.old)) (S.trail station.old) }
-    requires subject { sets.now ≡ (S.desk (S.origin station.old)).subject }
-    ensures { S.origin station.new ≡ S.origin station.old }
+    requires place { place.now ≡ own_place (S.seen station.old) }
+    requires subject { sets.now ≡ (S.seen station.old).desk.subject }
+    ensures { (S.seen station.new).origin ≡ (S.seen station.old).origin }
 {
     match *act {
         Act::Arrivals(_) => (Act::Arrivals(station.arrivals(steps)), hand),
@@ -137,8 +137,8 @@ fn call_at_slot<S: Station<Piece>, L: Ledger>(
     act: &Act,
     steps: &mut Steps<L>,
 ) -> (Act, Hand)
-    requires { place.now ≡ place_at (S.desk (S.origin station.old)) (S.trail station.old) }
-    ensures { S.origin station.new ≡ S.origin station.old }
+    requires { place.now ≡ own_place (S.seen station.old) }
+    ensures { (S.seen station.new).origin ≡ (S.seen station.old).origin }
 {
     match *act {
         Act::Enter(s) => (worker_calls::enter(rt, station, place, s, steps), hand),

@@ -1,11 +1,12 @@
 //! The station of one worker over a table for one thread.
-ghost use Rattle.std.specs.Prelude.{◌≡◌, ◌≢◌, ℕ, ◌+◌, ◌<◌, true, IfSome};
+ghost use Rattle.std.specs.Prelude.{◌≡◌, ◌≢◌, ℕ, ◌+◌, ◌<◌, ◌≤◌, true, IfSome};
 ghost use Rattle.std.proofs.Props.{props};
+ghost use Rattle.std.proofs.Common.{subst};
 ghost use Rattle.std.specs.Coded.{Coded-set};
-ghost use Rattle.plain_slots.specs.Cells.{has_cell, kept_note, fresh_note, NoteSays};
-ghost use Rattle.plain_slots.specs.Desks.{place_at, ByTrail, OwnFits, NextFits, FinalisedFits};
-ghost use Rattle.plain_slots.specs.Log.{calls_of, note_in};
-ghost use Rattle.plain_slots.specs.Seats.{IsSince, SeatOrigin, desk_over, desk_of, trail_in};
+ghost use Rattle.slot_history.specs.declared.shape.TheConstants.{MOST_SLOTS, MOST_WORKERS};
+ghost use Rattle.plain_slots.specs.Cells.{has_cell, kept_note, fresh_note};
+ghost use Rattle.plain_slots.specs.Desks.{own_place, Owns, Exchanges, ExchangesOwn, OwnFits, NextFits, OwnCellSays, CellSays};
+ghost use Rattle.plain_slots.specs.Seats.{IsSince, SeatOrigin, desk_over, seen_by};
 ghost use Rattle.plain_slots.specs.Tokens.{IsHolder};
 
 use crate::answers::cell_index;
@@ -28,6 +29,9 @@ pub struct PlainSeat<'a, B: Fits> {
     /// The table as it was when the seat was made, for contracts alone.
     pub start: Snapshot<PlainTable<B>>,
     ghost below: { worker < table.now.shape.workers },
+    ghost workers: { (0 < start.value.shape.workers) × (start.value.shape.workers ≤ MOST_WORKERS) },
+    ghost slots: { (0 < start.value.shape.slots) × (start.value.shape.slots ≤ MOST_SLOTS) },
+    ghost queries: { start.value.shape.queries ≡ B.queries start.value.subject },
     ghost shape: { table.now.shape ≡ start.value.shape },
     ghost subject: { table.now.subject ≡ start.value.subject } by { Prim.hlevel (props, Coded-set B.Subject.code) },
     ghost since: { ∥ IsSince start.value table.now worker ∥₁ },
@@ -42,6 +46,7 @@ impl<B: Fits> PlainTable<B> {
         ensures start { result.start.value ≡ self.old }
         ensures worker { result.worker ≡ worker }
     {
+        let _ = self.object.shape();
         let start = Snapshot::of(&*self);
         PlainSeat {
             table: self,
@@ -63,16 +68,10 @@ impl<B: Fits> Drop for PlainSeat<'_, B> {
     }
 }
 
-impl<B: Fits> Station<B> for PlainSeat<'_, B> {
+impl<'a, B: Fits> Station<B> for PlainSeat<'a, B> {
     ghost Origin = { SeatOrigin B.Subject };
 
-    ghost origin = { λ s. record { name = s.table.ghost_name; start = s.start.value; worker = s.worker } };
-
-    ghost desk = { desk_of };
-
-    ghost trail = { λ s. trail_in s.worker (calls_of s.table.now.log) };
-
-    ghost notes = { λ s v. note_in s.table.now.log s.worker v };
+    ghost seen = { λ s. seen_by (record { name = s.table.ghost_name; start = s.start.value; worker = s.worker }) (desk_over s.start.value s.worker) s.table.now.log };
 
     fn worker(&self) -> u32 {
         self.worker
@@ -239,18 +238,12 @@ impl<B: Fits> Station<B> for PlainSeat<'_, B> {
         new: Option<B>,
         steps: &mut Steps<L>,
     ) -> Option<B>
-        requires holder { ByTrail IsHolder (desk_over self.old.start.value self.old.worker) (trail_in self.old.worker (calls_of self.old.table.now.log)) holder.old }
-        requires worker { worker < self.old.start.value.shape.workers }
-        requires fits { IfSome new (NextFits B.fits (desk_over self.old.start.value self.old.worker) (trail_in self.old.worker (calls_of self.old.table.now.log)) worker) }
-        ensures says { NoteSays (FinalisedFits B.fits (desk_over self.old.start.value self.old.worker) (trail_in self.old.worker (calls_of self.old.table.now.log)) worker) (NextFits B.fits (desk_over self.old.start.value self.old.worker) (trail_in self.old.worker (calls_of self.old.table.now.log)) worker)
-            (note_in self.old.table.now.log self.old.worker worker) result }
-        ensures note { note_in self.new.table.now.log self.new.worker worker ≡ fresh_note new }
-        ensures notes { (v : ℕ) → v ≢ worker → note_in self.new.table.now.log self.new.worker v ≡ note_in self.old.table.now.log self.old.worker v }
+        requires holder { Owns IsHolder (⟦<PlainSeat<'a, B> as Station<B>>⟧.seen self.old) holder.old }
+        requires worker { worker < (⟦<PlainSeat<'a, B> as Station<B>>⟧.seen self.old).desk.shape.workers }
+        requires fits { IfSome new (NextFits B.fits (⟦<PlainSeat<'a, B> as Station<B>>⟧.seen self.old) worker) }
+        ensures says { CellSays B.fits (⟦<PlainSeat<'a, B> as Station<B>>⟧.seen self.old) worker result }
+        ensures put { Exchanges worker (fresh_note new) (⟦<PlainSeat<'a, B> as Station<B>>⟧.seen self.old) (⟦<PlainSeat<'a, B> as Station<B>>⟧.seen self.new) }
         ensures same { holder.new ≡ holder.old }
-        ensures trail { trail_in self.new.worker (calls_of self.new.table.now.log) ≡ trail_in self.old.worker (calls_of self.old.table.now.log) }
-        ensures name { self.new.table.ghost_name ≡ self.old.table.ghost_name }
-        ensures start { self.new.start.value ≡ self.old.start.value }
-        ensures own { self.new.worker ≡ self.old.worker }
         ensures ticks { steps.new ≡ steps.old + 1 }
     {
         steps.tick();
@@ -268,16 +261,10 @@ impl<B: Fits> Station<B> for PlainSeat<'_, B> {
     }
 
     fn own_cell<L: Ledger>(&mut self, new: Option<B>, steps: &mut Steps<L>) -> Option<B>
-        requires place { has_cell (place_at (desk_over self.old.start.value self.old.worker) (trail_in self.old.worker (calls_of self.old.table.now.log))) ≡ true }
-        requires fits { IfSome new (OwnFits B.fits (desk_over self.old.start.value self.old.worker) (trail_in self.old.worker (calls_of self.old.table.now.log))) }
-        ensures says { NoteSays (OwnFits B.fits (desk_over self.old.start.value self.old.worker) (trail_in self.old.worker (calls_of self.old.table.now.log))) (λ _. ⊥)
-            (note_in self.old.table.now.log self.old.worker self.old.worker) result }
-        ensures note { note_in self.new.table.now.log self.new.worker self.old.worker ≡ kept_note new }
-        ensures notes { (v : ℕ) → v ≢ self.old.worker → note_in self.new.table.now.log self.new.worker v ≡ note_in self.old.table.now.log self.old.worker v }
-        ensures trail { trail_in self.new.worker (calls_of self.new.table.now.log) ≡ trail_in self.old.worker (calls_of self.old.table.now.log) }
-        ensures name { self.new.table.ghost_name ≡ self.old.table.ghost_name }
-        ensures start { self.new.start.value ≡ self.old.start.value }
-        ensures own { self.new.worker ≡ self.old.worker }
+        requires place { has_cell (own_place (⟦<PlainSeat<'a, B> as Station<B>>⟧.seen self.old)) ≡ true }
+        requires fits { IfSome new (OwnFits B.fits (⟦<PlainSeat<'a, B> as Station<B>>⟧.seen self.old)) }
+        ensures says { OwnCellSays B.fits (⟦<PlainSeat<'a, B> as Station<B>>⟧.seen self.old) result }
+        ensures put { ExchangesOwn (kept_note new) (⟦<PlainSeat<'a, B> as Station<B>>⟧.seen self.old) (⟦<PlainSeat<'a, B> as Station<B>>⟧.seen self.new) }
         ensures ticks { steps.new ≡ steps.old + 1 }
     {
         steps.tick();
@@ -294,4 +281,6 @@ impl<B: Fits> Station<B> for PlainSeat<'_, B> {
         });
         old
     }
+
+    ghost sound = { λ s. record { below = subst (λ d. s.worker < d.workers) s.shape s.below; workers = s.workers; slots = s.slots; queries_are = s.queries } };
 }

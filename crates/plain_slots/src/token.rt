@@ -84,7 +84,7 @@ impl Debt {
 
 impl Coordinator {
     ghost use Rattle.std.specs.Prelude.{◌≡◌, ◌↔◌, ◌+◌, ◌^◌, ◌<◌, IsTrue};
-    ghost use Rattle.plain_slots.specs.Replies.{marked_more};
+    ghost use Rattle.plain_slots.specs.Replies.{marked_coordinator};
 
     /// The slot of the task set.
     pub fn slot(&self) -> u32
@@ -103,7 +103,7 @@ impl Coordinator {
     /// Counts one more that was asked.
     pub fn count(&mut self, mark: Mark)
         requires { (self.old.asked + 1 < 2 ^ 32) × (self.old.marked + 1 < 2 ^ 32) }
-        ensures { self.new ≡ record self.old { asked = self.old.asked + 1; marked = self.old.marked + marked_more mark } }
+        ensures { self.new ≡ marked_coordinator mark self.old }
     {
         self.asked += 1;
         if mark == Mark::Marked {

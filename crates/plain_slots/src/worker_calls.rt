@@ -5,7 +5,7 @@ ghost use Rattle.std.specs.Prelude.{◌≡◌, ℕ, ◌<◌, true, IsSome, IfSom
 ghost use Rattle.slot_history.specs.States as states;
 ghost use Rattle.plain_slots.specs.declared.note.Note.TheVariants.{Kept};
 ghost use Rattle.plain_slots.specs.Cells.{has_cell, fresh_note};
-ghost use Rattle.plain_slots.specs.Desks.{place_at, held_by, ByTrail};
+ghost use Rattle.plain_slots.specs.Desks.{own_place, own_holding, Owns, KeepsTrail};
 ghost use Rattle.plain_slots.specs.Played.{total_in};
 ghost use Rattle.plain_slots.specs.Tokens.{IsHolder};
 
@@ -75,8 +75,8 @@ pub(crate) fn enter<S: Station<Piece>, L: Ledger>(
     s: u32,
     steps: &mut Steps<L>,
 ) -> Act
-    requires { place.now ≡ place_at (S.desk (S.origin station.old)) (S.trail station.old) }
-    ensures { S.origin station.new ≡ S.origin station.old }
+    requires { place.now ≡ own_place (S.seen station.old) }
+    ensures { (S.seen station.new).origin ≡ (S.seen station.old).origin }
 {
     let Place::Free = *place else {
         panic!(rt; "the worker is not free");
@@ -93,8 +93,8 @@ pub(crate) fn look<S: Station<Piece>, L: Ledger>(
     place: &Place,
     steps: &mut Steps<L>,
 ) -> Act
-    requires { place.now ≡ place_at (S.desk (S.origin station.old)) (S.trail station.old) }
-    ensures { S.origin station.new ≡ S.origin station.old }
+    requires { place.now ≡ own_place (S.seen station.old) }
+    ensures { (S.seen station.new).origin ≡ (S.seen station.old).origin }
 {
     let Place::Entered(_) = *place else {
         panic!(rt; "the worker has not just entered");
@@ -109,8 +109,8 @@ pub(crate) fn claim<S: Station<Piece>, L: Ledger>(
     n: u32,
     steps: &mut Steps<L>,
 ) -> (Act, Hand)
-    requires { place.now ≡ place_at (S.desk (S.origin station.old)) (S.trail station.old) }
-    ensures { S.origin station.new ≡ S.origin station.old }
+    requires { place.now ≡ own_place (S.seen station.old) }
+    ensures { (S.seen station.new).origin ≡ (S.seen station.old).origin }
 {
     let Place::Inside(..) = *place else {
         panic!(rt; "the worker is not inside");
@@ -132,8 +132,8 @@ pub(crate) fn shut<S: Station<Piece>, L: Ledger>(
     hand: Hand,
     steps: &mut Steps<L>,
 ) -> (Act, Hand)
-    requires { place.now ≡ place_at (S.desk (S.origin station.old)) (S.trail station.old) }
-    ensures { S.origin station.new ≡ S.origin station.old }
+    requires { place.now ≡ own_place (S.seen station.old) }
+    ensures { (S.seen station.new).origin ≡ (S.seen station.old).origin }
 {
     let (Place::Used(slot, id), Hand::Spent(spent)) = (*place, hand) else {
         panic!(rt; "the worker found no task set used up");
@@ -170,10 +170,9 @@ fn may_leave(place: &Place) -> bool
 
 /// Where the worker is inside, puts a piece of the task set into its own cell.
 fn keep_own<S: Station<Piece>, L: Ledger>(station: &mut S, place: &Place, steps: &mut Steps<L>)
-    requires { place.now ≡ place_at (S.desk (S.origin station.old)) (S.trail station.old) }
-    ensures origin { S.origin station.new ≡ S.origin station.old }
-    ensures trail { S.trail station.new ≡ S.trail station.old }
-    ensures note { has_cell place.now ≡ true → S.notes station.new (S.desk (S.origin station.old)).worker ≡ Kept }
+    requires { place.now ≡ own_place (S.seen station.old) }
+    ensures stays { KeepsTrail (S.seen station.old) (S.seen station.new) }
+    ensures note { has_cell place.now ≡ true → (S.seen station.new).notes (S.seen station.old).desk.worker ≡ Kept }
 {
     if is_inside(place) {
         let piece = Piece {
@@ -192,8 +191,8 @@ pub(crate) fn leave<S: Station<Piece>, L: Ledger>(
     hand: Hand,
     steps: &mut Steps<L>,
 ) -> (Act, Hand)
-    requires { place.now ≡ place_at (S.desk (S.origin station.old)) (S.trail station.old) }
-    ensures { S.origin station.new ≡ S.origin station.old }
+    requires { place.now ≡ own_place (S.seen station.old) }
+    ensures { (S.seen station.new).origin ≡ (S.seen station.old).origin }
 {
     assert!(rt; may_leave(place));
     keep_own(station, place, steps);
@@ -212,8 +211,8 @@ pub(crate) fn pay<S: Station<Piece>, L: Ledger>(
     hand: Hand,
     steps: &mut Steps<L>,
 ) -> (Act, Hand)
-    requires { place.now ≡ place_at (S.desk (S.origin station.old)) (S.trail station.old) }
-    ensures { S.origin station.new ≡ S.origin station.old }
+    requires { place.now ≡ own_place (S.seen station.old) }
+    ensures { (S.seen station.new).origin ≡ (S.seen station.old).origin }
 {
     let (Place::Owing(slot, id), Hand::Debt(debt)) = (*place, hand) else {
         panic!(rt; "the worker owes nothing");
@@ -235,8 +234,8 @@ pub(crate) fn mark<S: Station<Piece>, L: Ledger>(
     hand: Hand,
     steps: &mut Steps<L>,
 ) -> (Act, Hand)
-    requires { place.now ≡ place_at (S.desk (S.origin station.old)) (S.trail station.old) }
-    ensures { S.origin station.new ≡ S.origin station.old }
+    requires { place.now ≡ own_place (S.seen station.old) }
+    ensures { (S.seen station.new).origin ≡ (S.seen station.old).origin }
 {
     let (Place::Asking(slot, id, asked, marked), Hand::Coordinator(mut coordinator)) = (
         *place, hand,
@@ -268,8 +267,8 @@ pub(crate) fn sweep<S: Station<Piece>, L: Ledger>(
     hand: Hand,
     steps: &mut Steps<L>,
 ) -> (Act, Hand)
-    requires { place.now ≡ place_at (S.desk (S.origin station.old)) (S.trail station.old) }
-    ensures { S.origin station.new ≡ S.origin station.old }
+    requires { place.now ≡ own_place (S.seen station.old) }
+    ensures { (S.seen station.new).origin ≡ (S.seen station.old).origin }
 {
     let (Place::Asking(slot, id, asked, marked), Hand::Coordinator(coordinator)) = (*place, hand)
     else {
@@ -304,8 +303,8 @@ pub(crate) fn reserve<S: Station<Piece>, L: Ledger>(
     s: u32,
     steps: &mut Steps<L>,
 ) -> (Act, Hand)
-    requires { place.now ≡ place_at (S.desk (S.origin station.old)) (S.trail station.old) }
-    ensures { S.origin station.new ≡ S.origin station.old }
+    requires { place.now ≡ own_place (S.seen station.old) }
+    ensures { (S.seen station.new).origin ≡ (S.seen station.old).origin }
 {
     let Place::Free = *place else {
         panic!(rt; "the worker is not free");
@@ -327,9 +326,9 @@ fn held_as<S: Station<Piece>>(
     place: &Place,
     hand: Hand,
 ) -> (Held, Holder)
-    requires { place.now ≡ place_at (S.desk (S.origin station.now)) (S.trail station.now) }
-    ensures held { result.0 ≡ held_by (S.desk (S.origin station.now)) (S.trail station.now) }
-    ensures holder { ByTrail IsHolder (S.desk (S.origin station.now)) (S.trail station.now) result.1 }
+    requires { place.now ≡ own_place (S.seen station.now) }
+    ensures held { result.0 ≡ own_holding (S.seen station.now) }
+    ensures holder { Owns IsHolder (S.seen station.now) result.1 }
     ensures query { result.1.query ≡ result.0.query }
     ensures stage { result.1.stage ≡ result.0.stage }
 {
@@ -365,9 +364,9 @@ pub(crate) fn admit<S: Station<Piece>, L: Ledger>(
     q: u32,
     steps: &mut Steps<L>,
 ) -> (Act, Hand)
-    requires place { place.now ≡ place_at (S.desk (S.origin station.old)) (S.trail station.old) }
-    requires subject { sets.now ≡ (S.desk (S.origin station.old)).subject }
-    ensures { S.origin station.new ≡ S.origin station.old }
+    requires place { place.now ≡ own_place (S.seen station.old) }
+    requires subject { sets.now ≡ (S.seen station.old).desk.subject }
+    ensures { (S.seen station.new).origin ≡ (S.seen station.old).origin }
 {
     let (_, mut holder) = held_as(rt, station, place, hand);
     let None = holder.query else {
@@ -405,8 +404,8 @@ pub(crate) fn note_done<S: Station<Piece>, L: Ledger>(
     k: u32,
     steps: &mut Steps<L>,
 ) -> (Act, Hand)
-    requires { place.now ≡ place_at (S.desk (S.origin station.old)) (S.trail station.old) }
-    ensures { S.origin station.new ≡ S.origin station.old }
+    requires { place.now ≡ own_place (S.seen station.old) }
+    ensures { (S.seen station.new).origin ≡ (S.seen station.old).origin }
 {
     let (held, mut holder) = held_as(rt, station, place, hand);
     assert!(rt; held.query.is_some());
@@ -426,8 +425,8 @@ pub(crate) fn set_total<S: Station<Piece>, L: Ledger>(
     total: u32,
     steps: &mut Steps<L>,
 ) -> (Act, Hand)
-    requires { place.now ≡ place_at (S.desk (S.origin station.old)) (S.trail station.old) }
-    ensures { S.origin station.new ≡ S.origin station.old }
+    requires { place.now ≡ own_place (S.seen station.old) }
+    ensures { (S.seen station.new).origin ≡ (S.seen station.old).origin }
 {
     let (held, mut holder) = held_as(rt, station, place, hand);
     assert!(rt; held.query.is_some());
@@ -443,13 +442,12 @@ fn put_all<S: Station<Piece>, L: Ledger>(
     id: Option<u32>,
     steps: &mut Steps<L>,
 )
-    requires holder { ByTrail IsHolder (S.desk (S.origin station.old)) (S.trail station.old) holder.old }
-    requires next { IfSome id (λ next. IsSome (held_by (S.desk (S.origin station.old)) (S.trail station.old)).query
-        × (next ≡ states.next_id (held_by (S.desk (S.origin station.old)) (S.trail station.old)))) }
-    ensures origin { S.origin station.new ≡ S.origin station.old }
-    ensures trail { S.trail station.new ≡ S.trail station.old }
+    requires holder { Owns IsHolder (S.seen station.old) holder.old }
+    requires next { IfSome id (λ next. IsSome (own_holding (S.seen station.old)).query
+        × (next ≡ states.next_id (own_holding (S.seen station.old)))) }
+    ensures stays { KeepsTrail (S.seen station.old) (S.seen station.new) }
     ensures same { holder.new ≡ holder.old }
-    ensures cells { (v : ℕ) → v < (S.desk (S.origin station.old)).shape.workers → S.notes station.new v ≡ fresh_note id }
+    ensures cells { (v : ℕ) → v < (S.seen station.old).desk.shape.workers → (S.seen station.new).notes v ≡ fresh_note id }
 {
     let workers = station.workers();
     for worker in 0..workers {
@@ -468,9 +466,9 @@ pub(crate) fn install<S: Station<Piece>, L: Ledger>(
     id: u32,
     steps: &mut Steps<L>,
 ) -> (Act, Hand)
-    requires place { place.now ≡ place_at (S.desk (S.origin station.old)) (S.trail station.old) }
-    requires subject { sets.now ≡ (S.desk (S.origin station.old)).subject }
-    ensures { S.origin station.new ≡ S.origin station.old }
+    requires place { place.now ≡ own_place (S.seen station.old) }
+    requires subject { sets.now ≡ (S.seen station.old).desk.subject }
+    ensures { (S.seen station.new).origin ≡ (S.seen station.old).origin }
 {
     let (held, mut holder) = held_as(rt, station, place, hand);
     assert!(rt; id == next_of(rt, &held));
@@ -493,8 +491,8 @@ pub(crate) fn release<S: Station<Piece>, L: Ledger>(
     hand: Hand,
     steps: &mut Steps<L>,
 ) -> Act
-    requires { place.now ≡ place_at (S.desk (S.origin station.old)) (S.trail station.old) }
-    ensures { S.origin station.new ≡ S.origin station.old }
+    requires { place.now ≡ own_place (S.seen station.old) }
+    ensures { (S.seen station.new).origin ≡ (S.seen station.old).origin }
 {
     let (held, mut holder) = held_as(rt, station, place, hand);
     assert!(rt; held.query.is_none() || 0 < held.noted);
@@ -511,8 +509,8 @@ pub(crate) fn tell<S: Station<Piece>, L: Ledger>(
     hand: Hand,
     steps: &mut Steps<L>,
 ) -> (Act, Hand)
-    requires { place.now ≡ place_at (S.desk (S.origin station.old)) (S.trail station.old) }
-    ensures { S.origin station.new ≡ S.origin station.old }
+    requires { place.now ≡ own_place (S.seen station.old) }
+    ensures { (S.seen station.new).origin ≡ (S.seen station.old).origin }
 {
     let (Place::Announcing(slot, again, told), Hand::Announcer(mut announcer)) = (*place, hand)
     else {
@@ -545,7 +543,7 @@ pub(crate) fn take_return<S: Station<Piece>, L: Ledger>(
     part: u32,
     steps: &mut Steps<L>,
 ) -> Act
-    ensures { S.origin station.new ≡ S.origin station.old }
+    ensures { (S.seen station.new).origin ≡ (S.seen station.old).origin }
 {
     assert!(rt; part < PARTS);
     Act::TakeReturn(part, station.take_return(part, steps))
@@ -557,7 +555,7 @@ pub(crate) fn take_change<S: Station<Piece>, L: Ledger>(
     part: u32,
     steps: &mut Steps<L>,
 ) -> Act
-    ensures { S.origin station.new ≡ S.origin station.old }
+    ensures { (S.seen station.new).origin ≡ (S.seen station.old).origin }
 {
     assert!(rt; part < PARTS);
     Act::TakeChange(part, station.take_change(part, steps))

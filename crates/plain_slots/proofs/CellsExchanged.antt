@@ -75,7 +75,6 @@ module _ {B Sub : Type 0} (queries : Sub → ℕ) (total : Sub → ℕ → Optio
       let after : List Logged = longer w c n log in record {
         queries_are = ok.queries_are;
         of_subject = ok.of_subject;
-        task_sets = ok.task_sets;
         count = length-set cells (s * d.workers + c) new ∙ ok.count;
         cells_are = λ t v x in_t in_v at. dite (ℕ_discrete (t * d.workers + v) (s * d.workers + c))
             (λ e. let q = same_from_place t v s c d.workers in_v in_c e in

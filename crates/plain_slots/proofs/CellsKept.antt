@@ -11,6 +11,7 @@ use Rattle.slot_history.specs.States.{SlotState, ObjectState, id_of, is_inside, 
 use Rattle.slot_history.specs.Steps.{site, moved, slot_after, state_after}
 use Rattle.slot_history.specs.Histories.{IsLegal, entry, place_of, ranges_of, ranges_after}
 use Rattle.slot_history.proofs.Sets.{upd-cases}
+use Rattle.slot_history.proofs.Subject.{subject-goes-on}
 use Rattle.slot_history.proofs.Table.{table}
 use Rattle.slot_history.proofs.Own.{place-mine, place-other, ranges-mine, ranges-other}
 use Rattle.slot_history.proofs.Places.{inside-slots}
@@ -18,15 +19,14 @@ use Rattle.plain_slots.specs.declared.note.Note.{Note}
 use Rattle.plain_slots.specs.declared.log.Logged.{Logged}
 use Rattle.plain_slots.specs.Cells.{noted}
 use Rattle.plain_slots.specs.Log.{calls_of, call, note_in}
-use Rattle.plain_slots.specs.Plain.{HoldsTaskSet, CellAt, IsPlain}
+use Rattle.plain_slots.specs.Plain.{CellAt, IsPlain}
 use Rattle.plain_slots.specs.Seats.{trail_in}
 use Rattle.plain_slots.proofs.Trails.{place-trail}
 use Rattle.plain_slots.proofs.CellSteps.{cell-ranges, cell-notes}
 use Rattle.plain_slots.proofs.CellPlaces.{note-mine, note-other, notes-held, notes_after, CellOf}
 use Rattle.plain_slots.proofs.Ids.{inside-one}
-use Rattle.plain_slots.proofs.OwnCells.{NotesAllow, own-cell}
+use Rattle.plain_slots.proofs.OwnCells.{NotesAllow, installs-of, own-cell}
 use Rattle.plain_slots.proofs.SlotCells.{At, slot-cell}
-use Rattle.plain_slots.proofs.SubjectKept.{set-after, installs-of}
 
 -- whoever is inside a slot is so at no other slot with the same id
 module _ (d : Shape) (h : List Entry) (w : ℕ) (low : w < d.workers) (legal : IsLegal d h) (t id : ℕ) (at : place_of d h w ≡ Inside t id) where
@@ -95,8 +95,7 @@ module _ {B Sub : Type 0} (queries : Sub → ℕ) (total : Sub → ℕ → Optio
   pub plain-opening : d.queries ≡ queries subject → (cells : List (Option B)) → length cells ≡ d.slots * d.workers → ((i : ℕ) (x : Option B) → slice_get cells i ≡ Some x → x ≡ None) → IsPlain queries total fits d subject [] cells
   plain-opening asks cells count none = record {
     queries_are = asks;
-    of_subject = tt;
-    task_sets = λ s low. tt;
+    of_subject = λ id total h. absurd (cc h);
     count = count;
     cells_are = λ s v x in_s in_v at. none (s * d.workers + v) x at;
   }
@@ -107,14 +106,10 @@ module _ {B Sub : Type 0} (queries : Sub → ℕ) (total : Sub → ℕ → Optio
       → IsPlain queries total fits d subject log cells → IsPlain queries total fits d subject (call w a ∷ log) cells
   plain-call log cells w a legal allow ok =
       let h : List Entry = calls_of log in
-      let S : ObjectState = state_after d h in
       let totals : ℕ → Option ℕ = total subject in
       let may : NotesAllow totals d w (place_of d h w) (note_in log w) a = subst (λ p. NotesAllow totals d w p (note_in log w) a) (place-trail d w h) allow in record {
         queries_are = ok.queries_are;
-        of_subject = (installs-of totals d w (place_of d h w) (note_in log w) a may, ok.of_subject);
-        task_sets = λ s in_s. upd-cases S.slots (site a (S.places w)) (slot_after d w a (S.slots (site a (S.places w)))) s (HoldsTaskSet totals)
-            (λ is. set-after totals d S w (note_in log w) a (table d h legal.2) legal.0 legal.1 may (subst (λ t. HoldsTaskSet totals (S.slots t)) is (ok.task_sets s in_s)))
-            (λ other. ok.task_sets s in_s);
+        of_subject = subject-goes-on totals d (entry w a) h ok.of_subject (installs-of totals d w (place_of d h w) (note_in log w) a may);
         count = ok.count;
         cells_are = λ s v x in_s in_v at. cell-call (fits subject v) totals d h (note_in log) w a legal may s x v in_v (ok.cells_are s v x in_s in_v at);
       }

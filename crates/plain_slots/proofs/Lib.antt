@@ -5,7 +5,6 @@ pub mod Ids
 pub mod Trails
 pub mod OwnCells
 pub mod SlotCells
-pub mod SubjectKept
 pub mod CellsKept
 pub mod ExchangedCells
 pub mod CellsExchanged
@@ -16,6 +15,7 @@ pub mod Endings
 pub mod Masks
 pub mod Notices
 pub mod Counts
+pub mod Follows
 pub mod Seated
 pub mod Opening
 pub mod Holders

@@ -15,7 +15,8 @@ use Rattle.slot_history.specs.Histories.{ranges_after}
 use Rattle.plain_slots.specs.declared.note.Note.{Note}
 use Rattle.plain_slots.specs.declared.note.Note.TheVariants as note
 use Rattle.plain_slots.specs.Cells.{has_cell, loosened, noted}
-use Rattle.plain_slots.specs.Plain.{InstallsOf, CellAt}
+use Rattle.slot_history.specs.Subject.{InstallsOf}
+use Rattle.plain_slots.specs.Plain.{CellAt}
 use Rattle.plain_slots.proofs.CellSteps.{cell-ranges, cell-outside, cell-enters, cell-leaves, cell-claims}
 use Rattle.plain_slots.proofs.CellPlaces.{own-has}
 
@@ -28,6 +29,11 @@ NotesAllow totals d w p notes (LeaveOwe id) = has_cell p ≡ true → notes w �
 NotesAllow totals d w p notes (Install id) = ((v : ℕ) → v < d.workers → notes v ≡ note.Fresh) × InstallsOf totals (Install id) (held_at p).total
 NotesAllow totals d w p notes Release = (v : ℕ) → v < d.workers → notes v ≡ note.Empty
 NotesAllow totals d w p notes a = Unit {0}
+
+-- the call is of the subject then
+pub installs-of : (totals : ℕ → Option ℕ) (d : Shape) (w : ℕ) (p : Place) (notes : ℕ → Note) (a : Act) → NotesAllow totals d w p notes a → InstallsOf totals a (held_at p).total
+installs-of totals d w p notes (Install id) allow = allow.1
+installs-of totals d w p notes _ allow = tt
 
 -- ---- places from which a worker has no own cell
 

@@ -59,7 +59,7 @@ use Rattle.plain_slots.specs.Cells.{has_cell, noted}
 use Rattle.plain_slots.specs.Replies.{look_act, leave_act, claim_act, shut_act, mark_act, sweep_act, pay_act, reserve_act, admit_act, admitted_holder, marked_more, SeesTaskSet, OwesTaskSet, IsCutRange, LiesPast}
 use Rattle.plain_slots.specs.Desks.{Desk, Seen, own_place, own_holding, own_ranges, AllNoted, KeptOwn, Makes}
 use Rattle.plain_slots.specs.Log.{calls_of, note_in, call, who}
-use Rattle.plain_slots.specs.Plain.{Plain, IsPlain, InstallsOf, AllOfTotals, HoldsTaskSet}
+use Rattle.plain_slots.specs.Plain.{Plain, IsPlain}
 use Rattle.plain_slots.specs.Objects.{Story, MakesCall, place_in, state_in}
 use Rattle.plain_slots.specs.Tokens.{IsHolder, IsCoordinator, IsAnnouncer, IsDone, opens, last_opened}
 use Rattle.plain_slots.specs.Seats.{IsSince, desk_over, trail_in, seen_by, shown_by}
@@ -102,18 +102,6 @@ since-step {Sub = Sub} start was now w x mine is old = record {
   log = ap (λ (t : Plain Sub). t.log) is ∙ ap (λ l. x ∷ l) old.log;
   own = All-cons (λ y. who y ≡ w) x old.more mine old.own;
 }
-
--- ---- of the subject
-
-of-totals-step : (totals : ℕ → Option ℕ) (a : Act) (held rest : Option ℕ) (id total : ℕ) → InstallsOf totals a held
-    → (rest ≡ Some total → totals id ≡ Some total) → cond (is_install a id) held rest ≡ Some total → totals id ≡ Some total
-of-totals-step totals (Install jd) held rest id total inst ih h = pick jd id held rest (λ o. o ≡ Some total → totals id ≡ Some total) (λ e k. ap totals (sym e) ∙ inst.1 ∙ k) (λ ne k. ih k) h
-of-totals-step totals _ held rest id total inst ih h = ih h
-
--- a history each of whose installs is of the subject
-pub of-totals : (totals : ℕ → Option ℕ) (d : Shape) (h : List Entry) → AllOfTotals totals d h → IsOfTotals totals d h
-of-totals totals d [] all id total h = absurd (cc h)
-of-totals totals d (e ∷ es) all id total h = of-totals-step totals e.act (held_at (place_of d es e.worker)).total (total_of d id es) id total all.0 (of-totals totals d es all.1 id total) h
 
 -- ---- a seat, and what is in its table
 
@@ -330,112 +318,12 @@ module _ {B Sub : Type 0} {b : Ghosts B Sub} (x : Seat b) where
         let d = start.shape in
         let totals = b.total start.subject in
         let legal : IsLegal d (calls_of (call worker a ∷ now.log)) = subst (λ l. IsLegal d (calls_of l)) grows (subst (λ e. IsLegal e (calls_of new.log)) new-shape m.legal) in
-        let all : AllOfTotals totals d (calls_of (call worker a ∷ now.log)) =
-        subst (λ l. AllOfTotals totals d (calls_of l)) grows
-        (subst (λ e. AllOfTotals totals e (calls_of new.log)) new-shape
-        (subst (λ u. AllOfTotals (b.total u) new.shape (calls_of new.log)) table-subject (table-after allow).of_subject)) in
+        let of : IsOfTotals totals d (calls_of (call worker a ∷ now.log)) =
+        subst (λ l. IsOfTotals totals d (calls_of l)) grows
+        (subst (λ e. IsOfTotals totals e (calls_of new.log)) new-shape
+        (subst (λ u. IsOfTotals (b.total u) new.shape (calls_of new.log)) table-subject (table-after allow).of_subject)) in
         subst (λ l. Makes b.total a (seen_by o desk now.log) (seen_by o desk l)) (sym grows)
-        (made o b.total desk a now.log legal (of-totals totals d (calls_of (call worker a ∷ now.log)) all))
-
--- ---- what a caller needs of a reply's numbers
-
--- of the table's object o, which kept its task sets, after a call of w
-module _ (totals : ℕ → Option ℕ) (o : Story) (sets : (s : ℕ) → s < o.shape.slots → HoldsTaskSet totals ((state_in o.shape o.log).slots s)) (w : ℕ) where
-  abbrev S : ObjectState
-  S = state_in o.shape o.log
-
-  found : (a : Act) (new : Story) → MakesCall o w a new → IsLegal o.shape (calls_of (call w a ∷ o.log))
-  found a new m = subst (λ (x : Story). IsLegal x.shape (calls_of x.log)) m.story m.legal
-
-  in-slots : (a : Act) (new : Story) → MakesCall o w a new → (p : Place) → S.places w ≡ p → p ≢ Free → slot_of p < o.shape.slots
-  in-slots a new m p at busy = within-slots o.shape p (subst (IsPlaceWithin o.shape) at ((within o.shape (calls_of o.log) (found a new m).2).places w)) busy
-
-  open-set : (x : SlotState) → HoldsTaskSet totals x → is_open x ≡ true → IsSome (totals (id_of x))
-  open-set (Open t) has open_ = ap is_some has
-  open-set Empty has open_ = absurd (true≢false (sym open_))
-  open-set (Reserved u h) has open_ = absurd (true≢false (sym open_))
-  open-set (Shut t e) has open_ = absurd (true≢false (sym open_))
-  open-set (Finishing id u h) has open_ = absurd (true≢false (sym open_))
-
-  owed-set : (x : SlotState) (v : ℕ) → HoldsTaskSet totals x → owes x v ≡ true → IsSome (totals (id_of x))
-  owed-set (Shut t e) v has owed = ap is_some has
-  owed-set Empty v has owed = absurd (true≢false (sym owed))
-  owed-set (Reserved u h) v has owed = absurd (true≢false (sym owed))
-  owed-set (Open t) v has owed = absurd (true≢false (sym owed))
-  owed-set (Finishing id u h) v has owed = absurd (true≢false (sym owed))
-
-  sees : (l : Look) (new : Story) → MakesCall o w (look_act l) new → SeesTaskSet totals l
-  sees (look.Open id) new m =
-      let r = (found (LookOpen id) new m).1 in
-      subst (λ i. IsSome (totals i)) (sym r.3) (open-set (S.slots r.0) (sets r.0 (in-slots (LookOpen id) new m (Entered r.0) r.1 (λ e. cc))) r.2)
-  sees look.Invalid new m = tt
-  sees look.Vacant new m = tt
-
-  leaves : (p : Place) → can_leave p ≡ true → p ≢ Free
-  leaves p can e = true≢false (sym can ∙ ap can_leave e)
-
-  owes-set : (l : Leave) (new : Story) → MakesCall o w (leave_act l) new → OwesTaskSet totals l
-  owes-set (leave.Owe x) new m =
-      let r = (found (LeaveOwe x.id) new m).1 in
-      let s = slot_of (S.places w) in
-      subst (λ i. IsSome (totals i)) (sym r.2) (owed-set (S.slots s) w (sets s (in-slots (LeaveOwe x.id) new m (S.places w) refl (leaves (S.places w) r.0))) r.1)
-  owes-set leave.Left new m = tt
-
-  work-set : (x : SlotState) → HoldsTaskSet totals x → (is_open x ≡ true) ⊎ (is_shut x ≡ true) → totals (id_of x) ≡ Some (task_of x).total
-  work-set x has k = open-shut-cases x (λ y. HoldsTaskSet totals y → totals (id_of y) ≡ Some (task_of y).total) (λ t has. has) (λ t e has. has) k has
-
-  cuts : (n : ℕ) (c : Claim) (new : Story) → w < o.shape.workers → MakesCall o w (claim_act n c) new → IsCutRange (totals (id_at (S.places w))) n c
-  cuts n (claim.Range from to) new low m =
-      let (s, id, at, some_, most, begins, below, ends) = (found (ClaimRange n from to) new m).1 in
-      let x = S.slots s in
-      let was = inside-slots o.shape S (table o.shape (calls_of o.log) (found (ClaimRange n from to) new m).2) s w id low
-      (subst (λ q. has_own_cell q s ≡ true) (sym at) (eq-eqb s s refl)) (subst (λ q. is_inside q id ≡ true) (sym at) (eq-eqb id id refl)) in
-      let has : totals (id_of x) ≡ Some (task_of x).total = work-set x (sets s (in-slots (ClaimRange n from to) new m (At s id) at (λ e. cc))) was.0 in
-      let same : id_at (S.places w) ≡ id_of x = ap id_at at ∙ sym was.1 in
-      subst (λ t. IsSomeAnd t (λ u. (from < u) × (to ≡ min u (from + n)))) (sym (ap totals same ∙ has)) (below, ends)
-  cuts n (claim.Exhausted x) new low m = tt
-
-leading-left : (d : Shape) (w : ℕ) (l : Leave) (old new : List Entry) → Called d w (leave_act l) old new → (s id : ℕ) → place_of d old w ≡ Leading s id → l ≡ leave.Left
-leading-left d w leave.Left old new called s id at = refl
-leading-left d w (leave.Owe x) old new called s id at = absurd (coordinator-leaves d w s id x.id old new called at)
-
-range-past : (d : Shape) (w n : ℕ) (c : Claim) (old new : List Entry) → Called d w (claim_act n c) old new
-    → (s id : ℕ) × (place_of d old w ≡ At s id) → LiesPast (ranges_of d w (id_at (place_of d old w)) old) c
-range-past d w n (claim.Range from to) old new called (s, id, at) =
-    subst (λ p. LiesPast (ranges_of d w (id_at p) old) (claim.Range from to)) (sym at) (ranges-go-on d w n from to s id old new called at)
-range-past d w n (claim.Exhausted x) old new called inside = tt
-
--- ---- what a call of the seat gives
-
-module _ {B Sub : Type 0} {b : Ghosts B Sub} (x : Seat b) where
-  abbrev totals : ℕ → Option ℕ
-  totals = b.total (start x).subject
-
-  module _ {new : Story} where
-    pub seat-sees : (l : Look) → MakesCall (object x) (worker x) (look_act l) new → SeesTaskSet totals l
-    seat-sees l m = subst (λ u. SeesTaskSet (b.total u) l) (table-subject x) (sees (b.total (subject x)) (object x) x.plain.task_sets (worker x) l new m)
-
-    pub seat-owes : (l : Leave) → MakesCall (object x) (worker x) (leave_act l) new → OwesTaskSet totals l
-    seat-owes l m = subst (λ u. OwesTaskSet (b.total u) l) (table-subject x) (owes-set (b.total (subject x)) (object x) x.plain.task_sets (worker x) l new m)
-
-    -- whoever shut the task set leaves without a debt
-    pub seat-leaves : (l : Leave) → MakesCall (object x) (worker x) (leave_act l) new → KeptOwn (shown x)
-        → (s id : ℕ) → place x ≡ Leading s id → l ≡ leave.Left
-    seat-leaves l m kept =
-        let made = seat-makes x m {o = tt {0}} (leave-allows x l kept) in
-        leading-left (start x).shape (worker x) l (trail x) (trail_in (worker x) (calls_of new.log)) made.called
-
-    pub seat-cuts : (n : ℕ) (c : Claim) → MakesCall (object x) (worker x) (claim_act n c) new → IsCutRange (totals (id_at (place x))) n c
-    seat-cuts n c m =
-        let cut = cuts (b.total (subject x)) (object x) x.plain.task_sets (worker x) n c new (own-below x) m in
-        subst (λ p. IsCutRange (totals (id_at p)) n c) (place-of x)
-        (subst (λ u. IsCutRange (b.total u (id_at (place_in (object x) (worker x)))) n c) (table-subject x) cut)
-
-    -- a range lies past the worker's earlier ones of its task set
-    pub seat-past : (n : ℕ) (c : Claim) → MakesCall (object x) (worker x) (claim_act n c) new → (s id : ℕ) × (place x ≡ At s id) → LiesPast (own_ranges (shown x)) c
-    seat-past n c m at =
-        let made = seat-makes x m {o = tt {0}} (claim-allows x n c) in
-        range-past (start x).shape (worker x) n c (trail x) (trail_in (worker x) (calls_of new.log)) made.called at
+        (made o b.total desk a now.log legal of)
 
 -- ---- the cells of a new table
 

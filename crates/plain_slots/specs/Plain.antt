@@ -6,7 +6,7 @@ use Rattle.slot_history.specs.declared.act.Entry.{Entry}
 use Rattle.slot_history.specs.declared.act.Act.{Act}
 use Rattle.slot_history.specs.declared.act.Act.TheVariants.{Install}
 use Rattle.slot_history.specs.States.{SlotState, Empty, Reserved, Open, Shut, Finishing, held_at, has_own_cell}
-use Rattle.slot_history.specs.Histories.{place_of, ranges_of}
+use Rattle.slot_history.specs.Histories.{IsOfTotals, ranges_of}
 use Rattle.plain_slots.specs.declared.reply.MakeRefusal.{MakeRefusal}
 use Rattle.plain_slots.specs.declared.reply.MakeRefusal.TheVariants.{BadSlots, BadWorkers, BadQueries}
 use Rattle.plain_slots.specs.declared.note.Note.{Note}
@@ -33,24 +33,6 @@ refusal_of slots workers queries =
     if not (is_within 1 MOST_WORKERS workers) then Some BadWorkers else
     if nat_lt MOST_QUERIES queries then Some BadQueries else None
 
--- ---- the subject
-
--- an install is of a task set that the subject has, with its total
-abbrev pub InstallsOf : (ℕ → Option ℕ) → Act → Option ℕ → Type 0
-InstallsOf totals (Install id) total = IsSome total × (totals id ≡ total)
-InstallsOf totals a total = Unit {0}
-
--- every install is
-abbrev pub AllOfTotals : (ℕ → Option ℕ) → Shape → List Entry → Type 0
-AllOfTotals totals d [] = Unit {0}
-AllOfTotals totals d (e ∷ es) = InstallsOf totals e.act (held_at (place_of d es e.worker)).total × AllOfTotals totals d es
-
--- the task set of a slot is one of the subject
-abbrev pub HoldsTaskSet : (ℕ → Option ℕ) → SlotState → Type 0
-HoldsTaskSet totals (Open t) = totals t.id ≡ Some t.total
-HoldsTaskSet totals (Shut t e) = totals t.id ≡ Some t.total
-HoldsTaskSet totals x = Unit {0}
-
 -- ---- cells
 
 module _ {B : Type 0} (fits : ℕ → List (ℕ × ℕ) → B → Type 0) (ranges : ℕ → List (ℕ × ℕ)) where
@@ -69,12 +51,10 @@ module _ {B : Type 0} (fits : ℕ → List (ℕ × ℕ) → B → Type 0) (range
   CellAt (Shut t e) true own note x = NoteSays (FitsClaims t.id) (λ b. ⊥) own x
   CellAt (Finishing id w h) inside own note x = NoteSays (FitsClaims id) (FitsNext fits h) (note w) x
 
--- the number of queries is the subject's, the history is of the subject, the task sets in the slots are, and each cell is as
--- the notes say
+-- the number of queries is the subject's, the history is of the subject, and each cell is as the notes say
 pub record IsPlain {B Sub : Type 0} (queries : Sub → ℕ) (total : Sub → ℕ → Option ℕ) (fits : Sub → ℕ → ℕ → List (ℕ × ℕ) → B → Type 0) (d : Shape) (subject : Sub) (log : List Logged) (cells : List (Option B)) : Type 0 where
   pub queries_are : d.queries ≡ queries subject
-  pub of_subject : AllOfTotals (total subject) d (calls_of log)
-  pub task_sets : (s : ℕ) → s < d.slots → HoldsTaskSet (total subject) ((state_in d log).slots s)
+  pub of_subject : IsOfTotals (total subject) d (calls_of log)
   pub count : length cells ≡ d.slots * d.workers
   pub cells_are : (s v : ℕ) (x : Option B) → s < d.slots → v < d.workers → slice_get cells (s * d.workers + v) ≡ Some x
       → CellAt (fits subject v) (λ id. ranges_of d v id (calls_of log)) ((state_in d log).slots s) (has_own_cell ((state_in d log).places v) s) (note_in log v v) (λ w. note_in log w v) x

@@ -11,7 +11,7 @@ ghost use Rattle.plain_slots.specs.Log.{calls_of};
 ghost use Rattle.plain_slots.specs.declared.log.Logged.TheVariants.{Exchanged};
 ghost use Rattle.plain_slots.specs.Objects.{MakesCall, place_in, IsShape};
 ghost use Rattle.plain_slots.specs.Places.{IsCounted};
-ghost use Rattle.plain_slots.specs.Replies.{look_act, claim_act, shut_act, leave_act, mark_act, sweep_act, pay_act, reserve_act, admit_act, NamesSlots};
+ghost use Rattle.plain_slots.specs.Replies.{look_act, claim_act, shut_act, leave_act, mark_act, sweep_act, pay_act, reserve_act, admit_act};
 ghost use Rattle.plain_slots.specs.Tokens.{IsAnnouncer, ClaimGives, ShutGives, LeaveGives, SweepGives, PayGives, ReserveGives};
 
 use crate::answers::{
@@ -435,8 +435,7 @@ impl Object {
     pub(crate) fn take_return(&mut self, worker: u32, part: u32) -> u64
         requires worker { worker < self.old.shape.workers }
         requires part { part < PARTS }
-        ensures made { MakesCall self.old worker (TakeReturn part result) self.new }
-        ensures slots { NamesSlots self.old.shape.slots part result }
+        ensures { MakesCall self.old worker (TakeReturn part result) self.new }
     {
         let bits = mem::replace(&mut self.returns[mask_index(worker, part)], 0);
         step(
@@ -452,8 +451,7 @@ impl Object {
     pub(crate) fn take_change(&mut self, worker: u32, part: u32) -> u64
         requires worker { worker < self.old.shape.workers }
         requires part { part < PARTS }
-        ensures made { MakesCall self.old worker (TakeChange part result) self.new }
-        ensures slots { NamesSlots self.old.shape.slots part result }
+        ensures { MakesCall self.old worker (TakeChange part result) self.new }
     {
         let bits = mem::replace(&mut self.changes[mask_index(worker, part)], 0);
         step(

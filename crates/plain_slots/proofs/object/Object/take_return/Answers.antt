@@ -3,7 +3,6 @@ use Rattle.slot_history.proofs.Within.{within}
 use Rattle.plain_slots.specs.Log.{calls_of}
 use Rattle.plain_slots.specs.Objects.{Story}
 use Rattle.plain_slots.specs.Replies.{NamesSlots}
-use Rattle.plain_slots.proofs.Masks.{names-slots}
 use Rattle.plain_slots.proofs.Notices.{word-read, take-return-after}
 use Rattle.plain_slots.proofs.Following.{now_of, counted-at, of-story, of-shape}
 use Rattle.plain_slots.proofs.object.Object.take_return.Goals as goal
@@ -18,10 +17,3 @@ invariant_of-self c =
     let low = (of-story c.self.inside _ c.self.view_is (λ (x : Story). c.args.worker < x.shape.workers) c.requires.worker) in
     let mask = word-read o ok c.args.worker low (now_of o).returns o.returns.items c.args.part c.mask_index.result c.replace-bits.result ok.returns_are c.requires.part c.mask_index.ensures (rw c.replace-bits.ensures.value c.index_mut.ensures.value) in
     rw c.replace-bits.ensures.after (take-return-after o ok c.args.worker low c.args.part c.replace-bits.result c.requires.part mask c.mask_index.result c.mask_index.ensures _ _ (c.step.ensures.places, c.step.ensures.log))
-
-pub returns-clause-slots : goal.returns-clause-slots
-returns-clause-slots c =
-    let o = c.self.inside in
-    let ok = c.self.invariant in
-    let mask = word-read o ok c.args.worker (of-story c.self.inside _ c.self.view_is (λ (x : Story). c.args.worker < x.shape.workers) c.requires.worker) (now_of o).returns o.returns.items c.args.part c.mask_index.result c.replace-bits.result ok.returns_are c.requires.part c.mask_index.ensures (rw c.replace-bits.ensures.value c.index_mut.ensures.value) in
-    of-shape o _ c.self.view_is (λ d. NamesSlots d.slots c.args.part c.replace-bits.result) (names-slots o.shape.slots ((now_of o).returns c.args.worker) c.args.part c.replace-bits.result ((within o.shape (calls_of o.log) ok.legal).returns c.args.worker) mask)

@@ -1,7 +1,8 @@
 use Rattle.std.proofs.Common.{◌≡◌, ℕ}
 use Rattle.plain_slots.specs.Tokens.{ClaimGives}
 use Rattle.slot_history.specs.declared.place.Place.TheVariants.{Inside}
-use Rattle.plain_slots.proofs.Seated.{seat, place-for, claim-allows, table-after, seat-after, token-for, seat-makes, seat-cuts, seat-past}
+use Rattle.plain_slots.proofs.Follows.{range-cut, range-past}
+use Rattle.plain_slots.proofs.Seated.{seat, place-for, claim-allows, table-after, seat-after, token-for, seat-makes}
 use Rattle.plain_slots.proofs.seat.PlainSeatStation.claim.Goals as goal
 
 pub claim-requires-clause-place : goal.claim-requires-clause-place
@@ -26,7 +27,7 @@ returns-clause-spent g c =
     token-for x c.claim.ensures.made (λ d p. ClaimGives d c.args.self.now.worker p c.claim.result) c.claim.ensures.spent
 
 pub returns-clause-range : goal.returns-clause-range
-returns-clause-range g c = seat-cuts (seat c.args.self.now c.table.inside c.table.view_is c.table.invariant) c.args.n c.claim.result c.claim.ensures.made
+returns-clause-range g c = range-cut c.args.n c.claim.result (seat-makes (seat c.args.self.now c.table.inside c.table.view_is c.table.invariant) c.claim.ensures.made {o = tt {0}} (claim-allows (seat c.args.self.now c.table.inside c.table.view_is c.table.invariant) c.args.n c.claim.result))
 
 pub returns-clause-past : goal.returns-clause-past
-returns-clause-past g c = seat-past (seat c.args.self.now c.table.inside c.table.view_is c.table.invariant) c.args.n c.claim.result c.claim.ensures.made c.requires.place
+returns-clause-past g c = range-past c.args.n c.claim.result (seat-makes (seat c.args.self.now c.table.inside c.table.view_is c.table.invariant) c.claim.ensures.made {o = tt {0}} (claim-allows (seat c.args.self.now c.table.inside c.table.view_is c.table.invariant) c.args.n c.claim.result)) c.requires.place

@@ -1,7 +1,8 @@
 use Rattle.std.proofs.Common.{◌≡◌, true}
 use Rattle.plain_slots.specs.Tokens.{LeaveGives}
 use Rattle.slot_history.specs.States.{can_leave}
-use Rattle.plain_slots.proofs.Seated.{seat, place-for, leave-allows, table-after, seat-after, token-for, seat-makes, seat-owes, seat-leaves}
+use Rattle.plain_slots.proofs.Follows.{owes-task_set, coordinator-left}
+use Rattle.plain_slots.proofs.Seated.{seat, place-for, leave-allows, table-after, seat-after, token-for, seat-makes}
 use Rattle.plain_slots.proofs.seat.PlainSeatStation.leave.Goals as goal
 
 pub leave-requires-clause-place : goal.leave-requires-clause-place
@@ -26,7 +27,7 @@ returns-clause-debt g c =
     token-for x c.leave.ensures.made (λ d p. LeaveGives d c.args.self.now.worker p c.leave.result) c.leave.ensures.debt
 
 pub returns-clause-task_set : goal.returns-clause-task_set
-returns-clause-task_set g c = seat-owes (seat c.args.self.now c.table.inside c.table.view_is c.table.invariant) c.leave.result c.leave.ensures.made
+returns-clause-task_set g c = owes-task_set c.leave.result (seat-makes (seat c.args.self.now c.table.inside c.table.view_is c.table.invariant) c.leave.ensures.made {o = tt {0}} (leave-allows (seat c.args.self.now c.table.inside c.table.view_is c.table.invariant) c.leave.result c.requires.cell))
 
 pub returns-clause-coordinator : goal.returns-clause-coordinator
-returns-clause-coordinator g c = seat-leaves (seat c.args.self.now c.table.inside c.table.view_is c.table.invariant) c.leave.result c.leave.ensures.made c.requires.cell
+returns-clause-coordinator g c = coordinator-left c.leave.result (seat-makes (seat c.args.self.now c.table.inside c.table.view_is c.table.invariant) c.leave.ensures.made {o = tt {0}} (leave-allows (seat c.args.self.now c.table.inside c.table.view_is c.table.invariant) c.leave.result c.requires.cell))

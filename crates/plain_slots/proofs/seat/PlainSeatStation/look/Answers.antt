@@ -1,6 +1,7 @@
 use Rattle.std.proofs.Common.{◌≡◌, ℕ}
 use Rattle.slot_history.specs.declared.place.Place.TheVariants.{Entered}
-use Rattle.plain_slots.proofs.Seated.{seat, place-for, look-allows, table-after, seat-after, seat-makes, seat-sees}
+use Rattle.plain_slots.proofs.Follows.{sees-task_set}
+use Rattle.plain_slots.proofs.Seated.{seat, place-for, look-allows, table-after, seat-after, seat-makes}
 use Rattle.plain_slots.proofs.seat.PlainSeatStation.look.Goals as goal
 
 pub look-requires-clause-place : goal.look-requires-clause-place
@@ -20,4 +21,4 @@ returns-clause-made g c =
     seat-makes x c.look.ensures (look-allows x c.look.result)
 
 pub returns-clause-task_set : goal.returns-clause-task_set
-returns-clause-task_set g c = seat-sees (seat c.args.self.now c.table.inside c.table.view_is c.table.invariant) c.look.result c.look.ensures
+returns-clause-task_set g c = sees-task_set c.look.result (seat-makes (seat c.args.self.now c.table.inside c.table.view_is c.table.invariant) c.look.ensures {o = tt {0}} (look-allows (seat c.args.self.now c.table.inside c.table.view_is c.table.invariant) c.look.result))

@@ -1,19 +1,19 @@
 use Rattle.std.proofs.Common.{subst}
 use Rattle.slot_history.specs.declared.shape.Shape.{Shape}
 use Rattle.plain_slots.specs.Replies.{NamesSlots}
+use Rattle.plain_slots.proofs.Follows.{returns-named}
 use Rattle.plain_slots.proofs.Seated.{seat, object-shape, table-after, seat-after, seat-makes}
 use Rattle.plain_slots.proofs.seat.PlainSeatStation.take_return.Goals as goal
 
 pub invariant_of-table : goal.invariant_of-table
-invariant_of-table g c = table-after (seat c.args.self.now c.table.inside c.table.view_is c.table.invariant) c.take_return.ensures.made tt
+invariant_of-table g c = table-after (seat c.args.self.now c.table.inside c.table.view_is c.table.invariant) c.take_return.ensures tt
 
 pub invariant_of-self : goal.invariant_of-self
-invariant_of-self g c = seat-after (seat c.args.self.now c.table.inside c.table.view_is c.table.invariant) c.take_return.ensures.made
+invariant_of-self g c = seat-after (seat c.args.self.now c.table.inside c.table.view_is c.table.invariant) c.take_return.ensures
 
 pub returns-clause-made : goal.returns-clause-made
-returns-clause-made g c = seat-makes (seat c.args.self.now c.table.inside c.table.view_is c.table.invariant) c.take_return.ensures.made tt
+returns-clause-made g c = seat-makes (seat c.args.self.now c.table.inside c.table.view_is c.table.invariant) c.take_return.ensures tt
 
 pub returns-clause-slots : goal.returns-clause-slots
 returns-clause-slots g c =
-    let x = seat c.args.self.now c.table.inside c.table.view_is c.table.invariant in
-    subst (λ (d : Shape). NamesSlots d.slots c.args.part c.take_return.result) (object-shape x) c.take_return.ensures.slots
+    returns-named (seat-makes (seat c.args.self.now c.table.inside c.table.view_is c.table.invariant) c.take_return.ensures {o = tt {0}} tt)

@@ -5,9 +5,8 @@ use Rattle.std.specs.Int.{bit_at}
 use Rattle.std.proofs.lemmas.Nat.Bits.{bit_at_above}
 use borrow.Author.Tests.{ltb-true, ltb-false}
 use Rattle.slot_history.specs.declared.act.Act.{Act}
-use Rattle.slot_history.specs.declared.act.Act.TheVariants.{LookOpen, ClaimRange, LeaveOwe, TakeReturn, TakeChange}
+use Rattle.slot_history.specs.declared.act.Act.TheVariants.{TakeReturn, TakeChange}
 use Rattle.slot_history.specs.declared.act.Entry.{Entry}
-use Rattle.slot_history.specs.declared.place.Place.{Place}
 use Rattle.slot_history.specs.declared.place.Place.TheVariants.{Inside, Leading}
 use Rattle.slot_history.specs.States.{SlotState, Open, Shut, ObjectState, task_of, id_of, id_at, is_open, is_shut, is_inside, has_own_cell}
 use Rattle.slot_history.specs.Steps.{moved, state_after}
@@ -16,7 +15,7 @@ use Rattle.slot_history.specs.Histories.{IsLegal, entry, place_of, ranges_of, to
 use Rattle.slot_history.specs.Lives.{has_task}
 use Rattle.slot_history.specs.Numbers.{named_id}
 use Rattle.slot_history.proofs.Claims.{tiles-cursor}
-use Rattle.slot_history.proofs.Own.{calls-go-on, found-place}
+use Rattle.slot_history.proofs.Own.{calls-go-on}
 use Rattle.slot_history.proofs.Places.{inside-slots}
 use Rattle.slot_history.proofs.Ranges.{ranges-go-on}
 use Rattle.slot_history.proofs.Stations.{coordinator-leaves}

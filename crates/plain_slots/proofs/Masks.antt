@@ -1,19 +1,14 @@
 -- Mask words follow the notices that are pending.
-use Rattle.std.proofs.Common.{◌≡◌, ◌≢◌, ℕ, ◌+◌, ◌*◌, ◌/◌, ◌%◌, ◌^◌, ◌<◌, Bool, true, false, cond, eqb, ltb, List, length, set, get_or, bit_or, refl, sym, ap, ◌∙◌, subst, eq-eqb, ne_eqb, length-set, get_or-set_same, get_or-set_other, arith}
-use Rattle.std.specs.Int.{bit_at, w64}
-use Rattle.std.proofs.lemmas.Nat.Bits.{bit_at_set_same, bit_at_set_other, bit_at-zero, bit_at_above}
-use lib.Bits.{or_lt}
-use borrow.Author.Tests.{ltb-true, ltb-false}
+use Rattle.std.proofs.Common.{◌≡◌, ℕ, ◌+◌, ◌*◌, ◌/◌, ◌%◌, ◌^◌, ◌<◌, Bool, true, List, length, set, get_or, bit_or, sym, ◌∙◌, subst, length-set, get_or-set_same, get_or-set_other, arith}
 use native.Mathlib.Decide.{ℕ_discrete}
 use Rattle.slot_history.specs.declared.shape.Shape.{Shape}
 use Rattle.slot_history.specs.declared.shape.TheConstants.{PARTS}
 use Rattle.slot_history.specs.Sets.{upd}
-use Rattle.slot_history.specs.Steps.{taken, is_in_part}
+use Rattle.slot_history.specs.Steps.{taken}
 use Rattle.slot_history.specs.Allowed.{IsMask}
 use Rattle.slot_history.proofs.Masks.{mask-comes, mask-stays, mask-taken, mask-left}
-use Rattle.slot_history.proofs.Sets.{upd-else, upd-cases}
+use Rattle.slot_history.proofs.Sets.{upd-cases}
 use Rattle.plain_slots.specs.Objects.{HasMasks}
-use Rattle.plain_slots.specs.Replies.{NamesSlots}
 
 pub word-within : (n w part : ℕ) → w < n → part < PARTS → w * PARTS + part < n * PARTS
 word-within n w part low in_ = omega arith

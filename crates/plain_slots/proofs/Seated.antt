@@ -1,12 +1,10 @@
 -- A call over a seat of a table.
-use Rattle.std.proofs.Common.{◌≡◌, ◌≢◌, ℕ, ◌+◌, ◌<◌, ◌≤◌, ◌⊎◌, ⊎_elim, min, IsSome, IsSomeAnd, Bool, true, false, cond, eqb, ◌&&◌, inl, inr, arith, List, [], ◌∷◌, ◌++◌, All, Option, Some, None, slice_get, refl, sym, ap, ap₂, ◌∙◌, subst, eq-eqb, ne_eqb}
+use Rattle.std.proofs.Common.{◌≡◌, ◌≢◌, ℕ, ◌+◌, ◌<◌, ◌≤◌, ◌⊎◌, ⊎_elim, IsSome, Bool, true, false, cond, eqb, ◌&&◌, inl, inr, arith, List, [], ◌∷◌, ◌++◌, All, Option, Some, None, slice_get, refl, sym, ap, ap₂, ◌∙◌, subst, eq-eqb, ne_eqb}
 use Rattle.std.proofs.lemmas.List.Elements.{All-cons}
 use Rattle.std.proofs.lemmas.Option.{get_or_from_slice_get, slice_get_within}
-use mathlib.Core.Bool.{true≢false}
 use mathlib.Core.Logic.{∥∥₁_map}
 use native.Mathlib.Decide.{ℕ_discrete}
 use Rattle.std.proofs.lemmas.Bool.{cond_both}
-use Rattle.std.specs.Option.{is_some}
 use Rattle.slot_history.specs.declared.shape.Shape.{Shape}
 use Rattle.slot_history.specs.declared.shape.TheConstants.{MOST_SLOTS, MOST_WORKERS}
 use Rattle.slot_history.specs.declared.act.Act.{Act}
@@ -14,19 +12,12 @@ use Rattle.slot_history.specs.declared.act.Act.TheVariants.{Enter, LookOpen, Loo
 use Rattle.slot_history.specs.declared.act.Entry.{Entry}
 use Rattle.slot_history.specs.declared.place.Place.{Place}
 use Rattle.slot_history.specs.declared.place.Place.TheVariants.{Free, Entered, Astray, Inside as At, Used, Behind, Leading, Asking, Owing, Holding, Announcing}
-use Rattle.slot_history.specs.States.{SlotState, Empty, Reserved, Open, Shut, Finishing, ObjectState, held_at, slot_of, id_of, id_at, task_of, is_open, is_shut, is_inside, has_own_cell, owes, can_leave}
+use Rattle.slot_history.specs.States.{held_at, slot_of}
 use Rattle.slot_history.specs.Steps.{moved, left, asked_one, holding_after, told_one}
 use Rattle.slot_history.specs.Allowed.{IsReady}
-use Rattle.slot_history.specs.Bounds.{IsPlaceWithin}
-use Rattle.slot_history.specs.Histories.{IsLegal, IsOfTotals, Begins, Called, entry, place_of, ranges_of, total_of, is_install}
-use Rattle.slot_history.proofs.Sets.{pick, upd-same}
+use Rattle.slot_history.specs.Histories.{IsLegal, IsOfTotals, Begins, Called, entry, place_of}
+use Rattle.slot_history.proofs.Sets.{upd-same}
 use Rattle.slot_history.proofs.Own.{place-mine, place-other}
-use Rattle.slot_history.proofs.Table.{table}
-use Rattle.slot_history.proofs.Within.{within, within-slots}
-use Rattle.slot_history.proofs.Places.{inside-slots}
-use Rattle.slot_history.proofs.Ranges.{ranges-go-on}
-use Rattle.slot_history.proofs.Stations.{coordinator-leaves}
-use Rattle.slot_history.proofs.Growth.{open-shut-cases}
 use Rattle.plain_slots.specs.declared.note.Note.{Note}
 use Rattle.plain_slots.specs.declared.note.Note.TheVariants.{Kept, Fresh}
 use Rattle.plain_slots.specs.declared.note.Note.TheVariants as note
@@ -56,8 +47,8 @@ use Rattle.plain_slots.specs.declared.station.Fits.{Ghosts}
 use Rattle.plain_slots.specs.declared.seat.PlainSeat.{PlainSeat}
 use Rattle.plain_slots.specs.declared.table.PlainTable.TheInside.{Inside}
 use Rattle.plain_slots.specs.Cells.{has_cell, noted}
-use Rattle.plain_slots.specs.Replies.{look_act, leave_act, claim_act, shut_act, mark_act, sweep_act, pay_act, reserve_act, admit_act, admitted_holder, marked_more, SeesTaskSet, OwesTaskSet, IsCutRange, LiesPast}
-use Rattle.plain_slots.specs.Desks.{Desk, Seen, own_place, own_holding, own_ranges, AllNoted, KeptOwn, Makes}
+use Rattle.plain_slots.specs.Replies.{look_act, leave_act, claim_act, shut_act, mark_act, sweep_act, pay_act, reserve_act, admit_act, admitted_holder, marked_more}
+use Rattle.plain_slots.specs.Desks.{Desk, Seen, own_place, own_holding, AllNoted, KeptOwn, Makes}
 use Rattle.plain_slots.specs.Log.{calls_of, note_in, call, who}
 use Rattle.plain_slots.specs.Plain.{Plain, IsPlain}
 use Rattle.plain_slots.specs.Objects.{Story, MakesCall, place_in, state_in}

@@ -1,11 +1,8 @@
 -- The table for one thread as contracts see it, and what is kept of its cells.
-use Rattle.std.specs.Prelude.{◌≡◌, ℕ, ◌+◌, ◌*◌, ◌<◌, Bool, true, false, if◌then◌else◌, nat_lt, nat_le, ◌&&◌, not, List, [], ◌∷◌, Option, Some, None, IsSome, length, slice_get}
+use Rattle.std.specs.Prelude.{◌≡◌, ℕ, ◌+◌, ◌*◌, ◌<◌, Bool, true, false, if◌then◌else◌, nat_lt, nat_le, ◌&&◌, not, List, Option, Some, None, length, slice_get}
 use Rattle.slot_history.specs.declared.shape.Shape.{Shape}
 use Rattle.slot_history.specs.declared.shape.TheConstants.{MOST_SLOTS, MOST_WORKERS, MOST_QUERIES}
-use Rattle.slot_history.specs.declared.act.Entry.{Entry}
-use Rattle.slot_history.specs.declared.act.Act.{Act}
-use Rattle.slot_history.specs.declared.act.Act.TheVariants.{Install}
-use Rattle.slot_history.specs.States.{SlotState, Empty, Reserved, Open, Shut, Finishing, held_at, has_own_cell}
+use Rattle.slot_history.specs.States.{SlotState, Empty, Reserved, Open, Shut, Finishing, has_own_cell}
 use Rattle.slot_history.specs.Histories.{IsOfTotals, ranges_of}
 use Rattle.plain_slots.specs.declared.reply.MakeRefusal.{MakeRefusal}
 use Rattle.plain_slots.specs.declared.reply.MakeRefusal.TheVariants.{BadSlots, BadWorkers, BadQueries}

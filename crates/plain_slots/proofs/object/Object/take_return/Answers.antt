@@ -1,10 +1,7 @@
 use Rattle.std.proofs.Common.{◌<◌}
-use Rattle.slot_history.proofs.Within.{within}
-use Rattle.plain_slots.specs.Log.{calls_of}
 use Rattle.plain_slots.specs.Objects.{Story}
-use Rattle.plain_slots.specs.Replies.{NamesSlots}
 use Rattle.plain_slots.proofs.Notices.{word-read, take-return-after}
-use Rattle.plain_slots.proofs.Following.{now_of, counted-at, of-story, of-shape}
+use Rattle.plain_slots.proofs.Following.{now_of, counted-at, of-story}
 use Rattle.plain_slots.proofs.object.Object.take_return.Goals as goal
 
 pub step-requires-clause-counted : goal.step-requires-clause-counted

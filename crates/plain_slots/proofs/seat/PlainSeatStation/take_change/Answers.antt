@@ -1,8 +1,5 @@
-use Rattle.std.proofs.Common.{subst}
-use Rattle.slot_history.specs.declared.shape.Shape.{Shape}
-use Rattle.plain_slots.specs.Replies.{NamesSlots}
 use Rattle.plain_slots.proofs.Follows.{changes-named}
-use Rattle.plain_slots.proofs.Seated.{seat, object-shape, table-after, seat-after, seat-makes}
+use Rattle.plain_slots.proofs.Seated.{seat, table-after, seat-after, seat-makes}
 use Rattle.plain_slots.proofs.seat.PlainSeatStation.take_change.Goals as goal
 
 pub invariant_of-table : goal.invariant_of-table

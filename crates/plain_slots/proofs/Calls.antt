@@ -15,27 +15,27 @@ use Rattle.slot_history.specs.Allowed.{IsAllowed}
 use Rattle.slot_history.proofs.Places.{inside-slots}
 use Rattle.slot_history.proofs.Duties.{owes-claimed, owes-shut, owes-held}
 use Rattle.slot_history.proofs.Growth.{open-shut-cases}
-use Rattle.plain_slots.specs.declared.object.Object.TheInside.{Inside}
-use Rattle.plain_slots.specs.declared.reply.Look.{Look}
-use Rattle.plain_slots.specs.declared.reply.Look.TheVariants as look
-use Rattle.plain_slots.specs.declared.reply.Claim.{Claim}
-use Rattle.plain_slots.specs.declared.reply.Claim.TheVariants as claim
-use Rattle.plain_slots.specs.declared.reply.Shut.{Shut as Shutting}
-use Rattle.plain_slots.specs.declared.reply.Shut.TheVariants as shut
-use Rattle.plain_slots.specs.declared.reply.Leave.{Leave}
-use Rattle.plain_slots.specs.declared.reply.Leave.TheVariants as leave
-use Rattle.plain_slots.specs.declared.reply.Reserve.{Reserve}
-use Rattle.plain_slots.specs.declared.reply.Reserve.TheVariants as reserve
-use Rattle.plain_slots.specs.declared.reply.Admit.{Admit}
-use Rattle.plain_slots.specs.declared.reply.Admit.TheVariants as admit
-use Rattle.plain_slots.specs.declared.log.Logged.{Logged}
+use Rattle.plain_slots.specs.declared.object.PlainObject.TheInside.{Inside}
+use Rattle.slot_station.specs.declared.reply.Look.{Look}
+use Rattle.slot_station.specs.declared.reply.Look.TheVariants as look
+use Rattle.slot_station.specs.declared.reply.Claim.{Claim}
+use Rattle.slot_station.specs.declared.reply.Claim.TheVariants as claim
+use Rattle.slot_station.specs.declared.reply.Shut.{Shut as Shutting}
+use Rattle.slot_station.specs.declared.reply.Shut.TheVariants as shut
+use Rattle.slot_station.specs.declared.reply.Leave.{Leave}
+use Rattle.slot_station.specs.declared.reply.Leave.TheVariants as leave
+use Rattle.slot_station.specs.declared.reply.Reserve.{Reserve}
+use Rattle.slot_station.specs.declared.reply.Reserve.TheVariants as reserve
+use Rattle.slot_station.specs.declared.reply.Admit.{Admit}
+use Rattle.slot_station.specs.declared.reply.Admit.TheVariants as admit
+use Rattle.slot_station.specs.declared.log.Logged.{Logged}
 use Rattle.plain_slots.specs.declared.slot.Slot.{Slot}
-use Rattle.plain_slots.specs.Answers.{claim_of, shut_of, leave_of, reserve_of, admit_of}
+use Rattle.slot_station.specs.Answers.{claim_of, shut_of, leave_of, reserve_of, admit_of}
 use Rattle.plain_slots.specs.Slots.{shown, look_of, has_work, ClaimFrom}
 use Rattle.plain_slots.specs.Objects.{HasSlots, IsObject}
-use Rattle.plain_slots.specs.Replies.{look_act, claim_act, shut_act, leave_act, reserve_act, admit_act}
-use Rattle.plain_slots.specs.Tokens.{ClaimGives, ShutGives, LeaveGives, ReserveGives}
-use Rattle.plain_slots.proofs.Lists.{pair-within}
+use Rattle.slot_station.specs.Replies.{look_act, claim_act, shut_act, leave_act, reserve_act, admit_act}
+use Rattle.slot_station.specs.Tokens.{ClaimGives, ShutGives, LeaveGives, ReserveGives}
+use Rattle.slot_station.proofs.Lists.{pair-within}
 use Rattle.plain_slots.proofs.Objects.{slots-set, slots-kept, debts-kept}
 use Rattle.plain_slots.proofs.Following.{Kept, Wrote, Calm, Still, Spot, now_of, read, tabled, follow, quiet, writes}
 

@@ -2,8 +2,8 @@
 use Rattle.std.proofs.Common.{ℕ, ◌+◌, ◌^◌, ◌<◌, ◌≤◌, arith}
 use Rattle.slot_history.specs.declared.shape.TheConstants.{STAGES}
 use Rattle.slot_history.proofs.NotedSets.{finished-bound}
-use Rattle.plain_slots.specs.declared.object.Object.TheInside.{Inside}
-use Rattle.plain_slots.specs.Log.{calls_of}
+use Rattle.plain_slots.specs.declared.object.PlainObject.TheInside.{Inside}
+use Rattle.slot_station.specs.Log.{calls_of}
 use Rattle.plain_slots.proofs.Following.{Kept, bounded}
 
 pub finished-fits : (o : Inside) (ok : Kept o) (k : ℕ) → k ≤ STAGES → o.finished + k < 2 ^ 32

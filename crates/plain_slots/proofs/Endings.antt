@@ -22,19 +22,19 @@ use Rattle.slot_history.proofs.Others.{next-is, next-unasked, nth-other-within}
 use Rattle.slot_history.proofs.OneAnswer.{still-owed}
 use Rattle.slot_history.proofs.Book.{paying-slot}
 use Rattle.slot_history.proofs.Holdings.{holder-slot}
-use Rattle.plain_slots.specs.declared.object.Object.TheInside.{Inside}
-use Rattle.plain_slots.specs.declared.reply.Mark.{Mark}
-use Rattle.plain_slots.specs.declared.reply.Sweep.{Sweep}
-use Rattle.plain_slots.specs.declared.reply.Sweep.TheVariants as sweep
-use Rattle.plain_slots.specs.declared.reply.Pay.{Pay}
-use Rattle.plain_slots.specs.declared.log.Logged.{Logged}
+use Rattle.plain_slots.specs.declared.object.PlainObject.TheInside.{Inside}
+use Rattle.slot_station.specs.declared.reply.Mark.{Mark}
+use Rattle.slot_station.specs.declared.reply.Sweep.{Sweep}
+use Rattle.slot_station.specs.declared.reply.Sweep.TheVariants as sweep
+use Rattle.slot_station.specs.declared.reply.Pay.{Pay}
+use Rattle.slot_station.specs.declared.log.Logged.{Logged}
 use Rattle.plain_slots.specs.declared.slot.Slot.{Slot}
 use Rattle.plain_slots.specs.declared.slot.Slot.TheVariants as Slots
-use Rattle.plain_slots.specs.Answers.{finaliser_of, sweep_of, pay_of, mark_of}
+use Rattle.slot_station.specs.Answers.{finaliser_of, sweep_of, pay_of, mark_of}
 use Rattle.plain_slots.specs.Slots.{shown}
 use Rattle.plain_slots.specs.Objects.{HasSlots, HasDebts, IsObject}
-use Rattle.plain_slots.specs.Replies.{sweep_act, pay_act, mark_act}
-use Rattle.plain_slots.specs.Tokens.{IsHolder, SweepGives, PayGives}
+use Rattle.slot_station.specs.Replies.{sweep_act, pay_act, mark_act}
+use Rattle.slot_station.specs.Tokens.{IsHolder, SweepGives, PayGives}
 use Rattle.plain_slots.proofs.Objects.{slots-set, slots-kept, debts-kept, debts-set}
 use Rattle.plain_slots.proofs.Following.{Kept, Wrote, Spot, now_of, tabled, writes}
 

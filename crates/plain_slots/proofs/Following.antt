@@ -17,13 +17,14 @@ use Rattle.slot_history.proofs.Table.{table}
 use Rattle.slot_history.proofs.Within.{within, within-slots}
 use Rattle.slot_history.proofs.Duties.{asking-leads}
 use Rattle.slot_history.proofs.Sets.{upd-same, count-most}
-use Rattle.plain_slots.specs.declared.object.Object.TheInside.{Inside}
-use Rattle.plain_slots.specs.declared.log.Logged.{Logged}
+use Rattle.plain_slots.specs.declared.object.PlainObject.TheInside.{Inside}
+use Rattle.slot_station.specs.declared.log.Logged.{Logged}
 use Rattle.plain_slots.specs.declared.slot.Slot.{Slot}
-use Rattle.plain_slots.specs.Log.{calls_of, call}
-use Rattle.plain_slots.specs.Places.{IsCounted}
+use Rattle.slot_station.specs.Log.{calls_of, call}
+use Rattle.slot_station.specs.Places.{IsCounted}
 use Rattle.plain_slots.specs.Slots.{shown}
-use Rattle.plain_slots.specs.Objects.{Story, MakesCall, place_in, state_in, HasSlots, HasDebts, HasMasks, IsObject}
+use Rattle.one_thread.specs.Stories.{Story, MakesCall, place_in, state_in}
+use Rattle.plain_slots.specs.Objects.{HasSlots, HasDebts, HasMasks, IsObject}
 use Rattle.plain_slots.proofs.Objects.{after-call, slots-kept, debts-kept}
 
 -- an element that is known is the one that is read

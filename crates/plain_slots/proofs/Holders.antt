@@ -4,8 +4,8 @@ use Rattle.slot_history.specs.declared.shape.Shape.{Shape}
 use Rattle.slot_history.specs.declared.place.Held.{Held}
 use Rattle.slot_history.specs.declared.place.Place.{Place}
 use Rattle.slot_history.specs.declared.place.Place.TheVariants.{Holding}
-use Rattle.plain_slots.specs.declared.token.Holder.{Holder}
-use Rattle.plain_slots.specs.Tokens.{IsHolder}
+use Rattle.slot_station.specs.declared.token.Holder.{Holder}
+use Rattle.slot_station.specs.Tokens.{IsHolder}
 
 -- the token of a worker that holds the slot s
 abbrev pub token : ℕ → ℕ → Held → Holder

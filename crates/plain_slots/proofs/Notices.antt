@@ -10,9 +10,10 @@ use Rattle.slot_history.specs.States.{slot_of}
 use Rattle.slot_history.specs.Steps.{told}
 use Rattle.slot_history.specs.Allowed.{IsMask}
 use Rattle.slot_history.specs.Bounds.{IsPlaceWithin}
-use Rattle.plain_slots.specs.declared.object.Object.TheInside.{Inside}
-use Rattle.plain_slots.specs.declared.log.Logged.{Logged}
-use Rattle.plain_slots.specs.Objects.{Story, HasMasks, IsObject, place_in}
+use Rattle.plain_slots.specs.declared.object.PlainObject.TheInside.{Inside}
+use Rattle.slot_station.specs.declared.log.Logged.{Logged}
+use Rattle.one_thread.specs.Stories.{Story, place_in}
+use Rattle.plain_slots.specs.Objects.{HasMasks, IsObject}
 use Rattle.plain_slots.proofs.Objects.{slots-kept, debts-kept}
 use Rattle.plain_slots.proofs.Masks.{masks-come, masks-taken}
 use Rattle.plain_slots.proofs.Following.{Kept, Wrote, now_of, bounded, follow, read, place-is}

@@ -10,12 +10,13 @@ use Rattle.slot_history.specs.States.{SlotState, owes}
 use Rattle.slot_history.specs.Steps.{moved, next}
 use Rattle.slot_history.specs.Allowed.{IsAllowed}
 use Rattle.slot_history.proofs.Sets.{upd-same, upd-else}
-use Rattle.plain_slots.specs.declared.log.Logged.{Logged}
+use Rattle.slot_station.specs.declared.log.Logged.{Logged}
 use Rattle.plain_slots.specs.declared.slot.Slot.{Slot}
-use Rattle.plain_slots.specs.Log.{call}
+use Rattle.slot_station.specs.Log.{call}
 use Rattle.plain_slots.specs.Slots.{shown}
-use Rattle.plain_slots.specs.Objects.{state_in, HasSlots, HasDebts, HasPlaces, HasMasks, IsObject}
-use Rattle.plain_slots.proofs.Lists.{lists-set, lists-kept, get-set_same, get-set_other, pair-within}
+use Rattle.one_thread.specs.Stories.{state_in}
+use Rattle.plain_slots.specs.Objects.{HasSlots, HasDebts, HasPlaces, HasMasks, IsObject}
+use Rattle.slot_station.proofs.Lists.{lists-set, lists-kept, get-set_same, get-set_other, pair-within}
 
 module _ (d : Shape) where
   pub slots-set : (slots : List Slot) (f : ℕ → SlotState) (k : ℕ) (x : SlotState) → HasSlots d slots f → k < d.slots → HasSlots d (set slots k (shown x)) (upd f k x)

@@ -7,11 +7,12 @@ use Rattle.slot_history.specs.declared.shape.Shape.{Shape}
 use Rattle.slot_history.specs.declared.shape.TheConstants.{PARTS}
 use Rattle.slot_history.specs.declared.place.Place.{Place}
 use Rattle.slot_history.specs.declared.place.Place.TheVariants.{Free}
-use Rattle.plain_slots.specs.declared.log.Logged.{Logged}
+use Rattle.slot_station.specs.declared.log.Logged.{Logged}
 use Rattle.plain_slots.specs.declared.slot.Slot.{Slot}
 use Rattle.plain_slots.specs.declared.slot.Slot.TheVariants.{Empty}
-use Rattle.plain_slots.specs.Objects.{IsShape, HasMasks, IsObject}
-use Rattle.plain_slots.proofs.Lists.{pair-within}
+use Rattle.slot_station.specs.Shapes.{IsShape}
+use Rattle.plain_slots.specs.Objects.{HasMasks, IsObject}
+use Rattle.slot_station.proofs.Lists.{pair-within}
 use Rattle.plain_slots.proofs.Masks.{word-within}
 
 get-replicate : {A : Type 0} (n k : ℕ) (x : A) → k < n → slice_get (replicate n x) k ≡ Some x

@@ -1,13 +1,3 @@
-pub mod Answers
-pub mod Cells
-pub mod Desks
-pub mod Log
-pub mod Notes
 pub mod Objects
-pub mod Places
 pub mod Played
-pub mod Plain
-pub mod Replies
-pub mod Seats
 pub mod Slots
-pub mod Tokens

@@ -1,8 +1,8 @@
 -- What a one-thread table shows of the state of a slot.
 use Rattle.std.specs.Prelude.{◌≡◌, ℕ, ◌+◌, ◌<◌, ◌≤◌, Bool, true, false, min, Option, Some, None}
 use Rattle.slot_history.specs.States as state
-use Rattle.plain_slots.specs.declared.reply.Look.{Look}
-use Rattle.plain_slots.specs.declared.reply.Look.TheVariants as look
+use Rattle.slot_station.specs.declared.reply.Look.{Look}
+use Rattle.slot_station.specs.declared.reply.Look.TheVariants as look
 use Rattle.plain_slots.specs.declared.slot.Work.{Work}
 use Rattle.plain_slots.specs.declared.slot.Slot.{Slot}
 use Rattle.plain_slots.specs.declared.slot.Slot.TheVariants.{Empty, Reserved, Open, Shut, Finishing}

@@ -9,36 +9,21 @@ ghost use Rattle.slot_history.specs.Sets.{count_of};
 ghost use Rattle.slot_history.specs.States as states;
 ghost use Rattle.slot_history.specs.Steps as steps;
 ghost use Rattle.slot_history.specs.Table.{nth_other};
-ghost use Rattle.plain_slots.specs.Answers.{claim_of, shut_of, leave_of, mark_of, finaliser_of, sweep_of, pay_of, reserve_of, admit_of};
-ghost use Rattle.plain_slots.specs.Log.{call};
-ghost use Rattle.plain_slots.specs.Places.{IsCounted};
+ghost use Rattle.slot_station.specs.Answers.{claim_of, shut_of, leave_of, mark_of, finaliser_of, sweep_of, pay_of, reserve_of, admit_of};
+ghost use Rattle.slot_station.specs.Log.{call};
+ghost use Rattle.slot_station.specs.Places.{IsCounted};
 ghost use Rattle.plain_slots.specs.Slots.{shown};
 
-use crate::log::Logged;
-use crate::moves::{id_at, place_after, slot_at};
-use crate::notes::Notes;
-use crate::reply::{Admit, Claim, Leave, Mark, Pay, Reserve, Shut, Sweep};
 use crate::slot::{Slot, id_in, is_swept, sweep_in, word_in};
-use crate::token::{Coordinator, Debt, Holder, Spent};
 use slot_history::act::{Act, Entry};
 use slot_history::place::Place;
-use slot_history::shape::{PARTS, STAGES, Shape};
-
-/// The place of the cell of a slot and a worker among all cells.
-pub(crate) fn cell_index(shape: &Shape, slot: u32, worker: u32) -> usize
-    ensures { result ≡ slot * shape.now.workers + worker }
-{
-    let slot = u64::from(slot);
-    (slot * u64::from(shape.workers) + u64::from(worker)) as usize
-}
-
-/// The place of a mask word among those of all workers.
-pub(crate) fn mask_index(worker: u32, part: u32) -> usize
-    requires { (worker < MOST_WORKERS) × (part < PARTS) }
-    ensures { result ≡ worker * PARTS + part }
-{
-    (worker * PARTS + part) as usize
-}
+use slot_history::shape::Shape;
+use slot_station::answers::{cell_index, finaliser, mask_index};
+use slot_station::log::Logged;
+use slot_station::moves::place_after;
+use slot_station::notes::Notes;
+use slot_station::reply::{Admit, Mark, Pay, Reserve, Sweep};
+use slot_station::token::Holder;
 
 /// Puts the worker to its next place and notes its call.
 pub(crate) fn step(
@@ -56,60 +41,6 @@ pub(crate) fn step(
     let place = &mut places[worker as usize];
     *place = place_after(shape, act, *place);
     log.note(&Logged::Call(Entry { worker, act: *act }));
-}
-
-/// What a claim answers that got this range, or none.
-pub(crate) fn claimed_by(worker: u32, place: &Place, range: Option<(u32, u32)>) -> Claim
-    ensures { result ≡ claim_of worker place.now range }
-{
-    match range {
-        Some((from, to)) => Claim::Range(from, to),
-        None => Claim::Exhausted(Spent {
-            worker,
-            slot: slot_at(place),
-            id: id_at(place),
-        }),
-    }
-}
-
-/// What a shut answers that came first, or did not.
-pub(crate) fn shut_by(worker: u32, place: &Place, shape: &Shape, is_first: bool) -> Shut
-    ensures { result ≡ shut_of worker place.now shape.now is_first }
-{
-    if is_first {
-        Shut::Won(Coordinator {
-            worker,
-            slot: slot_at(place),
-            id: id_at(place),
-            workers: shape.workers,
-            asked: 0,
-            marked: 0,
-        })
-    } else {
-        Shut::Lost
-    }
-}
-
-/// What a leave answers of a worker that has to pay, or has not.
-pub(crate) fn left_by(worker: u32, slot: u32, id: u32, owes: bool) -> Leave
-    ensures { result ≡ leave_of worker slot id owes }
-{
-    if owes {
-        Leave::Owe(Debt { worker, slot, id })
-    } else {
-        Leave::Left
-    }
-}
-
-/// The worker that a coordinator asks next: the workers in ascending order, itself left out.
-pub(crate) fn next_to_ask(worker: u32, place: &Place) -> u32
-    requires { (s id n m : ℕ) × (place.now ≡ Asking s id n m) × (n < MOST_WORKERS) }
-    ensures { (s id n m : ℕ) → place.now ≡ Asking s id n m → result ≡ nth_other worker n }
-{
-    let Place::Asking(_, _, asked, _) = *place else {
-        unreachable!()
-    };
-    if asked < worker { asked } else { asked + 1 }
 }
 
 /// Marks a worker that is at the slot.
@@ -137,20 +68,6 @@ pub(crate) fn debts_at(owing: &[bool], shape: &Shape, slot: u32) -> u32
         }
     }
     debts
-}
-
-/// The holder that a worker at this place becomes where it finalises.
-fn finaliser(worker: u32, place: &Place) -> Holder
-    ensures { result ≡ finaliser_of worker place.now }
-{
-    let id = id_at(place);
-    Holder {
-        worker,
-        slot: slot_at(place),
-        query: Some(id / STAGES),
-        stage: id % STAGES,
-        again: true,
-    }
 }
 
 /// Sweeps a slot at which so many workers have to pay.

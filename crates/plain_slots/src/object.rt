@@ -1,32 +1,16 @@
-//! The object on one thread without its cells: what it keeps at run time, and each call's step on that.
-ghost use Rattle.std.specs.Prelude.{◌≡◌, ℕ, ◌+◌, ◌<◌, ◌≤◌, ◌⊎◌, Bool, true, [], ◌∷◌, None, IsSome, IfOk};
-ghost use Rattle.slot_history.specs.declared.shape.TheConstants.{STAGES, PARTS, MOST_CLAIM, MOST_TOTAL};
-ghost use Rattle.slot_history.specs.declared.act.Act.TheVariants.{Enter, Arrivals, Finished, Note as NoteDone, Total, Install, Release, Tell, TakeReturn, TakeChange};
-ghost use Rattle.slot_history.specs.declared.place.Held.{Held};
-ghost use Rattle.slot_history.specs.declared.place.Place.TheVariants.{Free, Entered, Inside, Used, Asking, Owing, Holding, Announcing};
-ghost use Rattle.slot_history.specs.States.{can_leave, next_id};
-ghost use Rattle.slot_history.specs.Allowed.{IsReady};
-ghost use Rattle.slot_history.specs.Histories.{IsLegal};
-ghost use Rattle.plain_slots.specs.Log.{calls_of};
-ghost use Rattle.plain_slots.specs.declared.log.Logged.TheVariants.{Exchanged};
-ghost use Rattle.plain_slots.specs.Objects.{MakesCall, place_in, IsShape};
-ghost use Rattle.plain_slots.specs.Places.{IsCounted};
-ghost use Rattle.plain_slots.specs.Replies.{look_act, claim_act, shut_act, leave_act, mark_act, sweep_act, pay_act, reserve_act, admit_act};
-ghost use Rattle.plain_slots.specs.Tokens.{IsAnnouncer, ClaimGives, ShutGives, LeaveGives, SweepGives, PayGives, ReserveGives};
-
-use crate::answers::{
-    admit_at, cell_index, claimed_by, debts_at, left_by, mark_if, mask_index, next_to_ask, paid_by,
-    reserved_by, shut_by, step, swept_by, tell_at,
-};
-use crate::log::{Exchange, Logged};
-use crate::moves::{held_at, is_at, slot_at};
-use crate::notes::Notes;
-use crate::reply::{Admit, Claim, Leave, Look, Mark, Pay, Reserve, Shut, Sweep};
+//! The object on one thread as the states of its slots and workers: what is kept of it at run time, and each call's step.
+use crate::answers::{admit_at, debts_at, mark_if, paid_by, reserved_by, step, swept_by, tell_at};
 use crate::slot::{Slot, Work, claim_in, id_in, seen_in, shut_in};
-use crate::token::Announcer;
+use one_thread::object::SlotObject;
 use slot_history::act::Act;
 use slot_history::place::Place;
 use slot_history::shape::{PARTS, Shape};
+use slot_station::answers::{cell_index, claimed_by, left_by, mask_index, next_to_ask, shut_by};
+use slot_station::log::{Exchange, Logged};
+use slot_station::moves::{held_at, is_at, slot_at};
+use slot_station::notes::Notes;
+use slot_station::reply::{Admit, Claim, Leave, Look, Mark, Pay, Reserve, Shut, Sweep};
+use slot_station::token::Announcer;
 use std::alloc::{AllocError, Global};
 use std::marker::Model;
 use std::mem;
@@ -34,7 +18,7 @@ use std::mem;
 /// What is kept: of each slot what it holds and which workers have to pay there, of each worker its place and its
 /// pending notices, and the two numbers. The log is for contracts alone.
 #[derive(Drop)]
-pub(crate) struct Object {
+pub struct PlainObject {
     shape: Shape,
     slots: Vec<Slot>,
     /// Of slot s and worker w at `s * workers + w`, whether w was marked at s and has not paid.
@@ -48,9 +32,9 @@ pub(crate) struct Object {
     log: Notes<Logged>,
 }
 
-impl Model for Object {
-    ghost use Rattle.plain_slots.specs.declared.log.Logged.TheVariants.{Exchanged};
-    ghost use Rattle.plain_slots.specs.Objects.{Story, IsObject};
+impl Model for PlainObject {
+    ghost use Rattle.one_thread.specs.Stories.{Story};
+    ghost use Rattle.plain_slots.specs.Objects.{IsObject};
 
     ghost Value = { Story };
 
@@ -59,14 +43,13 @@ impl Model for Object {
     ghost invariant = { λ o. IsObject o.shape o.slots.items o.owing.items o.places.items o.returns.items o.changes.items o.admitted o.finished o.log };
 }
 
-impl Object {
-    pub(crate) fn make(alloc: Global, shape: Shape) -> Result<Object, AllocError>
-        requires { IsShape shape }
-        ensures { IfOk result (λ o. o ≡ record { shape = shape; log = [] }) }
-    {
+impl SlotObject for PlainObject {
+    ghost story = { λ o. o };
+
+    fn make(alloc: Global, shape: Shape) -> Result<PlainObject, AllocError> {
         let slots = shape.slots as usize;
         let workers = shape.workers as usize;
-        Ok(Object {
+        Ok(PlainObject {
             shape,
             slots: vec![in alloc; Slot::Empty; slots]?,
             owing: vec![in alloc; false; slots * workers]?,
@@ -79,28 +62,16 @@ impl Object {
         })
     }
 
-    /// How large the object is.
-    pub(crate) fn shape(&self) -> Shape
-        ensures shape { result ≡ self.now.shape }
-        ensures range { IsShape result }
-        ensures legal { IsLegal self.now.shape (calls_of self.now.log) }
-    {
+    fn shape(&self) -> Shape {
         self.shape
     }
 
-    /// Where a worker is.
-    pub(crate) fn place(&self, worker: u32) -> Place
-        requires { worker < self.now.shape.workers }
-        ensures { result ≡ place_in self.now worker }
-    {
+    fn place(&self, worker: u32) -> Place {
         self.places[worker as usize]
     }
 
-    /// The log, when the object ends.
-    pub(crate) fn end(self) -> Notes<Logged>
-        ensures { result ≡ self.log }
-    {
-        let Object {
+    fn into_log(self) -> Notes<Logged> {
+        let PlainObject {
             shape: _,
             slots: _,
             owing: _,
@@ -114,19 +85,11 @@ impl Object {
         log
     }
 
-    /// A worker exchanged a cell, its own or another's, and has this note of it now.
-    pub(crate) fn exchanged(&mut self, exchange: Exchange)
-        ensures { self.new ≡ record self.old { log = Exchanged exchange ∷ self.old.log } }
-    {
+    fn exchanged(&mut self, exchange: Exchange) {
         self.log.note(&Logged::Exchanged(exchange));
     }
 
-    pub(crate) fn enter(&mut self, worker: u32, s: u32)
-        requires worker { worker < self.old.shape.workers }
-        requires place { place_in self.old worker ≡ Free }
-        requires slot { s < self.old.shape.slots }
-        ensures { MakesCall self.old worker (Enter s) self.new }
-    {
+    fn enter(&mut self, worker: u32, s: u32) {
         step(
             &self.shape,
             &mut self.places,
@@ -136,11 +99,7 @@ impl Object {
         );
     }
 
-    pub(crate) fn look(&mut self, worker: u32) -> Look
-        requires worker { worker < self.old.shape.workers }
-        requires place { (s : ℕ) × (place_in self.old worker ≡ Entered s) }
-        ensures { MakesCall self.old worker (look_act result) self.new }
-    {
+    fn look(&mut self, worker: u32) -> Look {
         let s = slot_at(&self.places[worker as usize]);
         let look = seen_in(&self.slots[s as usize]);
         step(
@@ -153,13 +112,7 @@ impl Object {
         look
     }
 
-    pub(crate) fn claim(&mut self, worker: u32, n: u32) -> Claim
-        requires worker { worker < self.old.shape.workers }
-        requires place { (s id : ℕ) × (place_in self.old worker ≡ Inside s id) }
-        requires number { (0 < n) × (n ≤ MOST_CLAIM) }
-        ensures made { MakesCall self.old worker (claim_act n result) self.new }
-        ensures spent { ClaimGives self.old.shape worker (place_in self.new worker) result }
-    {
+    fn claim(&mut self, worker: u32, n: u32) -> Claim {
         let place = self.places[worker as usize];
         let slot = &mut self.slots[slot_at(&place) as usize];
         let claim = claimed_by(worker, &place, claim_in(slot, n));
@@ -173,12 +126,7 @@ impl Object {
         claim
     }
 
-    pub(crate) fn shut(&mut self, worker: u32) -> Shut
-        requires worker { worker < self.old.shape.workers }
-        requires place { (s id : ℕ) × (place_in self.old worker ≡ Used s id) }
-        ensures made { MakesCall self.old worker (shut_act result) self.new }
-        ensures first { ShutGives self.old.shape worker (place_in self.new worker) result }
-    {
+    fn shut(&mut self, worker: u32) -> Shut {
         let place = self.places[worker as usize];
         let slot = &mut self.slots[slot_at(&place) as usize];
         let shut = shut_by(worker, &place, &self.shape, shut_in(slot));
@@ -192,12 +140,7 @@ impl Object {
         shut
     }
 
-    pub(crate) fn leave(&mut self, worker: u32) -> Leave
-        requires worker { worker < self.old.shape.workers }
-        requires place { can_leave (place_in self.old worker) ≡ true }
-        ensures made { MakesCall self.old worker (leave_act result) self.new }
-        ensures debt { LeaveGives self.old.shape worker (place_in self.new worker) result }
-    {
+    fn leave(&mut self, worker: u32) -> Leave {
         let s = slot_at(&self.places[worker as usize]);
         let owes = self.owing[cell_index(&self.shape, s, worker)];
         let leave = left_by(worker, s, id_in(&self.slots[s as usize]), owes);
@@ -211,12 +154,7 @@ impl Object {
         leave
     }
 
-    pub(crate) fn mark_next(&mut self, worker: u32) -> Mark
-        requires worker { worker < self.old.shape.workers }
-        requires place { (s id asked marked : ℕ) × (place_in self.old worker ≡ Asking s id asked marked) × (asked + 1 < self.old.shape.workers) }
-        ensures made { MakesCall self.old worker (mark_act result) self.new }
-        ensures counted { IsCounted (place_in self.old worker) }
-    {
+    fn mark_next(&mut self, worker: u32) -> Mark {
         let place = self.places[worker as usize];
         let s = slot_at(&place);
         let next = next_to_ask(worker, &place);
@@ -233,12 +171,7 @@ impl Object {
         mark
     }
 
-    pub(crate) fn sweep(&mut self, worker: u32) -> Sweep
-        requires worker { worker < self.old.shape.workers }
-        requires place { (s id asked marked : ℕ) × (place_in self.old worker ≡ Asking s id asked marked) × (asked + 1 ≡ self.old.shape.workers) }
-        ensures made { MakesCall self.old worker (sweep_act result) self.new }
-        ensures holder { SweepGives self.old.shape worker (place_in self.new worker) result }
-    {
+    fn sweep(&mut self, worker: u32) -> Sweep {
         let place = self.places[worker as usize];
         let s = slot_at(&place);
         let debts = debts_at(&self.owing, &self.shape, s);
@@ -253,12 +186,7 @@ impl Object {
         sweep
     }
 
-    pub(crate) fn pay(&mut self, worker: u32) -> Pay
-        requires worker { worker < self.old.shape.workers }
-        requires place { (s id : ℕ) × (place_in self.old worker ≡ Owing s id) }
-        ensures made { MakesCall self.old worker (pay_act result) self.new }
-        ensures holder { PayGives self.old.shape worker (place_in self.new worker) result }
-    {
+    fn pay(&mut self, worker: u32) -> Pay {
         let place = self.places[worker as usize];
         let s = slot_at(&place);
         self.owing[cell_index(&self.shape, s, worker)] = false;
@@ -274,13 +202,7 @@ impl Object {
         pay
     }
 
-    pub(crate) fn reserve(&mut self, worker: u32, s: u32) -> Reserve
-        requires worker { worker < self.old.shape.workers }
-        requires place { place_in self.old worker ≡ Free }
-        requires slot { s < self.old.shape.slots }
-        ensures made { MakesCall self.old worker (reserve_act s result) self.new }
-        ensures holder { ReserveGives self.old.shape worker (place_in self.new worker) result }
-    {
+    fn reserve(&mut self, worker: u32, s: u32) -> Reserve {
         let reserve = reserved_by(worker, s, &mut self.slots[s as usize]);
         step(
             &self.shape,
@@ -292,12 +214,7 @@ impl Object {
         reserve
     }
 
-    pub(crate) fn admit(&mut self, worker: u32, q: u32) -> Admit
-        requires worker { worker < self.old.shape.workers }
-        requires place { (s : ℕ) × (h : Held) × (place_in self.old worker ≡ Holding s h) × (h.query ≡ None) }
-        requires query { q < self.old.shape.queries }
-        ensures { MakesCall self.old worker (admit_act q result) self.new }
-    {
+    fn admit(&mut self, worker: u32, q: u32) -> Admit {
         let admit = admit_at(&mut self.admitted, q);
         step(
             &self.shape,
@@ -309,10 +226,7 @@ impl Object {
         admit
     }
 
-    pub(crate) fn arrivals(&mut self, worker: u32) -> u32
-        requires worker { worker < self.old.shape.workers }
-        ensures { MakesCall self.old worker (Arrivals result) self.new }
-    {
+    fn arrivals(&mut self, worker: u32) -> u32 {
         let admitted = self.admitted;
         step(
             &self.shape,
@@ -324,10 +238,7 @@ impl Object {
         admitted
     }
 
-    pub(crate) fn finished(&mut self, worker: u32) -> u32
-        requires worker { worker < self.old.shape.workers }
-        ensures { MakesCall self.old worker (Finished result) self.new }
-    {
+    fn finished(&mut self, worker: u32) -> u32 {
         let finished = self.finished;
         step(
             &self.shape,
@@ -339,12 +250,7 @@ impl Object {
         finished
     }
 
-    pub(crate) fn note_done(&mut self, worker: u32, k: u32)
-        requires worker { worker < self.old.shape.workers }
-        requires place { (s : ℕ) × (h : Held) × (place_in self.old worker ≡ Holding s h) × IsSome h.query × (h.noted ≡ 0) × (h.stage + k ≤ STAGES) }
-        requires number { 0 < k }
-        ensures { MakesCall self.old worker (NoteDone k) self.new }
-    {
+    fn note_done(&mut self, worker: u32, k: u32) {
         self.finished += k;
         step(
             &self.shape,
@@ -355,12 +261,7 @@ impl Object {
         );
     }
 
-    pub(crate) fn set_total(&mut self, worker: u32, total: u32)
-        requires worker { worker < self.old.shape.workers }
-        requires place { (s : ℕ) × (h : Held) × (place_in self.old worker ≡ Holding s h) × IsSome h.query }
-        requires number { total ≤ MOST_TOTAL }
-        ensures { MakesCall self.old worker (Total total) self.new }
-    {
+    fn set_total(&mut self, worker: u32, total: u32) {
         step(
             &self.shape,
             &mut self.places,
@@ -370,12 +271,7 @@ impl Object {
         );
     }
 
-    pub(crate) fn install(&mut self, worker: u32, id: u32) -> Announcer
-        requires worker { worker < self.old.shape.workers }
-        requires place { (s : ℕ) × (h : Held) × (place_in self.old worker ≡ Holding s h) × IsReady h × (id ≡ next_id h) }
-        ensures made { MakesCall self.old worker (Install id) self.new }
-        ensures announcer { IsAnnouncer self.old.shape worker (place_in self.new worker) result }
-    {
+    fn install(&mut self, worker: u32, id: u32) -> Announcer {
         let place = self.places[worker as usize];
         let held = held_at(&place);
         self.slots[slot_at(&place) as usize] = Slot::Open(Work {
@@ -399,11 +295,7 @@ impl Object {
         }
     }
 
-    pub(crate) fn release(&mut self, worker: u32)
-        requires worker { worker < self.old.shape.workers }
-        requires place { (s : ℕ) × (h : Held) × (place_in self.old worker ≡ Holding s h) × ((h.query ≡ None) ⊎ (0 < h.noted)) }
-        ensures { MakesCall self.old worker Release self.new }
-    {
+    fn release(&mut self, worker: u32) {
         let s = slot_at(&self.places[worker as usize]);
         self.slots[s as usize] = Slot::Empty;
         step(
@@ -415,12 +307,7 @@ impl Object {
         );
     }
 
-    pub(crate) fn announce(&mut self, worker: u32)
-        requires worker { worker < self.old.shape.workers }
-        requires place { (s : ℕ) × (again : Bool) × (told : ℕ) × (place_in self.old worker ≡ Announcing s again told) }
-        ensures made { MakesCall self.old worker Tell self.new }
-        ensures counted { IsCounted (place_in self.old worker) }
-    {
+    fn announce(&mut self, worker: u32) {
         let place = self.places[worker as usize];
         tell_at(&place, &mut self.returns, &mut self.changes);
         step(
@@ -432,11 +319,7 @@ impl Object {
         );
     }
 
-    pub(crate) fn take_return(&mut self, worker: u32, part: u32) -> u64
-        requires worker { worker < self.old.shape.workers }
-        requires part { part < PARTS }
-        ensures { MakesCall self.old worker (TakeReturn part result) self.new }
-    {
+    fn take_return(&mut self, worker: u32, part: u32) -> u64 {
         let bits = mem::replace(&mut self.returns[mask_index(worker, part)], 0);
         step(
             &self.shape,
@@ -448,11 +331,7 @@ impl Object {
         bits
     }
 
-    pub(crate) fn take_change(&mut self, worker: u32, part: u32) -> u64
-        requires worker { worker < self.old.shape.workers }
-        requires part { part < PARTS }
-        ensures { MakesCall self.old worker (TakeChange part result) self.new }
-    {
+    fn take_change(&mut self, worker: u32, part: u32) -> u64 {
         let bits = mem::replace(&mut self.changes[mask_index(worker, part)], 0);
         step(
             &self.shape,

@@ -1,16 +1,14 @@
 //! A table and its workers, played entry by entry.
 ghost use Rattle.std.specs.Prelude.{◌≡◌, ◌<◌};
-ghost use Rattle.plain_slots.specs.Desks.{own_place};
-ghost use Rattle.plain_slots.specs.Played.{seat_place};
+ghost use Rattle.slot_station.specs.Desks.{own_place};
 
-use crate::seat::PlainSeat;
-use crate::station::{Fits, Station};
-use crate::steps::Steps;
 use crate::table::PlainTable;
 use crate::worker_calls;
 use crate::worker_calls::{Hand, Piece, Sets};
 use slot_history::act::Act;
 use slot_history::place::Place;
+use slot_station::station::{Fits, Station};
+use slot_station::steps::Steps;
 use std::alloc::Global;
 use std::mem;
 use std::process::Abort;
@@ -46,11 +44,11 @@ impl Player {
         act: &Act,
         steps: &mut Steps<L>,
     ) -> Act {
-        assert!(rt; worker < self.table.object.shape().workers);
+        assert!(rt; worker < self.table.shape().workers);
         assert!(rt; (worker as usize) < self.hands.len());
         let hand = mem::replace(&mut self.hands[worker as usize], Hand::Nothing);
         let mut seat = self.table.seat(worker);
-        let place = place_of(&seat);
+        let place = seat.place();
         let (made, hand) = call(rt, &mut seat, &place, &self.sets, hand, act, steps);
         drop(seat);
         self.hands[worker as usize] = hand;
@@ -80,14 +78,6 @@ impl Player {
             );
         }
     }
-}
-
-/// Where the seat's worker is.
-fn place_of(seat: &PlainSeat<'_, Piece>) -> Place
-    ensures { result ≡ seat_place seat.now.start.value seat.now.table.now seat.now.worker }
-{
-    let table = &*seat.table;
-    table.object.place(seat.worker)
 }
 
 /// The call of this entry, through the bound of a station. The answer is the entry that it made, and what the worker has in

@@ -2,10 +2,10 @@
 ghost use Rattle.std.specs.Prelude.{◌≡◌, ◌<◌};
 
 use crate::player::Player;
-use crate::steps::Steps;
 use crate::worker_calls::Sets;
 use slot_history::act::Act;
 use slot_history::shape::STAGES;
+use slot_station::steps::Steps;
 use std::alloc::Global;
 use std::marker::Brand;
 use std::process::Abort;

@@ -5,7 +5,7 @@ ghost use Rattle.slot_history.specs.Steps as steps;
 ghost use Rattle.plain_slots.specs.declared.slot.Work.{Work};
 ghost use Rattle.plain_slots.specs.Slots.{shown, has_work, swept_slot, look_of, ClaimFrom};
 
-use crate::reply::Look;
+use slot_station::reply::Look;
 
 /// A task set: its id, its total in tuples, and the first tuple that was not claimed.
 #[derive(Clone, Copy)]

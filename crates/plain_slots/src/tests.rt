@@ -1,10 +1,10 @@
 //! The limits of tables, and lists that only contracts see.
 ghost use Rattle.std.specs.Prelude.{◌≡◌, ℕ, [], ◌∷◌, IfOk};
 
-use crate::notes::{History, Memo};
-use crate::reply::MakeRefusal;
 use crate::table::PlainTable;
 use crate::worker_calls::{Piece, Sets};
+use slot_station::notes::{History, Memo};
+use slot_station::reply::MakeRefusal;
 use std::alloc::{AllocError, Global};
 use std::snapshot::Snapshot;
 use std::test::Fail;

@@ -3,20 +3,20 @@
 //! call made, and what the worker has in hand after it.
 ghost use Rattle.std.specs.Prelude.{◌≡◌, ℕ, ◌<◌, true, IsSome, IfSome};
 ghost use Rattle.slot_history.specs.States as states;
-ghost use Rattle.plain_slots.specs.declared.note.Note.TheVariants.{Kept};
-ghost use Rattle.plain_slots.specs.Cells.{has_cell, fresh_note};
-ghost use Rattle.plain_slots.specs.Desks.{own_place, own_holding, Owns, KeepsTrail};
+ghost use Rattle.slot_station.specs.declared.note.Note.TheVariants.{Kept};
+ghost use Rattle.slot_station.specs.Cells.{has_cell, fresh_note};
+ghost use Rattle.slot_station.specs.Desks.{own_place, own_holding, Owns, KeepsTrail};
 ghost use Rattle.plain_slots.specs.Played.{total_in};
-ghost use Rattle.plain_slots.specs.Tokens.{IsHolder};
+ghost use Rattle.slot_station.specs.Tokens.{IsHolder};
 
-use crate::moves::id_at;
-use crate::reply::{Claim, Leave, Pay, Reserve, Shut, Sweep};
-use crate::station::{Fits, Station};
-use crate::steps::Steps;
-use crate::token::{Announcer, Coordinator, Debt, Holder, Spent};
 use slot_history::act::Act;
 use slot_history::place::{Held, Place};
 use slot_history::shape::{MOST_CLAIM, MOST_QUERIES, MOST_TOTAL, PARTS, STAGES};
+use slot_station::moves::id_at;
+use slot_station::reply::{Claim, Leave, Pay, Reserve, Shut, Sweep};
+use slot_station::station::{Fits, Station};
+use slot_station::steps::Steps;
+use slot_station::token::{Announcer, Coordinator, Debt, Holder, Spent};
 use std::process::Abort;
 use std::sync::ledger::Ledger;
 

@@ -1,6 +1,6 @@
 use Rattle.std.proofs.Common.{◌≡◌, rules}
 use Rattle.slot_history.specs.declared.place.Place.TheVariants.{Holding}
-use Rattle.plain_slots.specs.Desks.{own_place}
+use Rattle.slot_station.specs.Desks.{own_place}
 use Rattle.plain_slots.proofs.Holders.{token, is-holder}
 use Rattle.plain_slots.proofs.worker_calls.held_as.Goals as goal
 

@@ -1,6 +1,6 @@
 use Rattle.std.proofs.Common.{◌≡◌, ℕ, ◌<◌}
-use Rattle.plain_slots.specs.Desks.{KeepsTrail}
-use Rattle.plain_slots.specs.Cells.{fresh_note}
+use Rattle.slot_station.specs.Desks.{KeepsTrail}
+use Rattle.slot_station.specs.Cells.{fresh_note}
 use Rattle.plain_slots.proofs.worker_calls.put_all.Given as goal
 
 abbrev pub invariant-loop-worker : goal.invariant-loop-worker

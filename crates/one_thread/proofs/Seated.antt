@@ -1,0 +1,378 @@
+-- A call over a seat of a table.
+use Rattle.std.proofs.Common.{◌≡◌, ◌≢◌, ℕ, ◌+◌, ◌<◌, ◌≤◌, ◌⊎◌, ⊎_elim, IsSome, Bool, true, false, cond, eqb, ◌&&◌, inl, inr, arith, List, [], ◌∷◌, ◌++◌, All, Option, Some, None, slice_get, refl, sym, ap, ap₂, ◌∙◌, subst, eq-eqb, ne_eqb}
+use Rattle.std.proofs.lemmas.List.Elements.{All-cons}
+use Rattle.std.proofs.lemmas.Option.{get_or_from_slice_get, slice_get_within}
+use mathlib.Core.Logic.{∥∥₁_map}
+use native.Mathlib.Decide.{ℕ_discrete}
+use Rattle.std.proofs.lemmas.Bool.{cond_both}
+use Rattle.slot_history.specs.declared.shape.Shape.{Shape}
+use Rattle.slot_history.specs.declared.shape.TheConstants.{MOST_SLOTS, MOST_WORKERS}
+use Rattle.slot_history.specs.declared.act.Act.{Act}
+use Rattle.slot_history.specs.declared.act.Act.TheVariants.{Enter, LookOpen, LookInvalid, LookVacant, ClaimRange, ClaimUsed, ShutWon, ShutLost, LeaveLeft, LeaveOwe, PayLast, PayDone, MarkMarked, MarkMissed, SweepLast, SweepOthers, ReserveGot, ReserveTaken, AdmitGot, AdmitLost, Arrivals, Finished, Note as NoteDone, Total, Install, Release, Tell, TakeReturn, TakeChange}
+use Rattle.slot_history.specs.declared.act.Entry.{Entry}
+use Rattle.slot_history.specs.declared.place.Place.{Place}
+use Rattle.slot_history.specs.declared.place.Place.TheVariants.{Free, Entered, Astray, Inside as At, Used, Behind, Leading, Asking, Owing, Holding, Announcing}
+use Rattle.slot_history.specs.States.{held_at, slot_of}
+use Rattle.slot_history.specs.Steps.{moved, left, asked_one, holding_after, told_one}
+use Rattle.slot_history.specs.Allowed.{IsReady}
+use Rattle.slot_history.specs.Histories.{IsLegal, IsOfTotals, Begins, Called, entry, place_of}
+use Rattle.slot_history.proofs.Sets.{upd-same}
+use Rattle.slot_history.proofs.Own.{place-mine, place-other}
+use Rattle.slot_station.specs.declared.note.Note.{Note}
+use Rattle.slot_station.specs.declared.note.Note.TheVariants.{Kept, Fresh}
+use Rattle.slot_station.specs.declared.note.Note.TheVariants as note
+use Rattle.slot_station.specs.declared.token.Holder.{Holder}
+use Rattle.slot_station.specs.declared.token.Coordinator.{Coordinator}
+use Rattle.slot_station.specs.declared.token.Announcer.{Announcer}
+use Rattle.slot_station.specs.declared.reply.Look.{Look}
+use Rattle.slot_station.specs.declared.reply.Look.TheVariants as look
+use Rattle.slot_station.specs.declared.reply.Leave.{Leave}
+use Rattle.slot_station.specs.declared.reply.Leave.TheVariants as leave
+use Rattle.slot_station.specs.declared.reply.Claim.{Claim}
+use Rattle.slot_station.specs.declared.reply.Claim.TheVariants as claim
+use Rattle.slot_station.specs.declared.reply.Shut.{Shut as Shutting}
+use Rattle.slot_station.specs.declared.reply.Shut.TheVariants as shut
+use Rattle.slot_station.specs.declared.reply.Mark.{Mark}
+use Rattle.slot_station.specs.declared.reply.Mark.TheVariants as mark
+use Rattle.slot_station.specs.declared.reply.Sweep.{Sweep}
+use Rattle.slot_station.specs.declared.reply.Sweep.TheVariants as sweep
+use Rattle.slot_station.specs.declared.reply.Pay.{Pay}
+use Rattle.slot_station.specs.declared.reply.Pay.TheVariants as pay
+use Rattle.slot_station.specs.declared.reply.Reserve.{Reserve}
+use Rattle.slot_station.specs.declared.reply.Reserve.TheVariants as reserve
+use Rattle.slot_station.specs.declared.reply.Admit.{Admit}
+use Rattle.slot_station.specs.declared.reply.Admit.TheVariants as admit
+use Rattle.slot_station.specs.declared.log.Logged.{Logged}
+use Rattle.slot_station.specs.declared.station.Fits.{Ghosts}
+use Rattle.one_thread.specs.declared.object.SlotObject as core
+use Rattle.one_thread.specs.declared.seat.OneSeat.{OneSeat}
+use Rattle.one_thread.specs.declared.table.OneTable.TheInside.{Inside}
+use Rattle.slot_station.specs.Cells.{has_cell, noted}
+use Rattle.slot_station.specs.Replies.{look_act, leave_act, claim_act, shut_act, mark_act, sweep_act, pay_act, reserve_act, admit_act, admitted_holder, marked_more}
+use Rattle.slot_station.specs.Desks.{Desk, Seen, own_place, own_holding, AllNoted, KeptOwn, Makes}
+use Rattle.slot_station.specs.Log.{calls_of, note_in, call, who}
+use Rattle.one_thread.specs.Tables.{TableStory, IsTableKept}
+use Rattle.one_thread.specs.Stories.{Story, MakesCall, place_in, state_in}
+use Rattle.slot_station.specs.Tokens.{IsHolder, IsCoordinator, IsAnnouncer, IsDone, opens, last_opened}
+use Rattle.slot_station.proofs.TokensKept.{announcer-opened}
+use Rattle.one_thread.specs.Seats.{IsSince, desk_over, trail_in, seen_by, shown_by}
+use Rattle.one_thread.proofs.Trails.{own-trail, place-trail}
+use Rattle.slot_station.specs.Cells.{NotesAllow}
+use Rattle.one_thread.proofs.TablesKept.{table-call}
+
+-- the trail is a beginning of the history
+begins-step : (w : ℕ) (e : Entry) (es : List Entry) → Begins es (trail_in w es) → Dec (w ≡ e.worker) → Begins (e ∷ es) (trail_in w (e ∷ es))
+begins-step w e es ih (yes same) = ([], sym (ap (λ b. cond b (e ∷ es) (trail_in w es)) (eq-eqb w e.worker same)))
+begins-step w e es ih (no other) = (e ∷ ih.0, ap (λ l. e ∷ l) ih.1 ∙ ap (λ l. (e ∷ ih.0) ++ l) (sym (ap (λ b. cond b (e ∷ es) (trail_in w es)) (ne_eqb w e.worker other))))
+
+pub begins : (w : ℕ) (h : List Entry) → Begins h (trail_in w h)
+begins w [] = ([], refl)
+begins w (e ∷ es) = begins-step w e es (begins w es) (ℕ_discrete w e.worker)
+
+-- a call of w is the last that its trail has
+pub trail-call : (w : ℕ) (a : Act) (h : List Entry) → trail_in w (entry w a ∷ h) ≡ entry w a ∷ h
+trail-call w a h = ap (λ b. cond b (entry w a ∷ h) (trail_in w h)) (eq-eqb w w refl)
+
+pub called : (d : Shape) (w : ℕ) (a : Act) (h : List Entry) → IsLegal d (entry w a ∷ h) → Called d w a (trail_in w h) (trail_in w (entry w a ∷ h))
+called d w a h legal = (h, trail-call w a h, begins w h, sym (own-trail w h), subst (IsLegal d) (sym (trail-call w a h)) legal)
+
+-- what a call makes of what the seat shows
+pub made : {O Sub : Type 0} (o : O) (total : Sub → ℕ → Option ℕ) (D : Desk Sub) (a : Act) (log : List Logged)
+    → IsLegal D.shape (calls_of (call D.worker a ∷ log)) → IsOfTotals (total D.subject) D.shape (calls_of (call D.worker a ∷ log))
+    → Makes total a (seen_by o D log) (seen_by o D (call D.worker a ∷ log))
+made o total D a log legal of_totals = record {
+  origin = refl;
+  desk = refl;
+  called = called D.shape D.worker a (calls_of log) legal;
+  of_subject = subst (IsOfTotals (total D.subject) D.shape) (sym (trail-call D.worker a (calls_of log))) of_totals;
+  notes = λ v h. ap (λ b. cond b (noted a D.worker v (note_in log D.worker v)) (note_in log D.worker v)) (eq-eqb D.worker D.worker refl);
+}
+
+-- one more step of the worker
+pub since-step : {Sub : Type 0} (start was now : TableStory Sub) (w : ℕ) (x : Logged) → who x ≡ w → now ≡ record was { log = x ∷ was.log } → IsSince start was w → IsSince start now w
+since-step {Sub = Sub} start was now w x mine is old = record {
+  more = x ∷ old.more;
+  log = ap (λ (t : TableStory Sub). t.log) is ∙ ap (λ l. x ∷ l) old.log;
+  own = All-cons (λ y. who y ≡ w) x old.more mine old.own;
+}
+
+-- ---- a seat, and what is in its table
+
+-- a seat before a call, in plain data: its table shows what the table holds, which is as a table's invariant says
+pub record Seat {B Sub : Type 0} (b : Ghosts B Sub) : Type 0 where
+  pub worker : ℕ
+  pub start : TableStory Sub
+  pub now : TableStory Sub
+  pub object : Story
+  pub subject : Sub
+  pub cells : List (Option B)
+  pub below : worker < now.shape.workers
+  pub workers : (0 < start.shape.workers) × (start.shape.workers ≤ MOST_WORKERS)
+  pub slots : (0 < start.shape.slots) × (start.shape.slots ≤ MOST_SLOTS)
+  pub queries : start.shape.queries ≡ b.queries start.subject
+  pub same_shape : now.shape ≡ start.shape
+  pub same_subject : now.subject ≡ start.subject
+  pub since : ∥ IsSince start now worker ∥₁
+  pub view : record { shape = object.shape; subject = subject; log = object.log } ≡ now
+  pub kept : IsTableKept b.queries b.total b.fits object.shape subject object.log cells
+
+-- of a seat over any object
+abbrev pub seat : {B O Sub : Type 0} {b : Ghosts B Sub} {k : core.Ghosts O} (s : OneSeat B O Sub b k) (t : Inside B O Sub)
+    → record { shape = (k.story t.object).shape; subject = t.subject.value; log = (k.story t.object).log } ≡ s.table.now
+    → IsTableKept b.queries b.total b.fits (k.story t.object).shape t.subject.value (k.story t.object).log t.cells.items → Seat b
+seat {k = k} s t view kept = record {
+  worker = s.worker;
+  start = s.start.value;
+  now = s.table.now;
+  object = k.story t.object;
+  subject = t.subject.value;
+  cells = t.cells.items;
+  below = s.below;
+  workers = s.workers;
+  slots = s.slots;
+  queries = s.queries;
+  same_shape = s.shape;
+  same_subject = s.subject;
+  since = s.since;
+  view = view;
+  kept = kept;
+}
+
+module _ {B Sub : Type 0} {b : Ghosts B Sub} (x : Seat b) where
+  abbrev object : Story
+  object = x.object
+
+  abbrev subject : Sub
+  subject = x.subject
+
+  abbrev start : TableStory Sub
+  start = x.start
+
+  abbrev now : TableStory Sub
+  now = x.now
+
+  abbrev worker : ℕ
+  worker = x.worker
+
+  -- the desk, trail and place that its contracts speak of
+  abbrev desk : Desk Sub
+  desk = desk_over start worker
+
+  abbrev trail : List Entry
+  trail = trail_in worker (calls_of now.log)
+
+  -- what the seat shows, but for its origin
+  abbrev shown : Seen (Unit {0}) Sub
+  shown = shown_by desk now.log
+
+  abbrev place : Place
+  place = own_place shown
+
+  pub object-shape : object.shape ≡ start.shape
+  object-shape = ap (λ (t : TableStory Sub). t.shape) x.view ∙ x.same_shape
+
+  table-subject : subject ≡ start.subject
+  table-subject = ap (λ (t : TableStory Sub). t.subject) x.view ∙ x.same_subject
+
+  -- a fact of the place that the trail gives, of the object's
+  pub place-for : (P : Place → Type 0) → P place → P (place_in object worker)
+  place-for P h =
+      let at : P (place_of start.shape (calls_of now.log) worker) = subst P (place-trail start.shape worker (calls_of now.log)) h in
+      let here : P (place_of now.shape (calls_of now.log) worker) = subst (λ d. P (place_of d (calls_of now.log) worker)) (sym x.same_shape) at in
+      subst (λ (t : TableStory Sub). P (place_of t.shape (calls_of t.log) worker)) (sym x.view) here
+
+  -- where the worker is, by the object and by its trail
+  pub place-of : place_in object worker ≡ place
+  place-of = sym (place-for (λ p. place ≡ p) refl)
+
+  pub own-below : worker < object.shape.workers
+  own-below = subst (λ (t : TableStory Sub). worker < t.shape.workers) (sym x.view) x.below
+
+  -- a fact of the seat's desk, of the object
+  pub shape-for : (P : Shape → Type 0) → P start.shape → P object.shape
+  shape-for P h = subst P (sym object-shape) h
+
+  -- of notes
+  notes-for : (P : (ℕ → Note) → Type 0) → P (note_in now.log worker) → P (note_in object.log worker)
+  notes-for P h = subst (λ (t : TableStory Sub). P (note_in t.log worker)) (sym x.view) h
+
+  -- a token, by the place before the call
+  pub token-old : (X : Shape → Place → Type 0) → X start.shape place → X object.shape (place_in object worker)
+  token-old X h = place-for (λ p. X object.shape p) (subst (λ d. X d place) (sym object-shape) h)
+
+  -- a fact of desk and log, of the seat and of the object
+  desk-same : desk_over now worker ≡ desk
+  desk-same = ap₂ (λ (d : Shape) (u : Sub). let D : Desk Sub = record { worker = worker; shape = d; subject = u } in D) x.same_shape x.same_subject
+
+  pub to-object : (P : Desk Sub → List Logged → Type 0) → P desk now.log → P (record { worker = worker; shape = object.shape; subject = subject }) object.log
+  to-object P h = subst (λ (t : TableStory Sub). P (desk_over t worker) t.log) (sym x.view) (subst (λ D. P D now.log) (sym desk-same) h)
+
+  pub to-seat : (P : Desk Sub → List Logged → Type 0) → P (record { worker = worker; shape = object.shape; subject = subject }) object.log → P desk now.log
+  to-seat P h = subst (λ D. P D now.log) desk-same (subst (λ (t : TableStory Sub). P (desk_over t worker) t.log) x.view h)
+
+  -- ---- what the notes and the subject allow
+
+  abbrev pub Allows : Act → Type 0
+  Allows a = NotesAllow (b.total subject) object.shape worker (place_of object.shape (trail_in worker (calls_of object.log)) worker) (note_in object.log worker) a
+
+  own-trail-place : place_of object.shape (trail_in worker (calls_of object.log)) worker ≡ place
+  own-trail-place = place-trail object.shape worker (calls_of object.log) ∙ place-of
+
+  all-cells : (n : Note) → AllNoted n shown → (v : ℕ) → v < object.shape.workers → note_in object.log worker v ≡ n
+  all-cells n cells v low = notes-for (λ f. f v ≡ n) (cells v (subst (λ (d : Shape). v < d.workers) object-shape low))
+
+  -- who leaves has kept its own cell, as a leave asks
+  leave-kept : KeptOwn shown → has_cell (place_of object.shape (trail_in worker (calls_of object.log)) worker) ≡ true
+      → note_in object.log worker worker ≡ Kept
+  leave-kept h k = notes-for (λ n. n worker ≡ Kept) (h (subst (λ p. has_cell p ≡ true) own-trail-place k))
+
+  pub leave-allows : (l : Leave) → KeptOwn shown → Allows (leave_act l)
+  leave-allows leave.Left h = leave-kept h
+  leave-allows (leave.Owe y) h = leave-kept h
+
+  pub install-allows : (id : ℕ) → IsReady (own_holding shown) → (own_holding shown).total ≡ b.total start.subject id
+      → AllNoted Fresh shown → Allows (Install id)
+  install-allows id ready set cells =
+      let totals = ap (λ u. b.total u id) table-subject ∙ sym set in
+      (all-cells Fresh cells, subst (λ p. IsSome (held_at p).total × (b.total subject id ≡ (held_at p).total)) (sym own-trail-place) (ready.has_total, totals))
+
+  pub release-allows : AllNoted note.Empty shown → Allows Release
+  release-allows cells = all-cells note.Empty cells
+
+  pub look-allows : (l : Look) → Allows (look_act l)
+  look-allows (look.Open id) = tt
+  look-allows look.Invalid = tt
+  look-allows look.Vacant = tt
+
+  pub claim-allows : (n : ℕ) (c : Claim) → Allows (claim_act n c)
+  claim-allows n (claim.Range from to) = tt
+  claim-allows n (claim.Exhausted y) = tt
+
+  pub shut-allows : (r : Shutting) → Allows (shut_act r)
+  shut-allows (shut.Won y) = tt
+  shut-allows shut.Lost = tt
+
+  pub mark-allows : (r : Mark) → Allows (mark_act r)
+  mark-allows mark.Marked = tt
+  mark-allows mark.Missed = tt
+
+  pub sweep-allows : (r : Sweep) → Allows (sweep_act r)
+  sweep-allows (sweep.Last y) = tt
+  sweep-allows (sweep.Others n) = tt
+
+  pub pay-allows : (r : Pay) → Allows (pay_act r)
+  pay-allows (pay.Last y) = tt
+  pay-allows pay.Done = tt
+
+  pub reserve-allows : (s : ℕ) (r : Reserve) → Allows (reserve_act s r)
+  reserve-allows s (reserve.Got y) = tt
+  reserve-allows s (reserve.Taken word) = tt
+
+  pub admit-allows : (q : ℕ) (r : Admit) → Allows (admit_act q r)
+  admit-allows q admit.Got = tt
+  admit-allows q (admit.Lost at) = tt
+
+  -- ---- what a step makes of the seat
+
+  -- the seat's fields, over a table that has become this
+  abbrev SeatOver : TableStory Sub → Type 0
+  SeatOver t = record {
+    below : worker < t.shape.workers;
+    workers : (0 < start.shape.workers) × (start.shape.workers ≤ MOST_WORKERS);
+    slots : (0 < start.shape.slots) × (start.shape.slots ≤ MOST_SLOTS);
+    queries : start.shape.queries ≡ b.queries start.subject;
+    shape : t.shape ≡ start.shape;
+    subject : t.subject ≡ start.subject;
+    since : ∥ IsSince start t worker ∥₁;
+  }
+
+  -- after an exchange
+  pub exchanged : {e : Logged} {new : Story} → new ≡ record object { log = e ∷ object.log } → who e ≡ worker → SeatOver (record { shape = new.shape; subject = subject; log = new.log })
+  exchanged {e = e} {new = new} grows mine =
+      let P : Story → Type 0 = λ y. SeatOver (record { shape = y.shape; subject = subject; log = y.log }) in
+      let longer : TableStory Sub = record { shape = object.shape; subject = subject; log = e ∷ object.log } in
+      let since = ∥∥₁_map x.since (since-step start now longer worker e mine (ap (λ (t : TableStory Sub). record t { log = e ∷ t.log }) x.view)) in
+      subst P (sym grows) (record { below = own-below; workers = x.workers; slots = x.slots; queries = x.queries; shape = object-shape; subject = table-subject; since = since })
+
+  module _ {a : Act} {new : Story} (m : MakesCall object worker a new) where
+    abbrev after : TableStory Sub
+    after = record { shape = new.shape; subject = subject; log = new.log }
+
+    -- the table after a call that its worker's notes allow
+    pub table-after : Allows a → IsTableKept b.queries b.total b.fits new.shape subject new.log x.cells
+    table-after allow =
+        let P : Story → Type 0 = λ y. IsTableKept b.queries b.total b.fits y.shape subject y.log x.cells in
+        let legal : IsLegal object.shape (calls_of (call worker a ∷ object.log)) = subst (λ (y : Story). IsLegal y.shape (calls_of y.log)) m.story m.legal in
+        subst P (sym m.story) (table-call b.queries b.total b.fits object.shape subject object.log x.cells worker a legal allow x.kept)
+
+    -- where the worker is after the call
+    pub new-place : place_in new worker ≡ moved object.shape a (place_in object worker)
+    new-place = ap (λ (y : Story). place_in y worker) m.story ∙ upd-same (state_in object.shape object.log).places worker (moved object.shape a (place_in object worker))
+
+    new-shape : new.shape ≡ start.shape
+    new-shape = ap (λ (y : Story). y.shape) m.story ∙ object-shape
+
+    grows : new.log ≡ call worker a ∷ now.log
+    grows = ap (λ (y : Story). y.log) m.story ∙ ap (λ (t : TableStory Sub). call worker a ∷ t.log) x.view
+
+    new-since : ∥ IsSince start after worker ∥₁
+    new-since =
+        let is : after ≡ record now { log = call worker a ∷ now.log } =
+        ap (λ (y : Story). let t : TableStory Sub = record { shape = y.shape; subject = subject; log = y.log } in t) m.story
+        ∙ ap (λ (t : TableStory Sub). record t { log = call worker a ∷ t.log }) x.view in
+        ∥∥₁_map x.since (since-step start now after worker (call worker a) refl is)
+
+    pub seat-after : SeatOver after
+    seat-after =
+        let below = subst (λ (d : Shape). worker < d.workers) (x.same_shape ∙ sym new-shape) x.below in
+        record { below = below; workers = x.workers; slots = x.slots; queries = x.queries; shape = new-shape; subject = table-subject; since = new-since }
+
+    -- a token, by the place after the call
+    pub token-for : (X : Shape → Place → Type 0) → X object.shape (place_in new worker) → X start.shape (own_place (shown_by desk new.log))
+    token-for X h =
+        let at = ap (λ d. place_of d (calls_of new.log) worker) new-shape ∙ sym (place-trail start.shape worker (calls_of new.log)) in
+        subst (X start.shape) at (subst (λ d. X d (place_in new worker)) object-shape h)
+
+    -- what the call makes of what the seat shows
+    pub seat-makes : {O : Type 0} {o : O} → Allows a → Makes b.total a (seen_by o desk now.log) (seen_by o desk new.log)
+    seat-makes {o = o} allow =
+        let d = start.shape in
+        let totals = b.total start.subject in
+        let legal : IsLegal d (calls_of (call worker a ∷ now.log)) = subst (λ l. IsLegal d (calls_of l)) grows (subst (λ e. IsLegal e (calls_of new.log)) new-shape m.legal) in
+        let of : IsOfTotals totals d (calls_of (call worker a ∷ now.log)) =
+        subst (λ l. IsOfTotals totals d (calls_of l)) grows
+        (subst (λ e. IsOfTotals totals e (calls_of new.log)) new-shape
+        (subst (λ u. IsOfTotals (b.total u) new.shape (calls_of new.log)) table-subject (table-after allow).of_subject)) in
+        subst (λ l. Makes b.total a (seen_by o desk now.log) (seen_by o desk l)) (sym grows)
+        (made o b.total desk a now.log legal of)
+
+-- ---- the cells of a new table
+
+-- an element of a list whose elements are None
+pub none-of : {A : Type 0} (l : List (Option A)) → All (λ x. x ≡ None) l → (i : ℕ) (x : Option A) → slice_get l i ≡ Some x → x ≡ None
+none-of l all i x is = sym (get_or_from_slice_get l i x x is) ∙ all i x (slice_get_within l i x is)
+
+-- ---- tokens after a call
+
+-- an announcer that told every worker
+pub tell-done : {O Sub : Type 0} (o : O) (D : Desk Sub) (log : List Logged) (x : Announcer) → let d = D.shape in let w = D.worker in let h = calls_of log in
+    IsAnnouncer d w (own_place (seen_by o D log)) x → x.told + 1 ≡ d.workers → IsDone (seen_by o D (call w Tell ∷ log)) (record x { told = x.told + 1 })
+tell-done o D log x ok all =
+    let d = D.shape in
+    let w = D.worker in
+    let h = calls_of log in
+    let at : place_of d h w ≡ Announcing x.slot x.again x.told = sym (place-trail d w h) ∙ ok.place in record {
+      worker = ok.worker;
+      workers = ok.workers;
+      told = all;
+      free = place-trail d w (entry w Tell ∷ h) ∙ place-mine d (entry w Tell) h w refl ∙ ap (moved d Tell) at
+          ∙ ap (λ b. cond b Free (Announcing x.slot x.again (x.told + 1))) (eq-eqb (x.told + 1) d.workers all);
+      opened = ap (last_opened d w) (trail-call w Tell h)
+          ∙ ap (λ b. cond (b && false) (Some (slot_of (place_of d h w), (held_at (place_of d h w)).again)) (last_opened d w h)) (eq-eqb w w refl)
+          ∙ announcer-opened d w x.slot x.again h x.told at;
+    }
+
+pub seat-done : {O B Sub : Type 0} {o : O} {b : Ghosts B Sub} (s : Seat b) {new : Story} → MakesCall (object s) (worker s) Tell new → (x : Announcer)
+    → IsAnnouncer (start s).shape (worker s) (place s) x → x.told + 1 ≡ (start s).shape.workers
+    → IsDone (seen_by o (desk s) new.log) (record x { told = x.told + 1 })
+seat-done {o = o} s m x ok all = subst (λ l. IsDone (seen_by o (desk s) l) (record x { told = x.told + 1 })) (sym (grows s m)) (tell-done o (desk s) (now s).log x ok all)

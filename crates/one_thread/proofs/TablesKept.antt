@@ -1,0 +1,57 @@
+-- A call keeps what a table keeps of its cells.
+use Rattle.std.proofs.Common.{◌≡◌, ◌≢◌, ℕ, ◌+◌, ◌*◌, ◌<◌, ◌⊎◌, true, List, [], ◌∷◌, length, Option, Some, None, refl, sym, ap, ◌∙◌, subst, eq-eqb}
+use Rattle.std.specs.List.{slice_get}
+use mathlib.Core.Logic.{dite}
+use native.Mathlib.Decide.{ℕ_discrete}
+use Rattle.slot_history.specs.declared.shape.Shape.{Shape}
+use Rattle.slot_history.specs.declared.act.Act.{Act}
+use Rattle.slot_history.specs.declared.act.Entry.{Entry}
+use Rattle.slot_history.specs.declared.place.Place.TheVariants.{Inside}
+use Rattle.slot_history.specs.States.{SlotState, ObjectState, id_of, is_inside, has_id, is_open, is_shut, has_own_cell}
+use Rattle.slot_history.specs.Steps.{site, moved, slot_after, state_after}
+use Rattle.slot_history.specs.Histories.{IsLegal, entry, place_of, ranges_of, ranges_after}
+use Rattle.slot_history.proofs.Sets.{upd-cases}
+use Rattle.slot_history.proofs.Subject.{subject-goes-on}
+use Rattle.slot_history.proofs.Table.{table}
+use Rattle.slot_history.proofs.Own.{place-mine, place-other, ranges-mine, ranges-other}
+use Rattle.slot_history.proofs.Places.{inside-slots}
+use Rattle.slot_station.specs.declared.note.Note.{Note}
+use Rattle.slot_station.specs.declared.log.Logged.{Logged}
+use Rattle.slot_station.specs.Cells.{noted}
+use Rattle.slot_station.specs.Log.{calls_of, call, note_in}
+use Rattle.slot_station.specs.Cells.{CellAt}
+use Rattle.slot_station.proofs.CellsKept.{cell-call}
+use Rattle.one_thread.specs.Tables.{IsTableKept}
+use Rattle.one_thread.specs.Seats.{trail_in}
+use Rattle.one_thread.proofs.Trails.{place-trail}
+use Rattle.slot_station.proofs.CellSteps.{cell-ranges, cell-notes}
+use Rattle.slot_station.proofs.CellPlaces.{note-mine, note-other, notes-held}
+use Rattle.slot_station.specs.Cells.{notes_after, CellOf}
+use Rattle.slot_station.proofs.Ids.{inside-one}
+use Rattle.slot_station.specs.Cells.{NotesAllow}
+use Rattle.slot_station.proofs.OwnCells.{installs-of, own-cell}
+use Rattle.slot_station.proofs.SlotCells.{At, slot-cell}
+
+module _ {B Sub : Type 0} (queries : Sub → ℕ) (total : Sub → ℕ → Option ℕ) (fits : Sub → ℕ → ℕ → List (ℕ × ℕ) → B → Type 0) (d : Shape) (subject : Sub) where
+  -- every cell is empty where nothing was done
+  pub table-opening : d.queries ≡ queries subject → (cells : List (Option B)) → length cells ≡ d.slots * d.workers → ((i : ℕ) (x : Option B) → slice_get cells i ≡ Some x → x ≡ None) → IsTableKept queries total fits d subject [] cells
+  table-opening asks cells count none = record {
+    queries_are = asks;
+    of_subject = λ id total h. absurd (cc h);
+    count = count;
+    cells_are = λ s v x in_s in_v at. none (s * d.workers + v) x at;
+  }
+
+  -- a call whose worker's notes allow it, by its place that its trail gives
+  pub table-call : (log : List Logged) (cells : List (Option B)) (w : ℕ) (a : Act) → IsLegal d (calls_of (call w a ∷ log))
+      → NotesAllow (total subject) d w (place_of d (trail_in w (calls_of log)) w) (note_in log w) a
+      → IsTableKept queries total fits d subject log cells → IsTableKept queries total fits d subject (call w a ∷ log) cells
+  table-call log cells w a legal allow ok =
+      let h : List Entry = calls_of log in
+      let totals : ℕ → Option ℕ = total subject in
+      let may : NotesAllow totals d w (place_of d h w) (note_in log w) a = subst (λ p. NotesAllow totals d w p (note_in log w) a) (place-trail d w h) allow in record {
+        queries_are = ok.queries_are;
+        of_subject = subject-goes-on totals d (entry w a) h ok.of_subject (installs-of totals d w (place_of d h w) (note_in log w) a may);
+        count = ok.count;
+        cells_are = λ s v x in_s in_v at. cell-call (fits subject v) totals d h (note_in log) w a legal may s x v in_v (ok.cells_are s v x in_s in_v at);
+      }

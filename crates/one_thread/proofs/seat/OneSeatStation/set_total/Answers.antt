@@ -1,0 +1,29 @@
+use Rattle.std.proofs.Common.{◌≡◌, ℕ, IsSome}
+use Rattle.slot_station.specs.Tokens.{IsHolder}
+use Rattle.slot_history.specs.declared.place.Held.{Held}
+use Rattle.slot_history.specs.declared.place.Place.TheVariants.{Holding}
+use Rattle.one_thread.proofs.Seated.{seat, place-for, token-old, table-after, new-place, seat-after, token-for, seat-makes}
+use Rattle.slot_station.proofs.TokensKept.{total-holds}
+use Rattle.one_thread.proofs.seat.OneSeatStation.set_total.Goals as goal
+
+pub set_total-requires-clause-place : goal.set_total-requires-clause-place
+set_total-requires-clause-place g c =
+    let x = seat c.args.self.now c.table.inside c.table.view_is c.table.invariant in
+    place-for x (λ p. (s : ℕ) × (h : Held) × (p ≡ Holding s h) × IsSome h.query) (c.args._holder.now.slot, _, c.requires.holder.place, c.requires.query)
+
+pub invariant_of-table : goal.invariant_of-table
+invariant_of-table g c = table-after (seat c.args.self.now c.table.inside c.table.view_is c.table.invariant) c.set_total.ensures tt
+
+pub invariant_of-self : goal.invariant_of-self
+invariant_of-self g c = seat-after (seat c.args.self.now c.table.inside c.table.view_is c.table.invariant) c.set_total.ensures
+
+pub returns-clause-made : goal.returns-clause-made
+returns-clause-made g c = seat-makes (seat c.args.self.now c.table.inside c.table.view_is c.table.invariant) c.set_total.ensures tt
+
+pub returns-clause-holder : goal.returns-clause-holder
+returns-clause-holder g c =
+    let x = seat c.args.self.now c.table.inside c.table.view_is c.table.invariant in
+    let w = c.args.self.now.worker in
+    let old = token-old x (λ d p. IsHolder d w p c.args._holder.now) c.requires.holder in
+    token-for x c.set_total.ensures (λ d p. IsHolder d w p c.args._holder.now)
+    (total-holds (g.O.SlotObject.story c.table.inside.object).shape w _ _ c.args._holder.now c.args.total old (new-place x c.set_total.ensures))

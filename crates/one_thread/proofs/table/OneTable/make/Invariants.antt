@@ -1,0 +1,8 @@
+use Rattle.std.proofs.Common.{◌≡◌, All, None, length}
+use Rattle.one_thread.proofs.table.OneTable.make.Given as goal
+
+abbrev pub invariant-loop : goal.invariant-loop
+invariant-loop g l = record {
+  count : length l.cells.items ≡ l.counter;
+  none : All (λ x. x ≡ None) l.cells.items;
+}

@@ -1,0 +1,88 @@
+//! The table for one thread, whatever makes the steps of its calls.
+ghost use Rattle.std.specs.Prelude.{◌≡◌, [], MatchOption, IfOk, Err, IsOkUnless};
+ghost use Rattle.slot_station.specs.declared.reply.MakeRefusal.TheVariants.{OutOfMemory};
+ghost use Rattle.slot_station.specs.Log.{calls_of};
+ghost use Rattle.slot_station.specs.Shapes.{refusal_of};
+
+use crate::object::SlotObject;
+use slot_history::shape::Shape;
+use slot_station::limits::shape_of;
+use slot_station::notes::History;
+use slot_station::reply::MakeRefusal;
+use slot_station::station::Fits;
+use std::alloc::Global;
+use std::marker::Model;
+use std::snapshot::Snapshot;
+
+/// The slot object for one thread. Its calls are those of its seats. Each takes time that does not grow with the
+/// history, which no bytes are kept of.
+#[derive(Drop)]
+pub struct OneTable<B: Fits, O: SlotObject> {
+    pub(crate) object: O,
+    /// Of slot s and worker w at `s * workers + w`.
+    pub(crate) cells: Vec<Option<B>>,
+    pub(crate) subject: Snapshot<B::Subject>,
+}
+
+impl<B: Fits, O: SlotObject> Model for OneTable<B, O> {
+    ghost use Rattle.one_thread.specs.Tables.{TableStory, IsTableKept};
+
+    ghost Value = { TableStory B.Subject };
+
+    ghost view = { λ t. record { shape = (O.story t.object).shape; subject = t.subject.value; log = (O.story t.object).log } };
+
+    ghost invariant = { λ t. IsTableKept B.queries B.total B.fits (O.story t.object).shape t.subject.value (O.story t.object).log t.cells.items };
+}
+
+impl<B: Fits, O: SlotObject> OneTable<B, O> {
+    /// A table whose slots are empty, whose cells hold None, and with no notices. `subject` is what it serves, for
+    /// contracts alone, and `queries` the number of the subject's queries. BadSlots comes exactly outside 1 to 128 slots,
+    /// then BadWorkers exactly outside 1 to 64 workers, then BadQueries exactly past 4,096 queries.
+    pub fn make(
+        alloc: Global,
+        slots: u32,
+        workers: u32,
+        queries: u32,
+        subject: Snapshot<B::Subject>,
+    ) -> Result<OneTable<B, O>, MakeRefusal>
+        requires { queries ≡ B.queries subject.value }
+        ensures refused { MatchOption (refusal_of slots workers queries) (IsOkUnless result OutOfMemory) (λ e. result ≡ Err e) }
+        ensures table { IfOk result (λ t. t ≡ record { shape = record { workers = workers; slots = slots; queries = queries }; subject = subject.value; log = [] }) }
+    {
+        let shape = shape_of(slots, workers, queries)?;
+        let count = slots as usize * workers as usize;
+        let mut cells = Vec::with_capacity(alloc, count).map_err(|_| MakeRefusal::OutOfMemory)?;
+        for _ in 0..count {
+            cells.push(None).map_err(|_| MakeRefusal::OutOfMemory)?;
+        }
+        let Ok(object) = O::make(alloc, shape) else {
+            return Err(MakeRefusal::OutOfMemory);
+        };
+        Ok(OneTable {
+            object,
+            cells,
+            subject,
+        })
+    }
+
+    /// How large the table is.
+    pub fn shape(&self) -> Shape
+        ensures { result ≡ self.now.shape }
+    {
+        self.object.shape()
+    }
+
+    /// Hands the history over. It takes no memory.
+    pub fn end(self) -> History
+        ensures { result ≡ calls_of self.log }
+    {
+        let OneTable {
+            object,
+            cells,
+            subject,
+        } = self;
+        drop(cells);
+        drop(subject);
+        History::of(object.into_log().into_badge())
+    }
+}

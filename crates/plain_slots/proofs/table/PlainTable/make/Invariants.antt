@@ -1,8 +1,0 @@
-use Rattle.std.proofs.Common.{◌≡◌, All, None, length}
-use Rattle.plain_slots.proofs.table.PlainTable.make.Given as goal
-
-abbrev pub invariant-loop : goal.invariant-loop
-invariant-loop g l = record {
-  count : length l.cells.items ≡ l.counter;
-  none : All (λ x. x ≡ None) l.cells.items;
-}

@@ -1,0 +1,10 @@
+pub mod CellPlaces
+pub mod CellSteps
+pub mod CellsKept
+pub mod Exchanges
+pub mod Follows
+pub mod Ids
+pub mod Lists
+pub mod OwnCells
+pub mod SlotCells
+pub mod TokensKept

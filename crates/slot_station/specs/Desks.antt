@@ -1,0 +1,115 @@
+-- A worker's desk, what a station shows of itself, and what a call or an exchange changes of that.
+use Rattle.std.specs.Prelude.{◌≡◌, ◌≢◌, ℕ, ◌<◌, ◌≤◌, true, List, Option}
+use Rattle.slot_history.specs.declared.shape.Shape.{Shape}
+use Rattle.slot_history.specs.declared.shape.TheConstants.{MOST_SLOTS, MOST_WORKERS}
+use Rattle.slot_history.specs.declared.act.Act.{Act}
+use Rattle.slot_history.specs.declared.act.Entry.{Entry}
+use Rattle.slot_history.specs.declared.place.Held.{Held}
+use Rattle.slot_history.specs.declared.place.Place.{Place}
+use Rattle.slot_history.specs.States.{id_at, held_at}
+use Rattle.slot_history.specs.Histories.{Called, IsOfTotals, place_of, ranges_of}
+use Rattle.slot_station.specs.declared.note.Note.{Note}
+use Rattle.slot_station.specs.declared.note.Note.TheVariants.{Kept}
+use Rattle.slot_station.specs.Cells.{has_cell, noted, NoteSays, FitsNext, FitsFinalised}
+
+-- what no call of a station changes: whose it is, how large the object is, and the subject that the object serves
+pub record Desk (Sub : Type 0) : Type 0 where
+  pub worker : ℕ
+  pub shape : Shape
+  pub subject : Sub
+
+-- what holds of the desk of every station: the numbers are in range, and the queries are the subject's
+pub record IsDesk {Sub : Type 0} (queries : Sub → ℕ) (desk : Desk Sub) : Type 0 where
+  pub below : desk.worker < desk.shape.workers
+  pub workers : (0 < desk.shape.workers) × (desk.shape.workers ≤ MOST_WORKERS)
+  pub slots : (0 < desk.shape.slots) × (desk.shape.slots ≤ MOST_SLOTS)
+  pub queries_are : desk.shape.queries ≡ queries desk.subject
+
+-- what a station shows of itself: its origin and its desk, which no call changes; all that its worker has seen, the newest
+-- first; and of each worker the note of its cell at the slot at which the station's worker is, if that cell is with it
+pub record Seen (O Sub : Type 0) : Type 0 where
+  pub origin : O
+  pub desk : Desk Sub
+  pub trail : List Entry
+  pub notes : ℕ → Note
+
+module _ {O Sub : Type 0} where
+  -- where the worker is, by its trail
+  abbrev pub own_place : Seen O Sub → Place
+  own_place x = place_of x.desk.shape x.trail x.desk.worker
+
+  -- what it holds, by its trail
+  abbrev pub own_holding : Seen O Sub → Held
+  own_holding x = held_at (own_place x)
+
+  -- the ranges that it claimed of the task set with which it is inside, the newest first
+  abbrev pub own_ranges : Seen O Sub → List (ℕ × ℕ)
+  own_ranges x = ranges_of x.desk.shape x.desk.worker (id_at (own_place x)) x.trail
+
+  -- the totals of the subject's task sets, by their ids
+  abbrev pub totals_of : (Sub → ℕ → Option ℕ) → Seen O Sub → ℕ → Option ℕ
+  totals_of total x = total x.desk.subject
+
+  -- the total of the task set with which the worker is inside
+  abbrev pub own_total : (Sub → ℕ → Option ℕ) → Seen O Sub → Option ℕ
+  own_total total x = totals_of total x (id_at (own_place x))
+
+  -- a token, or what a reply brings, is this worker's: `Is` says so of it by a shape, a worker and its place
+  abbrev pub Owns : {X : Type 0} → (Shape → ℕ → Place → X → Type 0) → Seen O Sub → X → Type 0
+  Owns Is x token = Is x.desk.shape x.desk.worker (own_place x) token
+
+  -- every cell that is with the worker has this note
+  abbrev pub AllNoted : Note → Seen O Sub → Type 0
+  AllNoted note x = (v : ℕ) → v < x.desk.shape.workers → x.notes v ≡ note
+
+  -- a worker that has its own cell has kept it
+  abbrev pub KeptOwn : Seen O Sub → Type 0
+  KeptOwn x = has_cell (own_place x) ≡ true → x.notes x.desk.worker ≡ Kept
+
+  -- The worker made this call. Its trail went on by what it had not seen and ends with the call; it is a legal history of the
+  -- subject, and of the worker it has just its own calls. The notes changed as the call says.
+  pub record Makes (total : Sub → ℕ → Option ℕ) (a : Act) (old new : Seen O Sub) : Type 0 where
+    pub origin : new.origin ≡ old.origin
+    pub desk : new.desk ≡ old.desk
+    pub called : Called old.desk.shape old.desk.worker a old.trail new.trail
+    pub of_subject : IsOfTotals (totals_of total old) old.desk.shape new.trail
+    pub notes : (v : ℕ) → v < old.desk.shape.workers → new.notes v ≡ noted a old.desk.worker v (old.notes v)
+
+  -- the worker made no call; it may have exchanged cells
+  pub record KeepsTrail (old new : Seen O Sub) : Type 0 where
+    pub origin : new.origin ≡ old.origin
+    pub desk : new.desk ≡ old.desk
+    pub trail : new.trail ≡ old.trail
+
+  -- the worker exchanged the cell of v, and has this note of it now
+  pub record Exchanges (v : ℕ) (note : Note) (old new : Seen O Sub) : Type 0 where
+    pub stays : KeepsTrail old new
+    pub note_is : new.notes v ≡ note
+    pub others : (u : ℕ) → u ≢ v → new.notes u ≡ old.notes u
+
+  -- the worker exchanged its own cell
+  abbrev pub ExchangesOwn : Note → Seen O Sub → Seen O Sub → Type 0
+  ExchangesOwn note old new = Exchanges old.desk.worker note old new
+
+  -- what the values of cells have to fit: `fits` is of a subject, a worker, a task set and the ranges claimed of it
+  module _ {B : Type 0} (fits : Sub → ℕ → ℕ → List (ℕ × ℕ) → B → Type 0) (x : Seen O Sub) where
+    -- of the own cell: the ranges that the worker claimed of the task set with which it is inside
+    abbrev pub OwnFits : B → Type 0
+    OwnFits b = fits x.desk.subject x.desk.worker (id_at (own_place x)) (own_ranges x) b
+
+    -- of the cell of v at the slot that is held: the task set that may be installed next, and no ranges
+    abbrev pub NextFits : ℕ → B → Type 0
+    NextFits v b = FitsNext (fits x.desk.subject v) (own_holding x) b
+
+    -- of that cell: the ranges that v claimed of the task set that is finalised
+    abbrev pub FinalisedFits : ℕ → B → Type 0
+    FinalisedFits v b =
+        FitsFinalised (fits x.desk.subject v) (λ id. ranges_of x.desk.shape v id x.trail) (own_holding x) b
+
+    -- the own cell holds what its note says
+    abbrev pub OwnCellSays : Option B → Type 0
+    OwnCellSays c = NoteSays OwnFits (λ b. ⊥) (x.notes x.desk.worker) c
+
+    -- the cell of v at the slot that is held holds what its note says
+    abbrev pub CellSays : ℕ → Option B → Type 0
+    CellSays v c = NoteSays (FinalisedFits v) (NextFits v) (x.notes v) c

@@ -1,0 +1,9 @@
+pub mod Answers
+pub mod Cells
+pub mod Desks
+pub mod Log
+pub mod Notes
+pub mod Places
+pub mod Replies
+pub mod Shapes
+pub mod Tokens

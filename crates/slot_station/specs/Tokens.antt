@@ -1,0 +1,109 @@
+-- Tokens: every field is what the trail gives for its worker.
+use Rattle.std.specs.Prelude.{◌≡◌, ℕ, Bool, true, false, cond, eqb, ◌&&◌, List, [], ◌∷◌, Option, Some, None}
+use Rattle.slot_history.specs.declared.shape.Shape.{Shape}
+use Rattle.slot_history.specs.declared.act.Act.{Act}
+use Rattle.slot_history.specs.declared.act.Act.TheVariants.{Install}
+use Rattle.slot_history.specs.declared.act.Entry.{Entry}
+use Rattle.slot_history.specs.declared.place.Place.{Place}
+use Rattle.slot_history.specs.declared.place.Place.TheVariants.{Free, Used, Leading, Asking, Owing, Holding, Announcing}
+use Rattle.slot_history.specs.States.{slot_of, held_at}
+use Rattle.slot_history.specs.Histories.{place_of}
+use Rattle.slot_station.specs.Desks.{Seen, own_place}
+use Rattle.slot_station.specs.declared.token.Spent.{Spent}
+use Rattle.slot_station.specs.declared.token.Debt.{Debt}
+use Rattle.slot_station.specs.declared.token.Coordinator.{Coordinator}
+use Rattle.slot_station.specs.declared.token.Holder.{Holder}
+use Rattle.slot_station.specs.declared.token.Announcer.{Announcer}
+use Rattle.slot_station.specs.declared.reply.Claim.{Claim}
+use Rattle.slot_station.specs.declared.reply.Claim.TheVariants as claim
+use Rattle.slot_station.specs.declared.reply.Shut.{Shut}
+use Rattle.slot_station.specs.declared.reply.Shut.TheVariants as shut
+use Rattle.slot_station.specs.declared.reply.Leave.{Leave}
+use Rattle.slot_station.specs.declared.reply.Leave.TheVariants as leave
+use Rattle.slot_station.specs.declared.reply.Sweep.{Sweep}
+use Rattle.slot_station.specs.declared.reply.Sweep.TheVariants as sweep
+use Rattle.slot_station.specs.declared.reply.Pay.{Pay}
+use Rattle.slot_station.specs.declared.reply.Pay.TheVariants as pay
+use Rattle.slot_station.specs.declared.reply.Reserve.{Reserve}
+use Rattle.slot_station.specs.declared.reply.Reserve.TheVariants as reserve
+
+-- of the worker w, at the place p, of an object of shape d
+module _ (d : Shape) (w : ℕ) (p : Place) where
+  -- the worker found the task set used up
+  pub record IsSpent (x : Spent) : Type 0 where
+    pub worker : x.worker ≡ w
+    pub place : p ≡ Used x.slot x.id
+
+  -- the worker was marked for the task set, and has left the slot
+  pub record IsDebt (x : Debt) : Type 0 where
+    pub worker : x.worker ≡ w
+    pub place : p ≡ Owing x.slot x.id
+
+  -- the worker shut the task set, and asked and marked nobody so far
+  pub record IsFirst (x : Coordinator) : Type 0 where
+    pub worker : x.worker ≡ w
+    pub workers : x.workers ≡ d.workers
+    pub place : p ≡ Leading x.slot x.id
+    pub asked : x.asked ≡ 0
+    pub marked : x.marked ≡ 0
+
+  -- the worker shut the task set, has left the slot, and asked and marked so many others
+  pub record IsCoordinator (x : Coordinator) : Type 0 where
+    pub worker : x.worker ≡ w
+    pub workers : x.workers ≡ d.workers
+    pub place : p ≡ Asking x.slot x.id x.asked x.marked
+
+  -- the worker holds the slot, after a reservation or a finalisation
+  pub record IsHolder (x : Holder) : Type 0 where
+    pub worker : x.worker ≡ w
+    pub noted : ℕ
+    pub total : Option ℕ
+    pub place : p ≡ Holding x.slot (record { query = x.query; stage = x.stage; again = x.again; noted = noted; total = total })
+
+  -- the worker opened the slot, and told so many workers
+  pub record IsAnnouncer (x : Announcer) : Type 0 where
+    pub worker : x.worker ≡ w
+    pub workers : x.workers ≡ d.workers
+    pub place : p ≡ Announcing x.slot x.again x.told
+
+  -- the tokens that replies bring
+  abbrev pub ClaimGives : Claim → Type 0
+  ClaimGives (claim.Range from to) = Unit {0}
+  ClaimGives (claim.Exhausted x) = IsSpent x
+
+  abbrev pub ShutGives : Shut → Type 0
+  ShutGives (shut.Won x) = IsFirst x
+  ShutGives shut.Lost = Unit {0}
+
+  abbrev pub LeaveGives : Leave → Type 0
+  LeaveGives leave.Left = Unit {0}
+  LeaveGives (leave.Owe x) = IsDebt x
+
+  abbrev pub SweepGives : Sweep → Type 0
+  SweepGives (sweep.Last x) = IsHolder x
+  SweepGives (sweep.Others n) = Unit {0}
+
+  abbrev pub PayGives : Pay → Type 0
+  PayGives (pay.Last x) = IsHolder x
+  PayGives pay.Done = Unit {0}
+
+  abbrev pub ReserveGives : Reserve → Type 0
+  ReserveGives (reserve.Got x) = IsHolder x
+  ReserveGives (reserve.Taken word) = Unit {0}
+
+abbrev pub opens : Act → Bool
+opens (Install id) = true
+opens _ = false
+
+-- the slot that the worker w opened last, and whether it did so after a finalisation
+abbrev pub last_opened : Shape → ℕ → List Entry → Option (ℕ × Bool)
+last_opened d w [] = None
+last_opened d w (e ∷ es) = cond (eqb w e.worker && opens e.act) (Some (slot_of (place_of d es w), (held_at (place_of d es w)).again)) (last_opened d w es)
+
+-- the token of the worker's last install, after it has told every worker
+pub record IsDone {O Sub : Type 0} (x : Seen O Sub) (token : Announcer) : Type 0 where
+  pub worker : token.worker ≡ x.desk.worker
+  pub workers : token.workers ≡ x.desk.shape.workers
+  pub told : token.told ≡ x.desk.shape.workers
+  pub free : own_place x ≡ Free
+  pub opened : last_opened x.desk.shape x.desk.worker x.trail ≡ Some (token.slot, token.again)

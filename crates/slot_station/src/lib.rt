@@ -1,0 +1,24 @@
+//! The slot object as one of its workers sees it, whatever the form of the object: what a worker may call (`Station`),
+//! with the exact reply of each call and the legal trail after it.
+//!
+//! Beside the trait stand what every form of the object needs: the tokens and replies, the notes of cells, the place to
+//! which a call brings its worker, the lists that only contracts see, and the limits of an object. It stands on
+//! `slot_history`, which has the entries, states and laws of histories, and on `atomic_table`, in whose views a history
+//! is kept.
+//!
+//! The layers above may use one fact: after each call of a station its trail begins with the trail before, ends with
+//! this call, has of this worker just its own calls, and is a legal history of the subject (`Makes`).
+#![tactic(auto)]
+
+pub mod answers;
+pub mod limits;
+pub mod log;
+pub mod moves;
+pub mod note;
+pub mod notes;
+pub mod reply;
+pub mod station;
+pub mod steps;
+pub mod token;
+
+pub use slot_history::{act, laws, place, shape};

@@ -52,14 +52,16 @@ module _ {B Sub : Type 0} {b : Ghosts B Sub} (seat : Seat b) (legal : IsLegal se
   abbrev longer : ℕ → Note → Story
   longer v n = record o { log = Exchanged (record { worker = w; cell = v; note = n }) ∷ o.log }
 
-  element : (s v i : ℕ) → s < o.shape.slots → v < o.shape.workers → i ≡ s * o.shape.workers + v → (r : Option B) → r ≡ get_or cells i r → slice_get cells (s * o.shape.workers + v) ≡ Some r
+  element : (s v i : ℕ) → s < o.shape.slots → v < o.shape.workers → i ≡ s * o.shape.workers + v → (r : Option B) → r ≡ get_or cells i r
+      → slice_get cells (s * o.shape.workers + v) ≡ Some r
   element s v i in_s in_v at r is =
       slice_get_read cells (o.shape.slots * o.shape.workers) (s * o.shape.workers + v) r (sym seat.kept.count)
       (pair-within o.shape.slots o.shape.workers s v in_s in_v) (is ∙ ap (λ j. get_or cells j r) at)
 
   -- ---- the cell of v at the slot that is held
 
-  module _ (x : Holder) (is : IsHolder own.shape w (own_place (shown_by own now)) x) (v : ℕ) (in_v : v < own.shape.workers) {i : ℕ} (at : i ≡ x.slot * o.shape.workers + v) where
+  module _ (x : Holder) (is : IsHolder own.shape w (own_place (shown_by own now)) x) (v : ℕ) (in_v : v < own.shape.workers) {i : ℕ}
+      (at : i ≡ x.slot * o.shape.workers + v) where
     abbrev held : Held
     held = record { query = x.query; stage = x.stage; again = x.again; noted = is.noted; total = is.total }
 
@@ -99,10 +101,12 @@ module _ {B Sub : Type 0} {b : Ghosts B Sub} (seat : Seat b) (legal : IsLegal se
     own-has = to-object seat (λ D l. has_cell (own_place (shown_by D l)) ≡ true) has
 
     own-slots : slot_of (place_in o w) < o.shape.slots
-    own-slots = has-within o.shape (place_in o w) (ap has_cell (sym (place-trail o.shape w (calls_of o.log))) ∙ own-has) ((within o.shape (calls_of o.log) legal).places w)
+    own-slots = has-within o.shape (place_in o w) (ap has_cell (sym (place-trail o.shape w (calls_of o.log))) ∙ own-has)
+        ((within o.shape (calls_of o.log) legal).places w)
 
     pub own-index : i < length cells
-    own-index = let c = seat.kept.count in let p = pair-within o.shape.slots o.shape.workers (slot_of (place_in o w)) w own-slots (own-below seat) in omega arith
+    own-index = let c = seat.kept.count in let p = pair-within o.shape.slots o.shape.workers (slot_of (place_in o w)) w own-slots (own-below seat) in
+        omega arith
 
     pub seat-own_says : {r : Option B} → r ≡ get_or cells i r → OwnCellSays b.fits (shown_by own now) r
     seat-own_says {r = r} read =

@@ -63,7 +63,11 @@ use Rattle.one_thread.proofs.TablesKept.{table-call}
 -- the trail is a beginning of the history
 begins-step : (w : ℕ) (e : Entry) (es : List Entry) → Begins es (trail_in w es) → Dec (w ≡ e.worker) → Begins (e ∷ es) (trail_in w (e ∷ es))
 begins-step w e es ih (yes same) = ([], sym (ap (λ b. cond b (e ∷ es) (trail_in w es)) (eq-eqb w e.worker same)))
-begins-step w e es ih (no other) = (e ∷ ih.0, ap (λ l. e ∷ l) ih.1 ∙ ap (λ l. (e ∷ ih.0) ++ l) (sym (ap (λ b. cond b (e ∷ es) (trail_in w es)) (ne_eqb w e.worker other))))
+begins-step w e es ih (no other) = (
+  e ∷ ih.0,
+  ap (λ l. e ∷ l) ih.1 ∙ ap (λ l. (e ∷ ih.0) ++ l)
+      (sym (ap (λ b. cond b (e ∷ es) (trail_in w es)) (ne_eqb w e.worker other))),
+)
 
 pub begins : (w : ℕ) (h : List Entry) → Begins h (trail_in w h)
 begins w [] = ([], refl)
@@ -89,7 +93,8 @@ made o total D a log legal of_totals = record {
 }
 
 -- one more step of the worker
-pub since-step : {Sub : Type 0} (start was now : TableStory Sub) (w : ℕ) (x : Logged) → who x ≡ w → now ≡ record was { log = x ∷ was.log } → IsSince start was w → IsSince start now w
+pub since-step : {Sub : Type 0} (start was now : TableStory Sub) (w : ℕ) (x : Logged) → who x ≡ w → now ≡ record was { log = x ∷ was.log }
+    → IsSince start was w → IsSince start now w
 since-step {Sub = Sub} start was now w x mine is old = record {
   more = x ∷ old.more;
   log = ap (λ (t : TableStory Sub). t.log) is ∙ ap (λ l. x ∷ l) old.log;
@@ -204,7 +209,8 @@ module _ {B Sub : Type 0} {b : Ghosts B Sub} (x : Seat b) where
   desk-same : desk_over now worker ≡ desk
   desk-same = ap₂ (λ (d : Shape) (u : Sub). let D : Desk Sub = record { worker = worker; shape = d; subject = u } in D) x.same_shape x.same_subject
 
-  pub to-object : (P : Desk Sub → List Logged → Type 0) → P desk now.log → P (record { worker = worker; shape = object.shape; subject = subject }) object.log
+  pub to-object : (P : Desk Sub → List Logged → Type 0) → P desk now.log
+      → P (record { worker = worker; shape = object.shape; subject = subject }) object.log
   to-object P h = subst (λ (t : TableStory Sub). P (desk_over t worker) t.log) (sym x.view) (subst (λ D. P D now.log) (sym desk-same) h)
 
   pub to-seat : (P : Desk Sub → List Logged → Type 0) → P (record { worker = worker; shape = object.shape; subject = subject }) object.log → P desk now.log
@@ -213,7 +219,8 @@ module _ {B Sub : Type 0} {b : Ghosts B Sub} (x : Seat b) where
   -- ---- what the notes and the subject allow
 
   abbrev pub Allows : Act → Type 0
-  Allows a = NotesAllow (b.total subject) object.shape worker (place_of object.shape (trail_in worker (calls_of object.log)) worker) (note_in object.log worker) a
+  Allows a = NotesAllow (b.total subject) object.shape worker (place_of object.shape (trail_in worker (calls_of object.log)) worker)
+      (note_in object.log worker) a
 
   own-trail-place : place_of object.shape (trail_in worker (calls_of object.log)) worker ≡ place
   own-trail-place = place-trail object.shape worker (calls_of object.log) ∙ place-of
@@ -233,8 +240,11 @@ module _ {B Sub : Type 0} {b : Ghosts B Sub} (x : Seat b) where
   pub install-allows : (id : ℕ) → IsReady (own_holding shown) → (own_holding shown).total ≡ b.total start.subject id
       → AllNoted Fresh shown → Allows (Install id)
   install-allows id ready set cells =
-      let totals = ap (λ u. b.total u id) table-subject ∙ sym set in
-      (all-cells Fresh cells, subst (λ p. IsSome (held_at p).total × (b.total subject id ≡ (held_at p).total)) (sym own-trail-place) (ready.has_total, totals))
+      let totals = ap (λ u. b.total u id) table-subject ∙ sym set in (
+        all-cells Fresh cells,
+        subst (λ p. IsSome (held_at p).total × (b.total subject id ≡ (held_at p).total)) (sym own-trail-place)
+            (ready.has_total, totals),
+      )
 
   pub release-allows : AllNoted note.Empty shown → Allows Release
   release-allows cells = all-cells note.Empty cells
@@ -287,12 +297,22 @@ module _ {B Sub : Type 0} {b : Ghosts B Sub} (x : Seat b) where
   }
 
   -- after an exchange
-  pub exchanged : {e : Logged} {new : Story} → new ≡ record object { log = e ∷ object.log } → who e ≡ worker → SeatOver (record { shape = new.shape; subject = subject; log = new.log })
+  pub exchanged : {e : Logged} {new : Story} → new ≡ record object { log = e ∷ object.log } → who e ≡ worker
+      → SeatOver (record { shape = new.shape; subject = subject; log = new.log })
   exchanged {e = e} {new = new} grows mine =
       let P : Story → Type 0 = λ y. SeatOver (record { shape = y.shape; subject = subject; log = y.log }) in
       let longer : TableStory Sub = record { shape = object.shape; subject = subject; log = e ∷ object.log } in
       let since = ∥∥₁_map x.since (since-step start now longer worker e mine (ap (λ (t : TableStory Sub). record t { log = e ∷ t.log }) x.view)) in
-      subst P (sym grows) (record { below = own-below; workers = x.workers; slots = x.slots; queries = x.queries; shape = object-shape; subject = table-subject; since = since })
+      subst P (sym grows) (record {
+        below = own-below;
+        workers = x.workers;
+        slots = x.slots;
+        queries = x.queries;
+        shape = object-shape;
+        subject =
+            table-subject;
+        since = since;
+      })
 
   module _ {a : Act} {new : Story} (m : MakesCall object worker a new) where
     abbrev after : TableStory Sub
@@ -302,12 +322,14 @@ module _ {B Sub : Type 0} {b : Ghosts B Sub} (x : Seat b) where
     pub table-after : Allows a → IsTableKept b.queries b.total b.fits new.shape subject new.log x.cells
     table-after allow =
         let P : Story → Type 0 = λ y. IsTableKept b.queries b.total b.fits y.shape subject y.log x.cells in
-        let legal : IsLegal object.shape (calls_of (call worker a ∷ object.log)) = subst (λ (y : Story). IsLegal y.shape (calls_of y.log)) m.story m.legal in
+        let legal : IsLegal object.shape (calls_of (call worker a ∷ object.log)) = subst
+        (λ (y : Story). IsLegal y.shape (calls_of y.log)) m.story m.legal in
         subst P (sym m.story) (table-call b.queries b.total b.fits object.shape subject object.log x.cells worker a legal allow x.kept)
 
     -- where the worker is after the call
     pub new-place : place_in new worker ≡ moved object.shape a (place_in object worker)
-    new-place = ap (λ (y : Story). place_in y worker) m.story ∙ upd-same (state_in object.shape object.log).places worker (moved object.shape a (place_in object worker))
+    new-place = ap (λ (y : Story). place_in y worker) m.story ∙ upd-same (state_in object.shape object.log).places worker
+        (moved object.shape a (place_in object worker))
 
     new-shape : new.shape ≡ start.shape
     new-shape = ap (λ (y : Story). y.shape) m.story ∙ object-shape
@@ -338,7 +360,8 @@ module _ {B Sub : Type 0} {b : Ghosts B Sub} (x : Seat b) where
     seat-makes {o = o} allow =
         let d = start.shape in
         let totals = b.total start.subject in
-        let legal : IsLegal d (calls_of (call worker a ∷ now.log)) = subst (λ l. IsLegal d (calls_of l)) grows (subst (λ e. IsLegal e (calls_of new.log)) new-shape m.legal) in
+        let legal : IsLegal d (calls_of (call worker a ∷ now.log)) = subst (λ l. IsLegal d (calls_of l)) grows
+        (subst (λ e. IsLegal e (calls_of new.log)) new-shape m.legal) in
         let of : IsOfTotals totals d (calls_of (call worker a ∷ now.log)) =
         subst (λ l. IsOfTotals totals d (calls_of l)) grows
         (subst (λ e. IsOfTotals totals e (calls_of new.log)) new-shape
@@ -375,4 +398,5 @@ tell-done o D log x ok all =
 pub seat-done : {O B Sub : Type 0} {o : O} {b : Ghosts B Sub} (s : Seat b) {new : Story} → MakesCall (object s) (worker s) Tell new → (x : Announcer)
     → IsAnnouncer (start s).shape (worker s) (place s) x → x.told + 1 ≡ (start s).shape.workers
     → IsDone (seen_by o (desk s) new.log) (record x { told = x.told + 1 })
-seat-done {o = o} s m x ok all = subst (λ l. IsDone (seen_by o (desk s) l) (record x { told = x.told + 1 })) (sym (grows s m)) (tell-done o (desk s) (now s).log x ok all)
+seat-done {o = o} s m x ok all = subst (λ l. IsDone (seen_by o (desk s) l) (record x { told = x.told + 1 })) (sym (grows s m))
+    (tell-done o (desk s) (now s).log x ok all)

@@ -51,7 +51,8 @@ module _ (w c : ℕ) (n : Note) (l : List Logged) where
   note-of_else u v other = ap (λ b. cond (eqb u w && b) n (note_in l u v)) (ne_eqb v c other) ∙ ap (λ a. cond a n (note_in l u v)) (and-false (eqb u w))
 
 -- the seat of the worker w, over a table with this log and these cells
-module _ {B Sub : Type 0} (queries : Sub → ℕ) (total : Sub → ℕ → Option ℕ) (fits : Sub → ℕ → ℕ → List (ℕ × ℕ) → B → Type 0) (d : Shape) (subject : Sub) (log : List Logged) (cells : List (Option B)) (w : ℕ)
+module _ {B Sub : Type 0} (queries : Sub → ℕ) (total : Sub → ℕ → Option ℕ) (fits : Sub → ℕ → ℕ → List (ℕ × ℕ) → B → Type 0) (d : Shape) (subject : Sub)
+    (log : List Logged) (cells : List (Option B)) (w : ℕ)
     (low : w < d.workers) (legal : IsLegal d (calls_of log)) (ok : IsTableKept queries total fits d subject log cells) where
   abbrev h : List Entry
   h = calls_of log
@@ -71,7 +72,8 @@ module _ {B Sub : Type 0} (queries : Sub → ℕ) (total : Sub → ℕ → Optio
   Cell l t v x = CellOf (fits subject v) d h (note_in l) t v x
 
   -- the worker has cells of the slot s alone, and exchanges that of c there
-  exchanged : (s c : ℕ) (n : Note) → c < d.workers → ((t : ℕ) → t ≢ s → has_own_cell (S.places w) t ≡ false) → ((t : ℕ) (k : Held) → IsHeldBy w k (S.slots t) → t ≡ s)
+  exchanged : (s c : ℕ) (n : Note) → c < d.workers → ((t : ℕ) → t ≢ s → has_own_cell (S.places w) t ≡ false)
+      → ((t : ℕ) (k : Held) → IsHeldBy w k (S.slots t) → t ≡ s)
       → (new : Option B) → Cell (longer w c n log) s c new → IsTableKept queries total fits d subject (longer w c n log) (set cells (s * d.workers + c) new)
   exchanged s c n in_c out one new mine =
       let after : List Logged = longer w c n log in record {
@@ -80,9 +82,12 @@ module _ {B Sub : Type 0} (queries : Sub → ℕ) (total : Sub → ℕ → Optio
         count = length-set cells (s * d.workers + c) new ∙ ok.count;
         cells_are = λ t v x in_t in_v at. dite (ℕ_discrete (t * d.workers + v) (s * d.workers + c))
             (λ e. let q = same_from_place t v s c d.workers in_v in_c e in
-            let in_list : s * d.workers + c < length cells = subst (λ m. s * d.workers + c < m) (sym ok.count) (pair-within d.slots d.workers s c (subst (λ a. a < d.slots) q.0 in_t) in_c) in
-            let is : Some new ≡ Some x = sym (get-set_same cells (s * d.workers + c) new in_list) ∙ ap (slice_get (set cells (s * d.workers + c) new)) (sym e) ∙ at in
-            subst (λ y. Cell after t v y) (let r : new ≡ x = cc in r) (subst (λ a. Cell after a v new) (sym q.0) (subst (λ a. Cell after s a new) (sym q.1) mine)))
+            let in_list : s * d.workers + c < length cells = subst (λ m. s * d.workers + c < m) (sym ok.count)
+            (pair-within d.slots d.workers s c (subst (λ a. a < d.slots) q.0 in_t) in_c) in
+            let is : Some new ≡ Some x = sym (get-set_same cells (s * d.workers + c) new in_list) ∙ ap (slice_get (set cells (s * d.workers + c) new))
+            (sym e) ∙ at in
+            subst (λ y. Cell after t v y) (let r : new ≡ x = cc in r)
+            (subst (λ a. Cell after a v new) (sym q.0) (subst (λ a. Cell after s a new) (sym q.1) mine)))
             (λ ne. cell-else (fits subject v) d h w s c out one (note_in log) (note_in after) (note-of_other w c n log) (note-of_else w c n log) x t v
             (λ same e. ne (ap₂ (λ a b. a * d.workers + b) same e))
             (ok.cells_are t v x in_t in_v (sym (get-set_other cells (s * d.workers + c) (t * d.workers + v) new ne) ∙ at)));
@@ -101,7 +106,8 @@ module _ {B Sub : Type 0} (queries : Sub → ℕ) (total : Sub → ℕ → Optio
     own-fits : FitsClaims (fits subject w) (λ id. ranges_of d w id h) (id_at p) ≡ OwnFits fits shown
     own-fits =
         let id : ℕ = id_at (own_place shown) in
-        ap (λ q. FitsClaims (fits subject w) (λ id. ranges_of d w id h) (id_at q)) (sym (place-trail d w h)) ∙ ap (λ r. fits subject w id r) (sym (ranges-trail d w id h))
+        ap (λ q. FitsClaims (fits subject w) (λ id. ranges_of d w id h) (id_at q)) (sym (place-trail d w h)) ∙ ap (λ r. fits subject w id r)
+        (sym (ranges-trail d w id h))
 
     own-is : (l : List Logged) (x : Option B) → Cell l (slot_of p) w x ≡ NoteSays (OwnFits fits shown) (λ b. ⊥) (note_in l w w) x
     own-is l x = own-cell-is d h w low legal has-cell (fits subject w) (note_in l) x ∙ ap (λ P. NoteSays P (λ b. ⊥) (note_in l w w) x) own-fits
@@ -112,7 +118,9 @@ module _ {B Sub : Type 0} (queries : Sub → ℕ) (total : Sub → ℕ → Optio
     pub table-own-cell : (new : Option B) (n : Note) → n ≡ kept_note new → IfSome new (OwnFits fits shown)
         → IsTableKept queries total fits d subject (Exchanged (record { worker = w; cell = w; note = n }) ∷ log) (set cells (slot_of p * d.workers + w) new)
     table-own-cell new n is fit = exchanged (slot_of p) w n low (inside-only d h w low legal has-cell) (inside-holds d h w low legal has-cell) new
-        (transport (sym (own-is (longer w w n log) new)) (subst (λ m. NoteSays (OwnFits fits shown) (λ b. ⊥) m new) (sym (note-exchanged w w n log ∙ is)) (says-kept (OwnFits fits shown) (λ b. ⊥) new fit)))
+        (transport (sym (own-is (longer w w n log) new))
+        (subst (λ m. NoteSays (OwnFits fits shown) (λ b. ⊥) m new) (sym (note-exchanged w w n log ∙ is))
+        (says-kept (OwnFits fits shown) (λ b. ⊥) new fit)))
 
   -- ---- the cell of v, of the slot s that the worker holds
 
@@ -124,18 +132,21 @@ module _ {B Sub : Type 0} (queries : Sub → ℕ) (total : Sub → ℕ → Optio
     held = holder-slot d S (table d h legal) w s k low place-is
 
     -- what a value fits that is kept for the task set that is finalised
-    finalised-fits : (id : ℕ) → S.slots s ≡ Finishing id w k → (y : B) → FitsClaims (fits subject v) (λ id. ranges_of d v id h) id y → FinalisedFits fits shown v y
+    finalised-fits : (id : ℕ) → S.slots s ≡ Finishing id w k → (y : B) → FitsClaims (fits subject v) (λ id. ranges_of d v id h) id y
+        → FinalisedFits fits shown v y
     finalised-fits id is y f =
         let sound : IsFinalisation id k = subst IsSlotSound is (slots-sound d h legal s) in
         let same : id ≡ finalised_id k = sym (ap id_of is) ∙ (finalises w k (S.slots s) held (slots-sound d h legal s) sound.again).1 in
-        let by_history : fits subject v (finalised_id k) (ranges_of d v (finalised_id k) h) y = subst (λ i. fits subject v i (ranges_of d v i h) y) same f in
+        let by_history : fits subject v (finalised_id k) (ranges_of d v (finalised_id k) h) y = subst
+        (λ i. fits subject v i (ranges_of d v i h) y) same f in
         let by_trail : fits subject v (finalised_id k) (ranges_of d v (finalised_id k) trail) y =
         subst (λ r. fits subject v (finalised_id k) r y) (sym (ranges-finalised d w s k sound.again h legal low place-is v)) by_history in
         subst (λ q. FitsFinalised (fits subject v) (λ id. ranges_of d v id trail) (held_at q) y) (sym holds) (sound.again, by_trail)
 
     pub cell-says : (x : Option B) → slice_get cells (s * d.workers + v) ≡ Some x → CellSays fits shown v x
     cell-says x at = subst (λ q. NoteSays (FinalisedFits fits shown v) (FitsNext (fits subject v) (held_at q)) (note_in log w v) x) (sym holds)
-        (held-says (fits subject v) (λ id. ranges_of d v id h) (λ u. note_in log u v) x w k (S.slots s) (has_own_cell (S.places v) s) (note_in log v v) (FinalisedFits fits shown v) held finalised-fits
+        (held-says (fits subject v) (λ id. ranges_of d v id h) (λ u. note_in log u v) x w k (S.slots s) (has_own_cell (S.places v) s) (note_in log v v)
+        (FinalisedFits fits shown v) held finalised-fits
         (ok.cells_are s v x (subst (IsPlaceWithin d) place-is ((within d h legal).places w)) in_v at))
 
     pub table-cell : (new : Option B) (n : Note) → n ≡ fresh_note new → IfSome new (NextFits fits shown v)
@@ -144,6 +155,7 @@ module _ {B Sub : Type 0} (queries : Sub → ℕ) (total : Sub → ℕ → Optio
         (λ t other. ap (λ q. has_own_cell q t) place-is)
         (λ t j other. let r : Holding t j ≡ Holding s k = sym (holder-place d S (table d h legal) t w j other) ∙ place-is in cc)
         new
-        (says-held (fits subject v) (λ id. ranges_of d v id h) (λ u. note_in (longer w v n log) u v) new w k (S.slots s) (has_own_cell (S.places v) s) (note_in (longer w v n log) v v) held
+        (says-held (fits subject v) (λ id. ranges_of d v id h) (λ u. note_in (longer w v n log) u v) new w k (S.slots s) (has_own_cell (S.places v) s)
+        (note_in (longer w v n log) v v) held
         (λ P. subst (λ m. NoteSays P (FitsNext (fits subject v) k) m new) (sym (note-exchanged w v n log ∙ is))
         (says-fresh P (FitsNext (fits subject v) k) new (subst (λ q. IfSome new (FitsNext (fits subject v) (held_at q))) holds fit))))

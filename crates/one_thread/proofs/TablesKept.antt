@@ -32,9 +32,11 @@ use Rattle.slot_station.specs.Cells.{NotesAllow}
 use Rattle.slot_station.proofs.OwnCells.{installs-of, own-cell}
 use Rattle.slot_station.proofs.SlotCells.{At, slot-cell}
 
-module _ {B Sub : Type 0} (queries : Sub → ℕ) (total : Sub → ℕ → Option ℕ) (fits : Sub → ℕ → ℕ → List (ℕ × ℕ) → B → Type 0) (d : Shape) (subject : Sub) where
+module _ {B Sub : Type 0} (queries : Sub → ℕ) (total : Sub → ℕ → Option ℕ) (fits : Sub → ℕ → ℕ → List (ℕ × ℕ) → B → Type 0) (d : Shape)
+    (subject : Sub) where
   -- every cell is empty where nothing was done
-  pub table-opening : d.queries ≡ queries subject → (cells : List (Option B)) → length cells ≡ d.slots * d.workers → ((i : ℕ) (x : Option B) → slice_get cells i ≡ Some x → x ≡ None) → IsTableKept queries total fits d subject [] cells
+  pub table-opening : d.queries ≡ queries subject → (cells : List (Option B)) → length cells ≡ d.slots * d.workers
+      → ((i : ℕ) (x : Option B) → slice_get cells i ≡ Some x → x ≡ None) → IsTableKept queries total fits d subject [] cells
   table-opening asks cells count none = record {
     queries_are = asks;
     of_subject = λ id total h. absurd (cc h);
@@ -49,7 +51,8 @@ module _ {B Sub : Type 0} (queries : Sub → ℕ) (total : Sub → ℕ → Optio
   table-call log cells w a legal allow ok =
       let h : List Entry = calls_of log in
       let totals : ℕ → Option ℕ = total subject in
-      let may : NotesAllow totals d w (place_of d h w) (note_in log w) a = subst (λ p. NotesAllow totals d w p (note_in log w) a) (place-trail d w h) allow in record {
+      let may : NotesAllow totals d w (place_of d h w) (note_in log w) a = subst (λ p. NotesAllow totals d w p (note_in log w) a)
+      (place-trail d w h) allow in record {
         queries_are = ok.queries_are;
         of_subject = subject-goes-on totals d (entry w a) h ok.of_subject (installs-of totals d w (place_of d h w) (note_in log w) a may);
         count = ok.count;

@@ -33,7 +33,8 @@ trail-mine e h w same = ap (λ b. cond b (e ∷ h) (trail_in w h)) (eq-eqb w e.w
 trail-other : (e : Entry) (h : List Entry) (w : ℕ) → w ≢ e.worker → trail_in w (e ∷ h) ≡ trail_in w h
 trail-other e h w other = ap (λ b. cond b (e ∷ h) (trail_in w h)) (ne_eqb w e.worker other)
 
-own-trail-step : (w : ℕ) (e : Entry) (es : List Entry) → own_calls w (trail_in w es) ≡ own_calls w es → Dec (w ≡ e.worker) → own_calls w (trail_in w (e ∷ es)) ≡ own_calls w (e ∷ es)
+own-trail-step : (w : ℕ) (e : Entry) (es : List Entry) → own_calls w (trail_in w es) ≡ own_calls w es → Dec (w ≡ e.worker)
+    → own_calls w (trail_in w (e ∷ es)) ≡ own_calls w (e ∷ es)
 own-trail-step w e es ih (yes same) = ap (own_calls w) (trail-mine e es w same)
 own-trail-step w e es ih (no other) = ap (own_calls w) (trail-other e es w other) ∙ ih ∙ sym (own-other e es w other)
 
@@ -61,7 +62,8 @@ finalises w k X (inr (id, is)) sound again =
 
 module _ (d : Shape) (w s : ℕ) (k : Held) (again : k.again ≡ true) where
   -- nobody is inside with it
-  finalised-outside : (h : List Entry) → IsLegal d h → w < d.workers → place_of d h w ≡ Holding s k → (v : ℕ) → v < d.workers → is_inside (place_of d h v) (finalised_id k) ≡ false
+  finalised-outside : (h : List Entry) → IsLegal d h → w < d.workers → place_of d h w ≡ Holding s k → (v : ℕ) → v < d.workers
+      → is_inside (place_of d h v) (finalised_id k) ≡ false
   finalised-outside h legal low at v in_v = false_from_ne_true (is_inside (place_of d h v) (finalised_id k)) (λ inside.
       let S : ObjectState = state_after d h in
       let held : IsHeldBy w k (S.slots s) = holder-slot d S (table d h legal) w s k low at in
@@ -75,15 +77,19 @@ module _ (d : Shape) (w s : ℕ) (k : Held) (again : k.again ≡ true) where
   claims-nothing _ p rs out = refl
 
   -- so no call of another worker changes the ranges of it
-  finalised-step : (v : ℕ) (e : Entry) (es : List Entry) → IsLegal d (e ∷ es) → w < d.workers → place_of d es w ≡ Holding s k → ranges_of d v (finalised_id k) (e ∷ es) ≡ ranges_of d v (finalised_id k) es
+  finalised-step : (v : ℕ) (e : Entry) (es : List Entry) → IsLegal d (e ∷ es) → w < d.workers → place_of d es w ≡ Holding s k
+      → ranges_of d v (finalised_id k) (e ∷ es) ≡ ranges_of d v (finalised_id k) es
   finalised-step v e es legal low at = dite (ℕ_discrete v e.worker)
-      (λ same. ranges-mine d v (finalised_id k) e es same ∙ claims-nothing e.act (place_of d es v) _ (finalised-outside es legal.2 low at v (subst (λ u. u < d.workers) (sym same) legal.0)))
+      (λ same. ranges-mine d v (finalised_id k) e es same ∙ claims-nothing e.act (place_of d es v) _
+      (finalised-outside es legal.2 low at v (subst (λ u. u < d.workers) (sym same) legal.0)))
       (λ other. ranges-other d v (finalised_id k) e es other)
 
   -- and the trail gives them, of every worker
-  pub ranges-finalised : (h : List Entry) → IsLegal d h → w < d.workers → place_of d h w ≡ Holding s k → (v : ℕ) → ranges_of d v (finalised_id k) (trail_in w h) ≡ ranges_of d v (finalised_id k) h
+  pub ranges-finalised : (h : List Entry) → IsLegal d h → w < d.workers → place_of d h w ≡ Holding s k → (v : ℕ)
+      → ranges_of d v (finalised_id k) (trail_in w h) ≡ ranges_of d v (finalised_id k) h
   ranges-finalised [] legal low at v = refl
   ranges-finalised (e ∷ es) legal low at v = dite (ℕ_discrete w e.worker)
       (λ same. ap (ranges_of d v (finalised_id k)) (trail-mine e es w same))
       (λ other. let before : place_of d es w ≡ Holding s k = sym (place-other d e es w other) ∙ at in
-      ap (ranges_of d v (finalised_id k)) (trail-other e es w other) ∙ ranges-finalised es legal.2 low before v ∙ sym (finalised-step v e es legal low before))
+      ap (ranges_of d v (finalised_id k)) (trail-other e es w other) ∙ ranges-finalised es legal.2 low before v ∙ sym
+      (finalised-step v e es legal low before))

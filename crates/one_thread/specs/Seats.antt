@@ -6,7 +6,8 @@ use Rattle.slot_station.specs.Desks.{Desk, Seen}
 use Rattle.slot_station.specs.Log.{calls_of, note_in, who}
 use Rattle.one_thread.specs.Tables.{TableStory}
 
--- which table a seat borrows, by the name of the borrow, the table as it was when the seat was made, and whose seat it is
+-- which table a seat borrows, by the name of the borrow, the table as it was when the seat was made,
+-- and whose seat it is
 pub record SeatOrigin (Sub : Type 0) : Type 0 where
   pub name : ℕ
   pub start : TableStory Sub

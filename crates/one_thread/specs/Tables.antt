@@ -12,7 +12,8 @@ pub record TableStory (Sub : Type 0) : Type 0 where
   pub subject : Sub
   pub log : List Logged
 
--- the number of queries is the subject's, the history is of the subject, and each cell is as the notes say
+-- the number of queries is the subject's, the history is of the subject, and each cell is as the
+-- notes say
 pub record IsTableKept {B Sub : Type 0} (queries : Sub → ℕ) (total : Sub → ℕ → Option ℕ)
     (fits : Sub → ℕ → ℕ → List (ℕ × ℕ) → B → Type 0) (d : Shape) (subject : Sub)
     (log : List Logged) (cells : List (Option B)) : Type 0 where

@@ -11,3 +11,7 @@
 pub mod object;
 pub mod seat;
 pub mod table;
+
+pub use object::SlotObject;
+pub use seat::OneSeat;
+pub use table::OneTable;

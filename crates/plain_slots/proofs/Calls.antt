@@ -51,19 +51,23 @@ look-calm (look.Open id) = (λ w p f. refl, λ w p f. refl, λ n. refl, λ n. re
 look-calm look.Invalid = (λ w p f. refl, λ w p f. refl, λ n. refl, λ n. refl)
 look-calm look.Vacant = (λ w p f. refl, λ w p f. refl, λ n. refl, λ n. refl)
 
-look-fine : (d : Shape) (S : ObjectState) (w s : ℕ) (x : SlotState) → S.places w ≡ Entered s → S.slots s ≡ x → IsAllowed d S w (look_act (look_of (shown x)))
+look-fine : (d : Shape) (S : ObjectState) (w s : ℕ) (x : SlotState) → S.places w ≡ Entered s → S.slots s ≡ x
+    → IsAllowed d S w (look_act (look_of (shown x)))
 look-fine d S w s Empty at is = (s, at, rw is refl)
 look-fine d S w s (Reserved u h) at is = (s, at, rw is refl)
 look-fine d S w s (Open t) at is = (s, at, rw is refl, rw is refl)
 look-fine d S w s (Shut t e) at is = (s, at, rw is refl)
 look-fine d S w s (Finishing id u h) at is = (s, at, rw is refl)
 
-pub look-after : (o : Inside) (ok : Kept o) (w : ℕ) (p : Place) (k : ℕ) → Spot o w p k → ((s : ℕ) × (p ≡ Entered s)) → (l : Look) → l ≡ look_of (shown ((now_of o).slots k)) → (a' : Act) → a' ≡ look_act l
-    → (places : List Place) (log : List Logged) → Wrote o w a' places log → IsObject o.shape o.slots.items o.owing.items places o.returns.items o.changes.items o.admitted o.finished log
+pub look-after : (o : Inside) (ok : Kept o) (w : ℕ) (p : Place) (k : ℕ) → Spot o w p k → ((s : ℕ) × (p ≡ Entered s)) → (l : Look)
+    → l ≡ look_of (shown ((now_of o).slots k)) → (a' : Act) → a' ≡ look_act l
+    → (places : List Place) (log : List Logged) → Wrote o w a' places log
+    → IsObject o.shape o.slots.items o.owing.items places o.returns.items o.changes.items o.admitted o.finished log
 look-after o ok w p k s at l seen a' is places log wrote =
     let e : k ≡ at.0 = s.slot ∙ ap slot_of at.1 in
     let there : (now_of o).places w ≡ Entered k = sym s.is ∙ at.1 ∙ ap Entered (sym e) in
-    quiet o ok w s.low (look_act l) a' is (subst (λ m. IsAllowed o.shape (now_of o) w (look_act m)) (sym seen) (look-fine o.shape (now_of o) w k ((now_of o).slots k) there refl)) places log wrote (look-still l) (look-calm l)
+    quiet o ok w s.low (look_act l) a' is (subst (λ m. IsAllowed o.shape (now_of o) w (look_act m)) (sym seen)
+    (look-fine o.shape (now_of o) w k ((now_of o).slots k) there refl)) places log wrote (look-still l) (look-calm l)
 
 -- ---- leave
 
@@ -75,19 +79,25 @@ leave-calm : (l : Leave) → Calm (leave_act l)
 leave-calm leave.Left = (λ w p f. refl, λ w p f. refl, λ n. refl, λ n. refl)
 leave-calm (leave.Owe y) = (λ w p f. refl, λ w p f. refl, λ n. refl, λ n. refl)
 
-leave-fine : (d : Shape) (S : ObjectState) (w s id : ℕ) (b : Bool) → can_leave (S.places w) ≡ true → slot_of (S.places w) ≡ s → b ≡ owes (S.slots s) w → id ≡ id_of (S.slots s) → IsAllowed d S w (leave_act (leave_of w s id b))
+leave-fine : (d : Shape) (S : ObjectState) (w s id : ℕ) (b : Bool) → can_leave (S.places w) ≡ true → slot_of (S.places w) ≡ s → b ≡ owes (S.slots s) w
+    → id ≡ id_of (S.slots s) → IsAllowed d S w (leave_act (leave_of w s id b))
 leave-fine d S w s id true can at owed is = (can, ap (λ k. owes (S.slots k) w) at ∙ sym owed, is ∙ ap (λ k. id_of (S.slots k)) (sym at))
 leave-fine d S w s id false can at owed is = (can, ap (λ k. owes (S.slots k) w) at ∙ sym owed)
 
 -- the debt that is read is that of the slot
-pub debt-read : (o : Inside) (ok : Kept o) (k v : ℕ) → k < o.shape.slots → v < o.shape.workers → (i : ℕ) → i ≡ k * o.shape.workers + v → (b : Bool) → b ≡ get_or o.owing.items i b → b ≡ owes ((now_of o).slots k) v
-debt-read o ok k v in_k in_v i at b is = read o.owing.items i (owes ((now_of o).slots k) v) b (ap (slice_get o.owing.items) at ∙ ok.debts_are.are k v in_k in_v) is
+pub debt-read : (o : Inside) (ok : Kept o) (k v : ℕ) → k < o.shape.slots → v < o.shape.workers → (i : ℕ) → i ≡ k * o.shape.workers + v → (b : Bool)
+    → b ≡ get_or o.owing.items i b → b ≡ owes ((now_of o).slots k) v
+debt-read o ok k v in_k in_v i at b is = read o.owing.items i (owes ((now_of o).slots k) v) b
+    (ap (slice_get o.owing.items) at ∙ ok.debts_are.are k v in_k in_v) is
 
 pub debt-index : (o : Inside) (ok : Kept o) (k v : ℕ) → k < o.shape.slots → v < o.shape.workers → (i : ℕ) → i ≡ k * o.shape.workers + v → i < o.owing.len
-debt-index o ok k v in_k in_v i at = let c = ok.debts_are.count in let l = o.owing.ok.0 in let p = pair-within o.shape.slots o.shape.workers k v in_k in_v in omega arith
+debt-index o ok k v in_k in_v i at = let c = ok.debts_are.count in let l = o.owing.ok.0 in
+    let p = pair-within o.shape.slots o.shape.workers k v in_k in_v in omega arith
 
-pub leave-after : (o : Inside) (ok : Kept o) (w : ℕ) (p : Place) (k : ℕ) → Spot o w p k → can_leave p ≡ true → (b : Bool) → b ≡ owes ((now_of o).slots k) w → (id : ℕ) → id ≡ id_of ((now_of o).slots k) → (l : Leave) → l ≡ leave_of w k id b → (a' : Act) → a' ≡ leave_act l
-    → (places : List Place) (log : List Logged) → Wrote o w a' places log → IsObject o.shape o.slots.items o.owing.items places o.returns.items o.changes.items o.admitted o.finished log
+pub leave-after : (o : Inside) (ok : Kept o) (w : ℕ) (p : Place) (k : ℕ) → Spot o w p k → can_leave p ≡ true → (b : Bool) → b ≡ owes ((now_of o).slots k) w
+    → (id : ℕ) → id ≡ id_of ((now_of o).slots k) → (l : Leave) → l ≡ leave_of w k id b → (a' : Act) → a' ≡ leave_act l
+    → (places : List Place) (log : List Logged) → Wrote o w a' places log
+    → IsObject o.shape o.slots.items o.owing.items places o.returns.items o.changes.items o.admitted o.finished log
 leave-after o ok w p k s can b owed id named l answers a' is places log wrote =
     quiet o ok w s.low (leave_act l) a' is
     (subst (λ m. IsAllowed o.shape (now_of o) w (leave_act m)) (sym answers)
@@ -95,8 +105,10 @@ leave-after o ok w p k s can b owed id named l answers a' is places log wrote =
     places log wrote (leave-still l) (leave-calm l)
 
 -- the token that a leave brings
-pub leave-gives : (d : Shape) (w k id : ℕ) (b : Bool) (p q : Place) (l : Leave) → l ≡ leave_of w k id b → k ≡ slot_of p → q ≡ moved d (leave_act l) p → LeaveGives d w q l
-leave-gives d w k id true p q l is at goes = subst (λ m. q ≡ moved d (leave_act m) p → LeaveGives d w q m) (sym is) (λ g. record { worker = refl; place = g ∙ ap (λ s. Owing s id) (sym at) }) goes
+pub leave-gives : (d : Shape) (w k id : ℕ) (b : Bool) (p q : Place) (l : Leave) → l ≡ leave_of w k id b → k ≡ slot_of p → q ≡ moved d (leave_act l) p
+    → LeaveGives d w q l
+leave-gives d w k id true p q l is at goes = subst (λ m. q ≡ moved d (leave_act m) p → LeaveGives d w q m) (sym is)
+    (λ g. record { worker = refl; place = g ∙ ap (λ s. Owing s id) (sym at) }) goes
 leave-gives d w k id false p q l is at goes = subst (λ m. LeaveGives d w q m) (sym is) tt
 
 -- ---- reserve
@@ -109,14 +121,16 @@ reserve-site : (s : ℕ) (r : Reserve) (p : Place) → s ≡ site (reserve_act s
 reserve-site s (reserve.Got h) p = refl
 reserve-site s (reserve.Taken word) p = refl
 
-reserve-fine : (d : Shape) (S : ObjectState) (w s : ℕ) (x : SlotState) → S.places w ≡ Free → s < d.slots → S.slots s ≡ x → IsAllowed d S w (reserve_act s (reserve_of w s x))
+reserve-fine : (d : Shape) (S : ObjectState) (w s : ℕ) (x : SlotState) → S.places w ≡ Free → s < d.slots → S.slots s ≡ x
+    → IsAllowed d S w (reserve_act s (reserve_of w s x))
 reserve-fine d S w s Empty free low is = (free, low, rw is refl)
 reserve-fine d S w s (Reserved u h) free low is = (free, low, rw is refl, rw is refl)
 reserve-fine d S w s (Open t) free low is = (free, low, rw is refl, rw is refl)
 reserve-fine d S w s (Shut t e) free low is = (free, low, rw is refl, rw is refl)
 reserve-fine d S w s (Finishing id u h) free low is = (free, low, rw is refl, rw is refl)
 
-reserve-shown : (d : Shape) (w s : ℕ) (x : SlotState) → cond (is_empty x) (shown (Reserved w reservation)) (shown x) ≡ shown (slot_after d w (reserve_act s (reserve_of w s x)) x)
+reserve-shown : (d : Shape) (w s : ℕ) (x : SlotState) → cond (is_empty x) (shown (Reserved w reservation)) (shown x) ≡ shown
+    (slot_after d w (reserve_act s (reserve_of w s x)) x)
 reserve-shown d w s Empty = refl
 reserve-shown d w s (Reserved u h) = refl
 reserve-shown d w s (Open t) = refl
@@ -130,25 +144,31 @@ reserve-debts d w s (Open t) v = refl
 reserve-debts d w s (Shut t e) v = refl
 reserve-debts d w s (Finishing id u h) v = refl
 
-pub reserve-after : (o : Inside) (ok : Kept o) (w : ℕ) → w < o.shape.workers → (s : ℕ) → (now_of o).places w ≡ Free → s < o.shape.slots → (r : Reserve) → r ≡ reserve_of w s ((now_of o).slots s) → (a' : Act) → a' ≡ reserve_act s r
-    → (places : List Place) (log : List Logged) → Wrote o w a' places log → (y : Slot) → y ≡ cond (is_empty ((now_of o).slots s)) (shown (Reserved w reservation)) (shown ((now_of o).slots s))
+pub reserve-after : (o : Inside) (ok : Kept o) (w : ℕ) → w < o.shape.workers → (s : ℕ) → (now_of o).places w ≡ Free → s < o.shape.slots → (r : Reserve)
+    → r ≡ reserve_of w s ((now_of o).slots s) → (a' : Act) → a' ≡ reserve_act s r
+    → (places : List Place) (log : List Logged) → Wrote o w a' places log → (y : Slot)
+    → y ≡ cond (is_empty ((now_of o).slots s)) (shown (Reserved w reservation)) (shown ((now_of o).slots s))
     → IsObject o.shape (set o.slots.items s y) o.owing.items places o.returns.items o.changes.items o.admitted o.finished log
 reserve-after o ok w low s free in_s r answers a' is places log wrote y holds =
     let d = o.shape in let S = now_of o in let x = S.slots s in
     let a : Act = reserve_act s (reserve_of w s x) in
-    writes o ok w low a a' (is ∙ ap (reserve_act s) answers) (reserve-fine d S w s x free in_s refl) places log wrote (reserve-calm s (reserve_of w s x)) s (reserve-site s (reserve_of w s x) (S.places w)) (set o.slots.items s y) o.owing.items (
-      subst (λ z. HasSlots d (set o.slots.items s z) (upd S.slots s (slot_after d w a x))) (sym (holds ∙ reserve-shown d w s x)) (slots-set d o.slots.items S.slots s (slot_after d w a x) ok.slots_are in_s),
+    writes o ok w low a a' (is ∙ ap (reserve_act s) answers) (reserve-fine d S w s x free in_s refl) places log wrote (reserve-calm s (reserve_of w s x)) s
+    (reserve-site s (reserve_of w s x) (S.places w)) (set o.slots.items s y) o.owing.items (
+      subst (λ z. HasSlots d (set o.slots.items s z) (upd S.slots s (slot_after d w a x))) (sym (holds ∙ reserve-shown d w s x))
+          (slots-set d o.slots.items S.slots s (slot_after d w a x) ok.slots_are in_s),
       debts-kept d o.owing.items S.slots s (slot_after d w a x) ok.debts_are (λ v h. reserve-debts d w s x v),
     )
 
-reserve-holds : (d : Shape) (w s : ℕ) (x : SlotState) (p q : Place) → q ≡ moved d (reserve_act s (reserve_of w s x)) p → ReserveGives d w q (reserve_of w s x)
+reserve-holds : (d : Shape) (w s : ℕ) (x : SlotState) (p q : Place) → q ≡ moved d (reserve_act s (reserve_of w s x)) p
+    → ReserveGives d w q (reserve_of w s x)
 reserve-holds d w s Empty p q g = record { worker = refl; noted = 0; total = None; place = g }
 reserve-holds d w s (Reserved u h) p q g = tt
 reserve-holds d w s (Open t) p q g = tt
 reserve-holds d w s (Shut t e) p q g = tt
 reserve-holds d w s (Finishing id u h) p q g = tt
 
-pub reserve-gives : (d : Shape) (w s : ℕ) (x : SlotState) (p q : Place) (r : Reserve) → r ≡ reserve_of w s x → q ≡ moved d (reserve_act s r) p → ReserveGives d w q r
+pub reserve-gives : (d : Shape) (w s : ℕ) (x : SlotState) (p q : Place) (r : Reserve) → r ≡ reserve_of w s x → q ≡ moved d (reserve_act s r) p
+    → ReserveGives d w q r
 reserve-gives d w s x p q r is goes = subst (λ m. q ≡ moved d (reserve_act s m) p → ReserveGives d w q m) (sym is) (reserve-holds d w s x p q) goes
 
 -- ---- claim
@@ -165,7 +185,8 @@ claim-slot : (d : Shape) (w n : ℕ) (c : Claim) (x : SlotState) → slot_after 
 claim-slot d w n (claim.Range from to) x = refl
 claim-slot d w n (claim.Exhausted y) x = refl
 
-claim-fine : (d : Shape) (S : ObjectState) (w n s id : ℕ) (p : Place) (r : Option (ℕ × ℕ)) → S.places w ≡ At s id → 0 < n → n ≤ MOST_CLAIM → ClaimFrom (S.slots s) n r → IsAllowed d S w (claim_act n (claim_of w p r))
+claim-fine : (d : Shape) (S : ObjectState) (w n s id : ℕ) (p : Place) (r : Option (ℕ × ℕ)) → S.places w ≡ At s id → 0 < n → n ≤ MOST_CLAIM
+    → ClaimFrom (S.slots s) n r → IsAllowed d S w (claim_act n (claim_of w p r))
 claim-fine d S w n s id p None at some most f = (s, id, at, some, most, f)
 claim-fine d S w n s id p (Some r) at some most f = (s, id, at, some, most, f.0, f.1, f.2)
 
@@ -174,20 +195,25 @@ works-on : (x : SlotState) → (is_open x ≡ true) ⊎ (is_shut x ≡ true) →
 works-on x = open-shut-cases x (λ y. has_work (shown y) ≡ true) (λ t. refl) (λ t e. refl)
 
 -- the slot of a worker that is inside with an id is open or shut with it
-pub inside-work : (o : Inside) (ok : Kept o) (w : ℕ) (p : Place) (k id : ℕ) → Spot o w p k → has_own_cell p k ≡ true → is_inside p id ≡ true → has_work (shown ((now_of o).slots k)) ≡ true
+pub inside-work : (o : Inside) (ok : Kept o) (w : ℕ) (p : Place) (k id : ℕ) → Spot o w p k → has_own_cell p k ≡ true → is_inside p id ≡ true
+    → has_work (shown ((now_of o).slots k)) ≡ true
 inside-work o ok w p k id s cell in_ =
-    let r = inside-slots o.shape (now_of o) (tabled o ok) k w id s.low (subst (λ q. has_own_cell q k ≡ true) s.is cell) (subst (λ q. is_inside q id ≡ true) s.is in_) in works-on ((now_of o).slots k) r.0
+    let r = inside-slots o.shape (now_of o) (tabled o ok) k w id s.low (subst (λ q. has_own_cell q k ≡ true) s.is cell)
+    (subst (λ q. is_inside q id ≡ true) s.is in_) in works-on ((now_of o).slots k) r.0
 
-pub claim-after : (o : Inside) (ok : Kept o) (w : ℕ) (p : Place) (k n id : ℕ) → Spot o w p k → p ≡ At k id → 0 < n → n ≤ MOST_CLAIM → (r : Option (ℕ × ℕ)) (y : Slot) → ClaimFrom ((now_of o).slots k) n r × (shown (claimed ((now_of o).slots k) n) ≡ y)
+pub claim-after : (o : Inside) (ok : Kept o) (w : ℕ) (p : Place) (k n id : ℕ) → Spot o w p k → p ≡ At k id → 0 < n → n ≤ MOST_CLAIM
+    → (r : Option (ℕ × ℕ)) (y : Slot) → ClaimFrom ((now_of o).slots k) n r × (shown (claimed ((now_of o).slots k) n) ≡ y)
     → (c : Claim) → c ≡ claim_of w p r → (a' : Act) → a' ≡ claim_act n c → (places : List Place) (log : List Logged) → Wrote o w a' places log
     → IsObject o.shape (set o.slots.items k y) o.owing.items places o.returns.items o.changes.items o.admitted o.finished log
 claim-after o ok w p k n id s at some most r y got c answers a' is places log wrote =
     let d = o.shape in let S = now_of o in let x = S.slots k in
     let a : Act = claim_act n c in
     let after : slot_after d w a x ≡ claimed x n = claim-slot d w n c x in
-    writes o ok w s.low a a' is (subst (λ m. IsAllowed d S w (claim_act n m)) (sym answers) (claim-fine d S w n k id p r (sym s.is ∙ at) some most got.0)) places log wrote (claim-calm n c) k
+    writes o ok w s.low a a' is (subst (λ m. IsAllowed d S w (claim_act n m)) (sym answers) (claim-fine d S w n k id p r (sym s.is ∙ at) some most got.0))
+    places log wrote (claim-calm n c) k
     (s.slot ∙ ap slot_of s.is ∙ claim-site n c (S.places w)) (set o.slots.items k y) o.owing.items (
-      subst (λ z. HasSlots d (set o.slots.items k z) (upd S.slots k (slot_after d w a x))) (ap shown after ∙ got.1) (slots-set d o.slots.items S.slots k (slot_after d w a x) ok.slots_are s.in_slots),
+      subst (λ z. HasSlots d (set o.slots.items k z) (upd S.slots k (slot_after d w a x))) (ap shown after ∙ got.1)
+          (slots-set d o.slots.items S.slots k (slot_after d w a x) ok.slots_are s.in_slots),
       debts-kept d o.owing.items S.slots k (slot_after d w a x) ok.debts_are (λ v h. ap (λ z. owes z v) after ∙ owes-claimed x n v),
     )
 
@@ -195,7 +221,8 @@ claim-holds : (d : Shape) (w n : ℕ) (p q : Place) (r : Option (ℕ × ℕ)) �
 claim-holds d w n p q None g = record { worker = refl; place = g }
 claim-holds d w n p q (Some r) g = tt
 
-pub claim-gives : (d : Shape) (w n : ℕ) (p q : Place) (r : Option (ℕ × ℕ)) (c : Claim) → c ≡ claim_of w p r → q ≡ moved d (claim_act n c) p → ClaimGives d w q c
+pub claim-gives : (d : Shape) (w n : ℕ) (p q : Place) (r : Option (ℕ × ℕ)) (c : Claim) → c ≡ claim_of w p r → q ≡ moved d (claim_act n c) p
+    → ClaimGives d w q c
 claim-gives d w n p q r c is goes = subst (λ m. q ≡ moved d (claim_act n m) p → ClaimGives d w q m) (sym is) (claim-holds d w n p q r) goes
 
 -- ---- shut
@@ -208,7 +235,8 @@ shut-site : (r : Shutting) (p : Place) → slot_of p ≡ site (shut_act r) p
 shut-site (shut.Won y) p = refl
 shut-site shut.Lost p = refl
 
-shut-fine : (d : Shape) (S : ObjectState) (w s id : ℕ) (p : Place) (x : SlotState) → S.places w ≡ Used s id → S.slots s ≡ x → (is_open x ≡ true) ⊎ (is_shut x ≡ true) → IsAllowed d S w (shut_act (shut_of w p d (is_open x)))
+shut-fine : (d : Shape) (S : ObjectState) (w s id : ℕ) (p : Place) (x : SlotState) → S.places w ≡ Used s id → S.slots s ≡ x
+    → (is_open x ≡ true) ⊎ (is_shut x ≡ true) → IsAllowed d S w (shut_act (shut_of w p d (is_open x)))
 shut-fine d S w s id p x at is k = open-shut-cases x (λ y. S.slots s ≡ y → IsAllowed d S w (shut_act (shut_of w p d (is_open y))))
     (λ t is. (s, id, at, rw is refl)) (λ t e is. (s, id, at, rw is refl)) k is
 
@@ -219,17 +247,21 @@ shut-slot d w p (Open t) = refl
 shut-slot d w p (Shut t e) = refl
 shut-slot d w p (Finishing jd u h) = refl
 
-pub shut-after : (o : Inside) (ok : Kept o) (w : ℕ) (p : Place) (k id : ℕ) → Spot o w p k → p ≡ Used k id → (b : Bool) (y : Slot) → (b ≡ is_open ((now_of o).slots k)) × (shown (shut_by w ((now_of o).slots k)) ≡ y)
+pub shut-after : (o : Inside) (ok : Kept o) (w : ℕ) (p : Place) (k id : ℕ) → Spot o w p k → p ≡ Used k id → (b : Bool) (y : Slot)
+    → (b ≡ is_open ((now_of o).slots k)) × (shown (shut_by w ((now_of o).slots k)) ≡ y)
     → (r : Shutting) → r ≡ shut_of w p o.shape b → (a' : Act) → a' ≡ shut_act r → (places : List Place) (log : List Logged) → Wrote o w a' places log
     → IsObject o.shape (set o.slots.items k y) o.owing.items places o.returns.items o.changes.items o.admitted o.finished log
 shut-after o ok w p k id s at b y got r answers a' is places log wrote =
     let d = o.shape in let S = now_of o in let x = S.slots k in
-    let was = inside-slots d S (tabled o ok) k w id s.low (subst (λ q. has_own_cell q k ≡ true) (sym at ∙ s.is) (eq-eqb k k refl)) (subst (λ q. is_inside q id ≡ true) (sym at ∙ s.is) (eq-eqb id id refl)) in
+    let was = inside-slots d S (tabled o ok) k w id s.low (subst (λ q. has_own_cell q k ≡ true) (sym at ∙ s.is) (eq-eqb k k refl))
+    (subst (λ q. is_inside q id ≡ true) (sym at ∙ s.is) (eq-eqb id id refl)) in
     let a : Act = shut_act (shut_of w p d (is_open x)) in
     let after : slot_after d w a x ≡ shut_by w x = shut-slot d w p x in
-    writes o ok w s.low a a' (is ∙ ap shut_act (answers ∙ ap (shut_of w p d) got.0)) (shut-fine d S w k id p x (sym s.is ∙ at) refl was.0) places log wrote (shut-calm (shut_of w p d (is_open x))) k
+    writes o ok w s.low a a' (is ∙ ap shut_act (answers ∙ ap (shut_of w p d) got.0)) (shut-fine d S w k id p x (sym s.is ∙ at) refl was.0) places log wrote
+    (shut-calm (shut_of w p d (is_open x))) k
     (s.slot ∙ ap slot_of s.is ∙ shut-site (shut_of w p d (is_open x)) (S.places w)) (set o.slots.items k y) o.owing.items (
-      subst (λ z. HasSlots d (set o.slots.items k z) (upd S.slots k (slot_after d w a x))) (ap shown after ∙ got.1) (slots-set d o.slots.items S.slots k (slot_after d w a x) ok.slots_are s.in_slots),
+      subst (λ z. HasSlots d (set o.slots.items k z) (upd S.slots k (slot_after d w a x))) (ap shown after ∙ got.1)
+          (slots-set d o.slots.items S.slots k (slot_after d w a x) ok.slots_are s.in_slots),
       debts-kept d o.owing.items S.slots k (slot_after d w a x) ok.debts_are (λ v h. ap (λ z. owes z v) after ∙ owes-shut w x v),
     )
 
@@ -241,10 +273,12 @@ pub shut-gives : (d : Shape) (w : ℕ) (p q : Place) (b : Bool) (r : Shutting) �
 shut-gives d w p q b r is goes = subst (λ m. q ≡ moved d (shut_act m) p → ShutGives d w q m) (sym is) (shut-holds d w p q b) goes
 
 -- the slot of a worker that is inside may be claimed from
-pub inside-spot : (o : Inside) (ok : Kept o) (w : ℕ) (p : Place) (k : ℕ) → Spot o w p k → ((s id : ℕ) × (p ≡ At s id)) → has_work (shown ((now_of o).slots k)) ≡ true
+pub inside-spot : (o : Inside) (ok : Kept o) (w : ℕ) (p : Place) (k : ℕ) → Spot o w p k → ((s id : ℕ) × (p ≡ At s id))
+    → has_work (shown ((now_of o).slots k)) ≡ true
 inside-spot o ok w p k s at =
     let e : p ≡ At k at.1 = at.2 ∙ ap (λ j. At j at.1) (sym (s.slot ∙ ap slot_of at.2)) in
-    inside-work o ok w p k at.1 s (subst (λ q. has_own_cell q k ≡ true) (sym e) (eq-eqb k k refl)) (subst (λ q. is_inside q at.1 ≡ true) (sym e) (eq-eqb at.1 at.1 refl))
+    inside-work o ok w p k at.1 s (subst (λ q. has_own_cell q k ≡ true) (sym e) (eq-eqb k k refl))
+    (subst (λ q. is_inside q at.1 ≡ true) (sym e) (eq-eqb at.1 at.1 refl))
 
 -- ---- what a holder notes
 
@@ -255,20 +289,26 @@ held-shown a (Open t) = refl
 held-shown a (Shut t e) = refl
 held-shown a (Finishing id u h) = refl
 
-pub total-after : (o : Inside) (ok : Kept o) (w : ℕ) → w < o.shape.workers → (t : ℕ) → ((s : ℕ) × (h : Held) × ((now_of o).places w ≡ Holding s h) × IsSome h.query) → t ≤ MOST_TOTAL → (places : List Place) (log : List Logged) → Wrote o w (Total t) places log
+pub total-after : (o : Inside) (ok : Kept o) (w : ℕ) → w < o.shape.workers → (t : ℕ)
+    → ((s : ℕ) × (h : Held) × ((now_of o).places w ≡ Holding s h) × IsSome h.query) → t ≤ MOST_TOTAL → (places : List Place) (log : List Logged)
+    → Wrote o w (Total t) places log
     → IsObject o.shape o.slots.items o.owing.items places o.returns.items o.changes.items o.admitted o.finished log
 total-after o ok w low t at most places log wrote =
     let S = now_of o in let k = slot_of (S.places w) in
-    writes o ok w low (Total t) (Total t) refl (at.0, at.1, at.2, at.3, most) places log wrote (λ v p f. refl, λ v p f. refl, λ n. refl, λ n. refl) k refl o.slots.items o.owing.items (
+    writes o ok w low (Total t) (Total t) refl (at.0, at.1, at.2, at.3, most) places log wrote
+    (λ v p f. refl, λ v p f. refl, λ n. refl, λ n. refl) k refl o.slots.items o.owing.items (
       slots-kept o.shape o.slots.items S.slots k (held_on (Total t) (S.slots k)) ok.slots_are (held-shown (Total t) (S.slots k)),
       debts-kept o.shape o.owing.items S.slots k (held_on (Total t) (S.slots k)) ok.debts_are (λ v h. owes-held (Total t) (S.slots k) v),
     )
 
-pub note-after : (o : Inside) (ok : Kept o) (w : ℕ) → w < o.shape.workers → (n : ℕ) → ((s : ℕ) × (h : Held) × ((now_of o).places w ≡ Holding s h) × IsSome h.query × (h.noted ≡ 0) × (h.stage + n ≤ STAGES)) → 0 < n → (places : List Place) (log : List Logged) → Wrote o w (NoteDone n) places log
+pub note-after : (o : Inside) (ok : Kept o) (w : ℕ) → w < o.shape.workers → (n : ℕ)
+    → ((s : ℕ) × (h : Held) × ((now_of o).places w ≡ Holding s h) × IsSome h.query × (h.noted ≡ 0) × (h.stage + n ≤ STAGES)) → 0 < n
+    → (places : List Place) (log : List Logged) → Wrote o w (NoteDone n) places log
     → IsObject o.shape o.slots.items o.owing.items places o.returns.items o.changes.items o.admitted (o.finished + n) log
 note-after o ok w low n at some places log wrote =
     let S = now_of o in let k = slot_of (S.places w) in
-    follow o ok w low (NoteDone n) (NoteDone n) refl (at.0, at.1, at.2, at.3, at.4, some, at.5) places log wrote o.slots.items o.owing.items o.returns.items o.changes.items o.admitted (o.finished + n) (
+    follow o ok w low (NoteDone n) (NoteDone n) refl (at.0, at.1, at.2, at.3, at.4, some, at.5) places log wrote o.slots.items o.owing.items o.returns.items
+    o.changes.items o.admitted (o.finished + n) (
       slots-kept o.shape o.slots.items S.slots k (held_on (NoteDone n) (S.slots k)) ok.slots_are (held-shown (NoteDone n) (S.slots k)),
       debts-kept o.shape o.owing.items S.slots k (held_on (NoteDone n) (S.slots k)) ok.debts_are (λ v h. owes-held (NoteDone n) (S.slots k) v),
       ok.returns_are,
@@ -277,13 +317,16 @@ note-after o ok w low n at some places log wrote =
       ap (λ j. j + n) ok.finished_is,
     )
 
-admit-cases : (o : Inside) (ok : Kept o) (w : ℕ) → w < o.shape.workers → (q : ℕ) → ((s : ℕ) × (h : Held) × ((now_of o).places w ≡ Holding s h) × (h.query ≡ None)) → q < o.shape.queries → (b : Bool) → eqb o.admitted q ≡ b
-    → (r : Admit) → r ≡ cond b admit.Got (admit.Lost o.admitted) → (n : ℕ) → n ≡ cond b (o.admitted + 1) o.admitted → (a' : Act) → a' ≡ admit_act q r → (places : List Place) (log : List Logged) → Wrote o w a' places log
+admit-cases : (o : Inside) (ok : Kept o) (w : ℕ) → w < o.shape.workers → (q : ℕ)
+    → ((s : ℕ) × (h : Held) × ((now_of o).places w ≡ Holding s h) × (h.query ≡ None)) → q < o.shape.queries → (b : Bool) → eqb o.admitted q ≡ b
+    → (r : Admit) → r ≡ cond b admit.Got (admit.Lost o.admitted) → (n : ℕ) → n ≡ cond b (o.admitted + 1) o.admitted → (a' : Act) → a' ≡ admit_act q r
+    → (places : List Place) (log : List Logged) → Wrote o w a' places log
     → IsObject o.shape o.slots.items o.owing.items places o.returns.items o.changes.items n o.finished log
 admit-cases o ok w low q at few true same r answers n counts a' is places log wrote =
     let S = now_of o in let k = slot_of (S.places w) in
     let e : S.admitted ≡ q = sym ok.admitted_is ∙ eqb-true o.admitted q same in
-    follow o ok w low (AdmitGot q) a' (is ∙ ap (admit_act q) answers) (at.0, at.1, at.2, at.3, few, e) places log wrote o.slots.items o.owing.items o.returns.items o.changes.items n o.finished (
+    follow o ok w low (AdmitGot q) a' (is ∙ ap (admit_act q) answers)
+    (at.0, at.1, at.2, at.3, few, e) places log wrote o.slots.items o.owing.items o.returns.items o.changes.items n o.finished (
       slots-kept o.shape o.slots.items S.slots k (held_on (AdmitGot q) (S.slots k)) ok.slots_are (held-shown (AdmitGot q) (S.slots k)),
       debts-kept o.shape o.owing.items S.slots k (held_on (AdmitGot q) (S.slots k)) ok.debts_are (λ v h. owes-held (AdmitGot q) (S.slots k) v),
       ok.returns_are,
@@ -294,9 +337,13 @@ admit-cases o ok w low q at few true same r answers n counts a' is places log wr
 admit-cases o ok w low q at few false other r answers n counts a' is places log wrote =
     let ne : o.admitted ≢ q = λ e. true≢false (sym (eq-eqb o.admitted q e) ∙ other) in
     subst (λ j. IsObject o.shape o.slots.items o.owing.items places o.returns.items o.changes.items j o.finished log) (sym counts)
-    (quiet o ok w low (AdmitLost q o.admitted) a' (is ∙ ap (admit_act q) answers) (at.0, at.1, at.2, at.3, few, ok.admitted_is, ne) places log wrote (λ d v x. refl) (λ v p f. refl, λ v p f. refl, λ n. refl, λ n. refl))
+    (quiet o ok w low (AdmitLost q o.admitted) a' (is ∙ ap (admit_act q) answers) (at.0, at.1, at.2, at.3, few, ok.admitted_is, ne) places log wrote
+    (λ d v x. refl) (λ v p f. refl, λ v p f. refl, λ n. refl, λ n. refl))
 
-pub admit-after : (o : Inside) (ok : Kept o) (w : ℕ) → w < o.shape.workers → (q : ℕ) → ((s : ℕ) × (h : Held) × ((now_of o).places w ≡ Holding s h) × (h.query ≡ None)) → q < o.shape.queries
-    → (r : Admit) → r ≡ admit_of q o.admitted → (n : ℕ) → n ≡ cond (eqb o.admitted q) (o.admitted + 1) o.admitted → (a' : Act) → a' ≡ admit_act q r → (places : List Place) (log : List Logged) → Wrote o w a' places log
+pub admit-after : (o : Inside) (ok : Kept o) (w : ℕ) → w < o.shape.workers → (q : ℕ)
+    → ((s : ℕ) × (h : Held) × ((now_of o).places w ≡ Holding s h) × (h.query ≡ None)) → q < o.shape.queries
+    → (r : Admit) → r ≡ admit_of q o.admitted → (n : ℕ) → n ≡ cond (eqb o.admitted q) (o.admitted + 1) o.admitted → (a' : Act) → a' ≡ admit_act q r
+    → (places : List Place) (log : List Logged) → Wrote o w a' places log
     → IsObject o.shape o.slots.items o.owing.items places o.returns.items o.changes.items n o.finished log
-admit-after o ok w low q at few r answers n counts a' is places log wrote = admit-cases o ok w low q at few (eqb o.admitted q) refl r answers n counts a' is places log wrote
+admit-after o ok w low q at few r answers n counts a' is places log wrote = admit-cases o ok w low q at few
+    (eqb o.admitted q) refl r answers n counts a' is places log wrote

@@ -39,8 +39,10 @@ use Rattle.plain_slots.proofs.Objects.{slots-set, slots-kept, debts-kept, debts-
 use Rattle.plain_slots.proofs.Following.{Kept, Wrote, Spot, now_of, tabled, writes}
 
 -- the debts that are counted in a row are those of the slot
-pub row-count : (d : Shape) (owing : List Bool) (f : ℕ → SlotState) (k : ℕ) → HasDebts d owing f → k < d.slots → count_of d.workers (λ v. slice_index_or owing (k * d.workers + v) false) ≡ debts d (f k)
-row-count d owing f k has in_k = count-same d.workers (λ v. slice_index_or owing (k * d.workers + v) false) (owes (f k)) (λ v in_v. get_or_from_slice_get owing (k * d.workers + v) (owes (f k) v) false (has.are k v in_k in_v))
+pub row-count : (d : Shape) (owing : List Bool) (f : ℕ → SlotState) (k : ℕ) → HasDebts d owing f → k < d.slots
+    → count_of d.workers (λ v. slice_index_or owing (k * d.workers + v) false) ≡ debts d (f k)
+row-count d owing f k has in_k = count-same d.workers (λ v. slice_index_or owing (k * d.workers + v) false) (owes (f k))
+    (λ v in_v. get_or_from_slice_get owing (k * d.workers + v) (owes (f k) v) false (has.are k v in_k in_v))
 
 -- the slot whose end a worker coordinates
 leader : (o : Inside) (ok : Kept o) (w : ℕ) (p : Place) (k id n m : ℕ) → Spot o w p k → p ≡ Asking k id n m
@@ -53,27 +55,42 @@ leader o ok w p k id n m s at =
 
 -- ---- sweep
 
-sweep-cases : (o : Inside) (ok : Kept o) (w : ℕ) (p : Place) (k id n m : ℕ) → Spot o w p k → p ≡ Asking k id n m → n + 1 ≡ o.shape.workers → (t : TaskSet) (e : Ending) → (now_of o).slots k ≡ Shut t e → (c : ℕ) → c ≡ debts o.shape ((now_of o).slots k)
-    → (b : Bool) → eqb c 0 ≡ b → (y : Slot) → y ≡ cond b (shown (finalised_by w (Shut t e))) (shown (ended o.shape w (SweepOthers c) (Shut t e))) → (r : Sweep) → r ≡ cond b (sweep.Last (finaliser_of w p)) (sweep.Others c) → (a' : Act) → a' ≡ sweep_act r
-    → (places : List Place) (log : List Logged) → Wrote o w a' places log → IsObject o.shape (set o.slots.items k y) o.owing.items places o.returns.items o.changes.items o.admitted o.finished log
+sweep-cases : (o : Inside) (ok : Kept o) (w : ℕ) (p : Place) (k id n m : ℕ) → Spot o w p k → p ≡ Asking k id n m → n + 1 ≡ o.shape.workers
+    → (t : TaskSet) (e : Ending) → (now_of o).slots k ≡ Shut t e → (c : ℕ) → c ≡ debts o.shape ((now_of o).slots k)
+    → (b : Bool) → eqb c 0 ≡ b → (y : Slot) → y ≡ cond b (shown (finalised_by w (Shut t e))) (shown (ended o.shape w (SweepOthers c) (Shut t e)))
+    → (r : Sweep) → r ≡ cond b (sweep.Last (finaliser_of w p)) (sweep.Others c) → (a' : Act) → a' ≡ sweep_act r
+    → (places : List Place) (log : List Logged) → Wrote o w a' places log
+    → IsObject o.shape (set o.slots.items k y) o.owing.items places o.returns.items o.changes.items o.admitted o.finished log
 sweep-cases o ok w p k id n m s at all t e is c counts true zero_ y holds r answers a' act places log wrote =
     let d = o.shape in let S = now_of o in
     let none : debts d (S.slots k) ≡ 0 = sym counts ∙ eqb-true c 0 zero_ in
-    writes o ok w s.low SweepLast a' (act ∙ ap sweep_act answers) (k, id, n, m, sym s.is ∙ at, all, none) places log wrote (λ v q f. refl, λ v q f. refl, λ j. refl, λ j. refl) k (s.slot ∙ ap slot_of s.is) (set o.slots.items k y) o.owing.items (
-      subst (λ z. HasSlots d (set o.slots.items k z) (upd S.slots k (slot_after d w SweepLast (S.slots k)))) (ap (λ x. shown (finalised_by w x)) is ∙ sym holds) (slots-set d o.slots.items S.slots k (slot_after d w SweepLast (S.slots k)) ok.slots_are s.in_slots),
-      debts-kept d o.owing.items S.slots k (slot_after d w SweepLast (S.slots k)) ok.debts_are (λ v h. ap (λ x. owes (finalised_by w x) v) is ∙ sym (none-counted d.workers (owes (S.slots k)) none v h)),
+    writes o ok w s.low SweepLast a' (act ∙ ap sweep_act answers) (k, id, n, m, sym s.is ∙ at, all, none) places log wrote
+    (λ v q f. refl, λ v q f. refl, λ j. refl, λ j. refl) k (s.slot ∙ ap slot_of s.is) (set o.slots.items k y) o.owing.items (
+      subst (λ z. HasSlots d (set o.slots.items k z) (upd S.slots k (slot_after d w SweepLast (S.slots k))))
+          (ap (λ x. shown (finalised_by w x)) is ∙ sym holds)
+          (slots-set d o.slots.items S.slots k (slot_after d w SweepLast (S.slots k)) ok.slots_are s.in_slots),
+      debts-kept d o.owing.items S.slots k (slot_after d w SweepLast (S.slots k)) ok.debts_are
+          (λ v h. ap (λ x. owes (finalised_by w x) v) is ∙ sym (none-counted d.workers (owes (S.slots k)) none v h)),
     )
 sweep-cases o ok w p k id n m s at all t e is c counts false some_ y holds r answers a' act places log wrote =
     let d = o.shape in let S = now_of o in
     let some : 0 < c = pos_of_ne-zero (eqb-false c 0 some_) in
-    writes o ok w s.low (SweepOthers c) a' (act ∙ ap sweep_act answers) (k, id, n, m, sym s.is ∙ at, all, some, counts) places log wrote (λ v q f. refl, λ v q f. refl, λ j. refl, λ j. refl) k (s.slot ∙ ap slot_of s.is) (set o.slots.items k y) o.owing.items (
-      subst (λ z. HasSlots d (set o.slots.items k z) (upd S.slots k (slot_after d w (SweepOthers c) (S.slots k)))) (ap (λ x. shown (ended d w (SweepOthers c) x)) is ∙ sym holds) (slots-set d o.slots.items S.slots k (slot_after d w (SweepOthers c) (S.slots k)) ok.slots_are s.in_slots),
-      debts-kept d o.owing.items S.slots k (slot_after d w (SweepOthers c) (S.slots k)) ok.debts_are (λ v h. ap (λ x. owes (ended d w (SweepOthers c) x) v) is ∙ ap (λ x. owes x v) (sym is)),
+    writes o ok w s.low (SweepOthers c) a' (act ∙ ap sweep_act answers) (k, id, n, m, sym s.is ∙ at, all, some, counts) places log wrote
+    (λ v q f. refl, λ v q f. refl, λ j. refl, λ j. refl) k (s.slot ∙ ap slot_of s.is) (set o.slots.items k y) o.owing.items (
+      subst (λ z. HasSlots d (set o.slots.items k z) (upd S.slots k (slot_after d w (SweepOthers c) (S.slots k))))
+          (ap (λ x. shown (ended d w (SweepOthers c) x)) is ∙ sym holds)
+          (slots-set d o.slots.items S.slots k (slot_after d w (SweepOthers c) (S.slots k)) ok.slots_are s.in_slots),
+      debts-kept d o.owing.items S.slots k (slot_after d w (SweepOthers c) (S.slots k)) ok.debts_are
+          (λ v h. ap (λ x. owes (ended d w (SweepOthers c) x) v) is ∙ ap (λ x. owes x v) (sym is)),
     )
 
-pub sweep-after : (o : Inside) (ok : Kept o) (w : ℕ) (p : Place) (k id n m : ℕ) → Spot o w p k → p ≡ Asking k id n m → n + 1 ≡ o.shape.workers → (c : ℕ) → c ≡ count_of o.shape.workers (λ v. slice_index_or o.owing.items (k * o.shape.workers + v) false)
-    → (y : Slot) → ((x : SlotState) (d : Shape) → shown x ≡ shown ((now_of o).slots k) → is_shut x ≡ true → y ≡ cond (eqb c 0) (shown (finalised_by w x)) (shown (ended d w (SweepOthers c) x))) → (r : Sweep) → r ≡ sweep_of w p c → (a' : Act) → a' ≡ sweep_act r
-    → (places : List Place) (log : List Logged) → Wrote o w a' places log → IsObject o.shape (set o.slots.items k y) o.owing.items places o.returns.items o.changes.items o.admitted o.finished log
+pub sweep-after : (o : Inside) (ok : Kept o) (w : ℕ) (p : Place) (k id n m : ℕ) → Spot o w p k → p ≡ Asking k id n m → n + 1 ≡ o.shape.workers → (c : ℕ)
+    → c ≡ count_of o.shape.workers (λ v. slice_index_or o.owing.items (k * o.shape.workers + v) false)
+    → (y : Slot) → ((x : SlotState) (d : Shape) → shown x ≡ shown ((now_of o).slots k) → is_shut x ≡ true
+    → y ≡ cond (eqb c 0) (shown (finalised_by w x)) (shown (ended d w (SweepOthers c) x))) → (r : Sweep) → r ≡ sweep_of w p c → (a' : Act)
+    → a' ≡ sweep_act r
+    → (places : List Place) (log : List Logged) → Wrote o w a' places log
+    → IsObject o.shape (set o.slots.items k y) o.owing.items places o.returns.items o.changes.items o.admitted o.finished log
 sweep-after o ok w p k id n m s at all c counted y holds r answers a' act places log wrote =
     let (t, e, is, mine, asked) = leader o ok w p k id n m s at in
     sweep-cases o ok w p k id n m s at all t e is c (counted ∙ row-count o.shape o.owing.items (now_of o).slots k ok.debts_are s.in_slots) (eqb c 0) refl y
@@ -82,7 +99,8 @@ sweep-after o ok w p k id n m s at all c counted y holds r answers a' act places
 finaliser-holds : (w : ℕ) (p q : Place) → q ≡ Holding (slot_of p) (finalisation (id_at p)) → (d : Shape) → IsHolder d w q (finaliser_of w p)
 finaliser-holds w p q g d = record { worker = refl; noted = 0; total = None; place = g }
 
-sweep-holds : (d : Shape) (w : ℕ) (p q : Place) (c : ℕ) (b : Bool) → q ≡ moved d (sweep_act (cond b (sweep.Last (finaliser_of w p)) (sweep.Others c))) p → SweepGives d w q (cond b (sweep.Last (finaliser_of w p)) (sweep.Others c))
+sweep-holds : (d : Shape) (w : ℕ) (p q : Place) (c : ℕ) (b : Bool) → q ≡ moved d (sweep_act (cond b (sweep.Last (finaliser_of w p)) (sweep.Others c))) p
+    → SweepGives d w q (cond b (sweep.Last (finaliser_of w p)) (sweep.Others c))
 sweep-holds d w p q c true g = finaliser-holds w p q g d
 sweep-holds d w p q c false g = tt
 
@@ -91,38 +109,62 @@ sweep-gives d w p q c r is goes = subst (λ m. q ≡ moved d (sweep_act m) p →
 
 -- ---- pay
 
-pay-cases : (o : Inside) (ok : Kept o) (w : ℕ) (p : Place) (k id : ℕ) → Spot o w p k → p ≡ Owing k id → (t : TaskSet) (e : Ending) → (now_of o).slots k ≡ Shut t e → (c : ℕ) → c ≡ debts o.shape (ended o.shape w PayDone (Shut t e))
-    → (owing : List Bool) → owing ≡ set o.owing.items (k * o.shape.workers + w) false → (b : Bool) → (is_swept (Shut t e) && eqb c 0) ≡ b → (y : Slot) → y ≡ cond b (shown (finalised_by w (Shut t e))) (shown (Shut t e)) → (r : Pay) → r ≡ pay_of w p b → (a' : Act) → a' ≡ pay_act r
-    → (places : List Place) (log : List Logged) → Wrote o w a' places log → IsObject o.shape (set o.slots.items k y) owing places o.returns.items o.changes.items o.admitted o.finished log
+pay-cases : (o : Inside) (ok : Kept o) (w : ℕ) (p : Place) (k id : ℕ) → Spot o w p k → p ≡ Owing k id → (t : TaskSet) (e : Ending)
+    → (now_of o).slots k ≡ Shut t e → (c : ℕ) → c ≡ debts o.shape (ended o.shape w PayDone (Shut t e))
+    → (owing : List Bool) → owing ≡ set o.owing.items (k * o.shape.workers + w) false → (b : Bool) → (is_swept (Shut t e) && eqb c 0) ≡ b → (y : Slot)
+    → y ≡ cond b (shown (finalised_by w (Shut t e))) (shown (Shut t e)) → (r : Pay) → r ≡ pay_of w p b → (a' : Act) → a' ≡ pay_act r
+    → (places : List Place) (log : List Logged) → Wrote o w a' places log
+    → IsObject o.shape (set o.slots.items k y) owing places o.returns.items o.changes.items o.admitted o.finished log
 pay-cases o ok w p k id s at t e is c counts owing sets true last y holds r answers a' act places log wrote =
     let d = o.shape in let S = now_of o in
-    let none : debts d (ended d w PayDone (S.slots k)) ≡ 0 = ap (λ x. debts d (ended d w PayDone x)) is ∙ sym counts ∙ eqb-true c 0 (and_parts (is_swept (Shut t e)) (eqb c 0) last).1 in
+    let none : debts d (ended d w PayDone (S.slots k)) ≡ 0 = ap (λ x. debts d (ended d w PayDone x)) is ∙ sym counts ∙ eqb-true c 0
+    (and_parts (is_swept (Shut t e)) (eqb c 0) last).1 in
     let swept : is_swept (S.slots k) ≡ true = ap is_swept is ∙ (and_parts (is_swept (Shut t e)) (eqb c 0) last).0 in
     let clear : (v : ℕ) → v < d.workers → v ≢ w → owes (slot_after d w PayLast (S.slots k)) v ≡ owes (S.slots k) v =
-    λ v h ne. ap (λ x. owes (finalised_by w x) v) is ∙ sym (none-counted d.workers (owes (ended d w PayDone (S.slots k))) none v h) ∙ ap (λ x. owes (ended d w PayDone x) v) is ∙ owing-else d e v w ne ∙ ap (λ x. owes x v) (sym is) in
-    writes o ok w s.low PayLast a' (act ∙ ap pay_act answers) (k, id, sym s.is ∙ at, swept, none) places log wrote (λ v q f. refl, λ v q f. refl, λ j. refl, λ j. refl) k (s.slot ∙ ap slot_of s.is) (set o.slots.items k y) owing (
-      subst (λ z. HasSlots d (set o.slots.items k z) (upd S.slots k (slot_after d w PayLast (S.slots k)))) (ap (λ x. shown (finalised_by w x)) is ∙ sym holds) (slots-set d o.slots.items S.slots k (slot_after d w PayLast (S.slots k)) ok.slots_are s.in_slots),
-      subst (λ l. HasDebts d l (upd S.slots k (slot_after d w PayLast (S.slots k)))) (sym sets) (debts-set d o.owing.items S.slots k w (slot_after d w PayLast (S.slots k)) false ok.debts_are s.in_slots s.low (ap (λ x. owes (finalised_by w x) w) is) clear),
+    λ v h ne. ap (λ x. owes (finalised_by w x) v) is ∙ sym (none-counted d.workers (owes (ended d w PayDone (S.slots k))) none v h) ∙ ap
+    (λ x. owes (ended d w PayDone x) v) is ∙ owing-else d e v w ne ∙ ap (λ x. owes x v) (sym is) in
+    writes o ok w s.low PayLast a' (act ∙ ap pay_act answers) (k, id, sym s.is ∙ at, swept, none) places log wrote
+    (λ v q f. refl, λ v q f. refl, λ j. refl, λ j. refl) k (s.slot ∙ ap slot_of s.is) (set o.slots.items k y) owing (
+      subst (λ z. HasSlots d (set o.slots.items k z) (upd S.slots k (slot_after d w PayLast (S.slots k))))
+          (ap (λ x. shown (finalised_by w x)) is ∙ sym holds)
+          (slots-set d o.slots.items S.slots k (slot_after d w PayLast (S.slots k)) ok.slots_are s.in_slots),
+      subst (λ l. HasDebts d l (upd S.slots k (slot_after d w PayLast (S.slots k)))) (sym sets)
+          (debts-set d o.owing.items S.slots k w (slot_after d w PayLast (S.slots k)) false ok.debts_are s.in_slots s.low
+          (ap (λ x. owes (finalised_by w x) w) is) clear),
     )
 pay-cases o ok w p k id s at t e is c counts owing sets false more y holds r answers a' act places log wrote =
     let d = o.shape in let S = now_of o in
     let why : (is_swept (S.slots k) ≡ false) ⊎ (0 < debts d (ended d w PayDone (S.slots k))) =
-    ⊎_elim (λ u. inl (ap is_swept is ∙ u)) (λ u. inr (subst (λ j. 0 < j) (counts ∙ ap (λ x. debts d (ended d w PayDone x)) (sym is)) u)) (still-owed (is_swept (Shut t e)) c more) in
-    writes o ok w s.low PayDone a' (act ∙ ap pay_act answers) (k, id, sym s.is ∙ at, why) places log wrote (λ v q f. refl, λ v q f. refl, λ j. refl, λ j. refl) k (s.slot ∙ ap slot_of s.is) (set o.slots.items k y) owing (
-      subst (λ z. HasSlots d (set o.slots.items k z) (upd S.slots k (slot_after d w PayDone (S.slots k)))) (ap (λ x. shown (ended d w PayDone x)) is ∙ sym holds) (slots-set d o.slots.items S.slots k (slot_after d w PayDone (S.slots k)) ok.slots_are s.in_slots),
-      subst (λ l. HasDebts d l (upd S.slots k (slot_after d w PayDone (S.slots k)))) (sym sets) (debts-set d o.owing.items S.slots k w (slot_after d w PayDone (S.slots k)) false ok.debts_are s.in_slots s.low
-          (ap (λ x. owes (ended d w PayDone x) w) is ∙ paid-clear d e w) (λ v h ne. ap (λ x. owes (ended d w PayDone x) v) is ∙ owing-else d e v w ne ∙ ap (λ x. owes x v) (sym is))),
+    ⊎_elim (λ u. inl (ap is_swept is ∙ u)) (λ u. inr (subst (λ j. 0 < j) (counts ∙ ap (λ x. debts d (ended d w PayDone x)) (sym is)) u))
+    (still-owed (is_swept (Shut t e)) c more) in
+    writes o ok w s.low PayDone a' (act ∙ ap pay_act answers) (k, id, sym s.is ∙ at, why) places log wrote
+    (λ v q f. refl, λ v q f. refl, λ j. refl, λ j. refl) k (s.slot ∙ ap slot_of s.is) (set o.slots.items k y) owing (
+      subst (λ z. HasSlots d (set o.slots.items k z) (upd S.slots k (slot_after d w PayDone (S.slots k))))
+          (ap (λ x. shown (ended d w PayDone x)) is ∙ sym holds)
+          (slots-set d o.slots.items S.slots k (slot_after d w PayDone (S.slots k)) ok.slots_are s.in_slots),
+      subst (λ l. HasDebts d l (upd S.slots k (slot_after d w PayDone (S.slots k)))) (sym sets)
+          (debts-set d o.owing.items S.slots k w (slot_after d w PayDone (S.slots k)) false ok.debts_are s.in_slots s.low
+          (ap (λ x. owes (ended d w PayDone x) w) is ∙ paid-clear d e w)
+          (λ v h ne. ap (λ x. owes (ended d w PayDone x) v) is ∙ owing-else d e v w ne ∙ ap (λ x. owes x v) (sym is))),
     )
 
-pub pay-after : (o : Inside) (ok : Kept o) (w : ℕ) (p : Place) (k id : ℕ) → Spot o w p k → p ≡ Owing k id → (owing : List Bool) → owing ≡ set o.owing.items (k * o.shape.workers + w) false → (c : ℕ) → c ≡ count_of o.shape.workers (λ v. slice_index_or owing (k * o.shape.workers + v) false)
-    → (y : Slot) → ((x : SlotState) → shown x ≡ shown ((now_of o).slots k) → is_shut x ≡ true → y ≡ cond (is_swept x && eqb c 0) (shown (finalised_by w x)) (shown x)) → (r : Pay) → ((x : SlotState) → shown x ≡ shown ((now_of o).slots k) → r ≡ pay_of w p (is_swept x && eqb c 0)) → (a' : Act) → a' ≡ pay_act r
-    → (places : List Place) (log : List Logged) → Wrote o w a' places log → IsObject o.shape (set o.slots.items k y) owing places o.returns.items o.changes.items o.admitted o.finished log
+pub pay-after : (o : Inside) (ok : Kept o) (w : ℕ) (p : Place) (k id : ℕ) → Spot o w p k → p ≡ Owing k id → (owing : List Bool)
+    → owing ≡ set o.owing.items (k * o.shape.workers + w) false → (c : ℕ)
+    → c ≡ count_of o.shape.workers (λ v. slice_index_or owing (k * o.shape.workers + v) false)
+    → (y : Slot) → ((x : SlotState) → shown x ≡ shown ((now_of o).slots k) → is_shut x ≡ true
+    → y ≡ cond (is_swept x && eqb c 0) (shown (finalised_by w x)) (shown x)) → (r : Pay)
+    → ((x : SlotState) → shown x ≡ shown ((now_of o).slots k) → r ≡ pay_of w p (is_swept x && eqb c 0)) → (a' : Act) → a' ≡ pay_act r
+    → (places : List Place) (log : List Logged) → Wrote o w a' places log
+    → IsObject o.shape (set o.slots.items k y) owing places o.returns.items o.changes.items o.admitted o.finished log
 pay-after o ok w p k id s at owing sets c counted y holds r answers a' act places log wrote =
     let d = o.shape in let S = now_of o in
     let (t, e, is, named) = paying-slot d S (tabled o ok) w k id s.low (sym s.is ∙ at) in
     let x' : SlotState = ended d w PayDone (Shut t e) in
-    let row : HasDebts d owing (upd S.slots k x') = subst (λ l. HasDebts d l (upd S.slots k x')) (sym sets) (debts-set d o.owing.items S.slots k w x' false ok.debts_are s.in_slots s.low (paid-clear d e w) (λ v h ne. owing-else d e v w ne ∙ ap (λ x. owes x v) (sym is))) in
-    pay-cases o ok w p k id s at t e is c (counted ∙ row-count d owing (upd S.slots k x') k row s.in_slots ∙ ap (debts d) (upd-same S.slots k x')) owing sets (is_swept (Shut t e) && eqb c 0) refl y
+    let row : HasDebts d owing (upd S.slots k x') = subst (λ l. HasDebts d l (upd S.slots k x')) (sym sets)
+    (debts-set d o.owing.items S.slots k w x' false ok.debts_are s.in_slots s.low (paid-clear d e w)
+    (λ v h ne. owing-else d e v w ne ∙ ap (λ x. owes x v) (sym is))) in
+    pay-cases o ok w p k id s at t e is c (counted ∙ row-count d owing (upd S.slots k x') k row s.in_slots ∙ ap (debts d) (upd-same S.slots k x')) owing
+    sets (is_swept (Shut t e) && eqb c 0) refl y
     (holds (Shut t e) (ap shown (sym is)) refl) r (answers (Shut t e) (ap shown (sym is))) a' act places log wrote
 
 pay-holds : (d : Shape) (w : ℕ) (p q : Place) (b : Bool) → q ≡ moved d (pay_act (pay_of w p b)) p → PayGives d w q (pay_of w p b)
@@ -134,16 +176,23 @@ pay-gives d w p q b r is goes = subst (λ m. q ≡ moved d (pay_act m) p → Pay
 
 -- ---- mark_next
 
-mark-cases : (o : Inside) (ok : Kept o) (w : ℕ) (p : Place) (k id n m v : ℕ) → Spot o w p k → p ≡ Asking k id n m → n + 1 < o.shape.workers → (t : TaskSet) (e : Ending) → (now_of o).slots k ≡ Shut t e → v < o.shape.workers → v ≡ next_asked o.shape e → e.paid v ≡ false
-    → (b : Bool) → b ≡ is_at ((now_of o).places v) k → (owing : List Bool) → owing ≡ set o.owing.items (k * o.shape.workers + v) (b || owes (Shut t e) v) → (r : Mark) → r ≡ mark_of b → (a' : Act) → a' ≡ mark_act r
-    → (places : List Place) (log : List Logged) → Wrote o w a' places log → IsObject o.shape o.slots.items owing places o.returns.items o.changes.items o.admitted o.finished log
+mark-cases : (o : Inside) (ok : Kept o) (w : ℕ) (p : Place) (k id n m v : ℕ) → Spot o w p k → p ≡ Asking k id n m → n + 1 < o.shape.workers
+    → (t : TaskSet) (e : Ending) → (now_of o).slots k ≡ Shut t e → v < o.shape.workers → v ≡ next_asked o.shape e → e.paid v ≡ false
+    → (b : Bool) → b ≡ is_at ((now_of o).places v) k → (owing : List Bool) → owing ≡ set o.owing.items (k * o.shape.workers + v) (b || owes (Shut t e) v)
+    → (r : Mark) → r ≡ mark_of b → (a' : Act) → a' ≡ mark_act r
+    → (places : List Place) (log : List Logged) → Wrote o w a' places log
+    → IsObject o.shape o.slots.items owing places o.returns.items o.changes.items o.admitted o.finished log
 mark-cases o ok w p k id n m v s at more t e is in_v nxt unpaid true there owing sets r answers a' act places log wrote =
     let d = o.shape in let S = now_of o in
     let x' : SlotState = slot_after d w MarkMarked (S.slots k) in
     let meets : next_is_at d S k (S.slots k) ≡ true = ap (next_is_at d S k) is ∙ ap (λ u. is_at (S.places u) k) (sym nxt) ∙ sym there in
-    let now : owes x' v ≡ true = ap (λ x. owes (ended d w MarkMarked x) v) is ∙ ap (λ u. upd e.marked u true v && not (e.paid v)) (sym nxt) ∙ ap₂ (λ a b. a && not b) (upd-same e.marked v true) unpaid in
-    let others : (u : ℕ) → u < d.workers → u ≢ v → owes x' u ≡ owes (S.slots k) u = λ u h ne. ap (λ x. owes (ended d w MarkMarked x) u) is ∙ ap (λ j. upd e.marked j true u && not (e.paid u)) (sym nxt) ∙ ap (λ a. a && not (e.paid u)) (upd-else e.marked v true u ne) ∙ ap (λ x. owes x u) (sym is) in
-    writes o ok w s.low MarkMarked a' (act ∙ ap mark_act answers) (k, id, n, m, sym s.is ∙ at, more, meets) places log wrote (λ v q f. refl, λ v q f. refl, λ j. refl, λ j. refl) k (s.slot ∙ ap slot_of s.is) o.slots.items owing (
+    let now : owes x' v ≡ true = ap (λ x. owes (ended d w MarkMarked x) v) is ∙ ap (λ u. upd e.marked u true v && not (e.paid v)) (sym nxt) ∙ ap₂
+    (λ a b. a && not b) (upd-same e.marked v true) unpaid in
+    let others : (u : ℕ) → u < d.workers → u ≢ v → owes x' u ≡ owes (S.slots k) u = λ u h ne. ap (λ x. owes (ended d w MarkMarked x) u) is ∙ ap
+    (λ j. upd e.marked j true u && not (e.paid u)) (sym nxt) ∙ ap (λ a. a && not (e.paid u)) (upd-else e.marked v true u ne) ∙ ap (λ x. owes x u)
+    (sym is) in
+    writes o ok w s.low MarkMarked a' (act ∙ ap mark_act answers) (k, id, n, m, sym s.is ∙ at, more, meets) places log wrote
+    (λ v q f. refl, λ v q f. refl, λ j. refl, λ j. refl) k (s.slot ∙ ap slot_of s.is) o.slots.items owing (
       slots-kept d o.slots.items S.slots k x' ok.slots_are (ap (λ x. shown (ended d w MarkMarked x)) is ∙ ap shown (sym is)),
       subst (λ l. HasDebts d l (upd S.slots k x')) (sym sets) (debts-set d o.owing.items S.slots k v x' true ok.debts_are s.in_slots in_v now others),
     )
@@ -152,19 +201,24 @@ mark-cases o ok w p k id n m v s at more t e is in_v nxt unpaid false there owin
     let x' : SlotState = slot_after d w MarkMissed (S.slots k) in
     let meets : next_is_at d S k (S.slots k) ≡ false = ap (next_is_at d S k) is ∙ ap (λ u. is_at (S.places u) k) (sym nxt) ∙ sym there in
     let same : (u : ℕ) → owes x' u ≡ owes (S.slots k) u = λ u. ap (λ x. owes (ended d w MarkMissed x) u) is ∙ ap (λ x. owes x u) (sym is) in
-    writes o ok w s.low MarkMissed a' (act ∙ ap mark_act answers) (k, id, n, m, sym s.is ∙ at, more, meets) places log wrote (λ v q f. refl, λ v q f. refl, λ j. refl, λ j. refl) k (s.slot ∙ ap slot_of s.is) o.slots.items owing (
+    writes o ok w s.low MarkMissed a' (act ∙ ap mark_act answers) (k, id, n, m, sym s.is ∙ at, more, meets) places log wrote
+    (λ v q f. refl, λ v q f. refl, λ j. refl, λ j. refl) k (s.slot ∙ ap slot_of s.is) o.slots.items owing (
       slots-kept d o.slots.items S.slots k x' ok.slots_are (ap (λ x. shown (ended d w MarkMissed x)) is ∙ ap shown (sym is)),
-      subst (λ l. HasDebts d l (upd S.slots k x')) (sym sets) (debts-set d o.owing.items S.slots k v x' (owes (Shut t e) v) ok.debts_are s.in_slots in_v (same v ∙ ap (λ x. owes x v) is) (λ u h ne. same u)),
+      subst (λ l. HasDebts d l (upd S.slots k x')) (sym sets)
+          (debts-set d o.owing.items S.slots k v x' (owes (Shut t e) v) ok.debts_are s.in_slots in_v (same v ∙ ap (λ x. owes x v) is) (λ u h ne. same u)),
     )
 
 -- the worker that is asked next, by the place of its coordinator
-pub next-worker : (o : Inside) (ok : Kept o) (w : ℕ) (p : Place) (k id n m : ℕ) → Spot o w p k → p ≡ Asking k id n m → n + 1 < o.shape.workers → nth_other w n < o.shape.workers
+pub next-worker : (o : Inside) (ok : Kept o) (w : ℕ) (p : Place) (k id n m : ℕ) → Spot o w p k → p ≡ Asking k id n m → n + 1 < o.shape.workers
+    → nth_other w n < o.shape.workers
 next-worker o ok w p k id n m s at more = nth-other-within w n o.shape.workers s.low more
 
 pub mark-after : (o : Inside) (ok : Kept o) (w : ℕ) (p : Place) (k id n m : ℕ) → Spot o w p k → p ≡ Asking k id n m → n + 1 < o.shape.workers
-    → (b : Bool) → b ≡ is_at ((now_of o).places (nth_other w n)) k → (i : ℕ) → i ≡ k * o.shape.workers + nth_other w n → (was : Bool) → was ≡ owes ((now_of o).slots k) (nth_other w n)
+    → (b : Bool) → b ≡ is_at ((now_of o).places (nth_other w n)) k → (i : ℕ) → i ≡ k * o.shape.workers + nth_other w n → (was : Bool)
+    → was ≡ owes ((now_of o).slots k) (nth_other w n)
     → (r : Mark) → r ≡ mark_of b → (a' : Act) → a' ≡ mark_act r
-    → (places : List Place) (log : List Logged) → Wrote o w a' places log → IsObject o.shape o.slots.items (set o.owing.items i (b || was)) places o.returns.items o.changes.items o.admitted o.finished log
+    → (places : List Place) (log : List Logged) → Wrote o w a' places log
+    → IsObject o.shape o.slots.items (set o.owing.items i (b || was)) places o.returns.items o.changes.items o.admitted o.finished log
 mark-after o ok w p k id n m s at more b there i index was owed r answers a' act places log wrote =
     let (t, e, is, mine, asked) = leader o ok w p k id n m s at in
     let chain = subst (IsChainOf o.shape) is ((tabled o ok).chain k) in
@@ -173,47 +227,65 @@ mark-after o ok w p k id n m s at more b there i index was owed r answers a' act
     let unasked : e.asked v ≡ false = ap (λ u. e.asked (nth_other u n)) mine ∙ next-unasked o.shape e n m asked in
     let unpaid : e.paid v ≡ false = false_from_ne_true (e.paid v) (λ h. true≢false (sym (chain.marked v (chain.paid v h)) ∙ unasked)) in
     mark-cases o ok w p k id n m v s at more t e is (nth-other-within w n o.shape.workers s.low more) nxt unpaid b there _
-    (ap (λ j. set o.owing.items j (b || was)) index ∙ ap (λ a. set o.owing.items (k * o.shape.workers + v) (b || a)) (owed ∙ ap (λ x. owes x v) is)) r answers a' act places log wrote
+    (ap (λ j. set o.owing.items j (b || was)) index ∙ ap (λ a. set o.owing.items (k * o.shape.workers + v) (b || a)) (owed ∙ ap (λ x. owes x v) is)) r
+    answers a' act places log wrote
 
 -- ---- install and release
 
 open-shown : (id total : ℕ) → Slots.Open (record { id = id; total = total; next = 0 }) ≡ shown (Open (record { id = id; total = total; cursor = 0 }))
 open-shown id total = ap (λ n. Slots.Open (record { id = id; total = total; next = n })) (sym (min-zero total))
 
-install-with : (o : Inside) (ok : Kept o) (w : ℕ) (p : Place) (k id : ℕ) (h : Held) → Spot o w p k → p ≡ Holding k h → IsReady h → id ≡ next_id h → (x : SlotState) → (now_of o).slots k ≡ x → ((v : ℕ) → owes x v ≡ false) → opened id x ≡ Open (record { id = id; total = unwrap_or h.total 0; cursor = 0 })
-    → (places : List Place) (log : List Logged) → Wrote o w (Install id) places log → IsObject o.shape (set o.slots.items k (Slots.Open (record { id = id; total = unwrap_or h.total 0; next = 0 }))) o.owing.items places o.returns.items o.changes.items o.admitted o.finished log
+install-with : (o : Inside) (ok : Kept o) (w : ℕ) (p : Place) (k id : ℕ) (h : Held) → Spot o w p k → p ≡ Holding k h → IsReady h → id ≡ next_id h
+    → (x : SlotState) → (now_of o).slots k ≡ x → ((v : ℕ) → owes x v ≡ false)
+    → opened id x ≡ Open (record { id = id; total = unwrap_or h.total 0; cursor = 0 })
+    → (places : List Place) (log : List Logged) → Wrote o w (Install id) places log
+    → IsObject o.shape (set o.slots.items k (Slots.Open (record { id = id; total = unwrap_or h.total 0; next = 0 }))) o.owing.items places
+    o.returns.items o.changes.items o.admitted o.finished log
 install-with o ok w p k id h s at ready named x is clear opens places log wrote =
     let d = o.shape in let S = now_of o in
     let after : slot_after d w (Install id) (S.slots k) ≡ Open (record { id = id; total = unwrap_or h.total 0; cursor = 0 }) = ap (opened id) is ∙ opens in
-    writes o ok w s.low (Install id) (Install id) refl (k, h, sym s.is ∙ at, ready, named) places log wrote (λ v q f. refl, λ v q f. refl, λ j. refl, λ j. refl) k (s.slot ∙ ap slot_of s.is) _ o.owing.items (
-      subst (λ z. HasSlots d (set o.slots.items k z) (upd S.slots k (slot_after d w (Install id) (S.slots k)))) (ap shown after ∙ sym (open-shown id (unwrap_or h.total 0))) (slots-set d o.slots.items S.slots k (slot_after d w (Install id) (S.slots k)) ok.slots_are s.in_slots),
-      debts-kept d o.owing.items S.slots k (slot_after d w (Install id) (S.slots k)) ok.debts_are (λ v u. ap (λ y. owes y v) after ∙ sym (clear v) ∙ ap (λ y. owes y v) (sym is)),
+    writes o ok w s.low (Install id) (Install id) refl (k, h, sym s.is ∙ at, ready, named) places log wrote
+    (λ v q f. refl, λ v q f. refl, λ j. refl, λ j. refl) k (s.slot ∙ ap slot_of s.is) _ o.owing.items (
+      subst (λ z. HasSlots d (set o.slots.items k z) (upd S.slots k (slot_after d w (Install id) (S.slots k))))
+          (ap shown after ∙ sym (open-shown id (unwrap_or h.total 0)))
+          (slots-set d o.slots.items S.slots k (slot_after d w (Install id) (S.slots k)) ok.slots_are s.in_slots),
+      debts-kept d o.owing.items S.slots k (slot_after d w (Install id) (S.slots k)) ok.debts_are
+          (λ v u. ap (λ y. owes y v) after ∙ sym (clear v) ∙ ap (λ y. owes y v) (sym is)),
     )
 
-pub install-after : (o : Inside) (ok : Kept o) (w : ℕ) (p : Place) (k id : ℕ) (h : Held) → Spot o w p k → p ≡ Holding k h → IsReady h → id ≡ next_id h → (places : List Place) (log : List Logged) → Wrote o w (Install id) places log
-    → IsObject o.shape (set o.slots.items k (Slots.Open (record { id = id; total = unwrap_or h.total 0; next = 0 }))) o.owing.items places o.returns.items o.changes.items o.admitted o.finished log
+pub install-after : (o : Inside) (ok : Kept o) (w : ℕ) (p : Place) (k id : ℕ) (h : Held) → Spot o w p k → p ≡ Holding k h → IsReady h → id ≡ next_id h
+    → (places : List Place) (log : List Logged) → Wrote o w (Install id) places log
+    → IsObject o.shape (set o.slots.items k (Slots.Open (record { id = id; total = unwrap_or h.total 0; next = 0 }))) o.owing.items places o.returns.items
+    o.changes.items o.admitted o.finished log
 install-after o ok w p k id h s at ready named places log wrote =
     ⊎_elim (λ is. install-with o ok w p k id h s at ready named (Reserved w h) is (λ v. refl) refl places log wrote)
-    (λ (jd, is). install-with o ok w p k id h s at ready named (Finishing jd w h) is (λ v. refl) refl places log wrote) (holder-slot o.shape (now_of o) (tabled o ok) w k h s.low (sym s.is ∙ at))
+    (λ (jd, is). install-with o ok w p k id h s at ready named (Finishing jd w h) is (λ v. refl) refl places log wrote)
+    (holder-slot o.shape (now_of o) (tabled o ok) w k h s.low (sym s.is ∙ at))
 
-release-with : (o : Inside) (ok : Kept o) (w : ℕ) (p : Place) (k : ℕ) (h : Held) → Spot o w p k → p ≡ Holding k h → ((h.query ≡ None) ⊎ (0 < h.noted)) → (x : SlotState) → (now_of o).slots k ≡ x → ((v : ℕ) → owes x v ≡ false)
-    → (places : List Place) (log : List Logged) → Wrote o w Release places log → IsObject o.shape (set o.slots.items k Slots.Empty) o.owing.items places o.returns.items o.changes.items o.admitted o.finished log
+release-with : (o : Inside) (ok : Kept o) (w : ℕ) (p : Place) (k : ℕ) (h : Held) → Spot o w p k → p ≡ Holding k h → ((h.query ≡ None) ⊎ (0 < h.noted))
+    → (x : SlotState) → (now_of o).slots k ≡ x → ((v : ℕ) → owes x v ≡ false)
+    → (places : List Place) (log : List Logged) → Wrote o w Release places log
+    → IsObject o.shape (set o.slots.items k Slots.Empty) o.owing.items places o.returns.items o.changes.items o.admitted o.finished log
 release-with o ok w p k h s at may x is clear places log wrote =
     let d = o.shape in let S = now_of o in
-    writes o ok w s.low Release Release refl (k, h, sym s.is ∙ at, may) places log wrote (λ v q f. refl, λ v q f. refl, λ j. refl, λ j. refl) k (s.slot ∙ ap slot_of s.is) _ o.owing.items (
+    writes o ok w s.low Release Release refl (k, h, sym s.is ∙ at, may) places log wrote (λ v q f. refl, λ v q f. refl, λ j. refl, λ j. refl) k
+    (s.slot ∙ ap slot_of s.is) _ o.owing.items (
       slots-set d o.slots.items S.slots k Empty ok.slots_are s.in_slots,
       debts-kept d o.owing.items S.slots k Empty ok.debts_are (λ v u. sym (clear v) ∙ ap (λ y. owes y v) (sym is)),
     )
 
-pub release-after : (o : Inside) (ok : Kept o) (w : ℕ) (p : Place) (k : ℕ) (h : Held) → Spot o w p k → p ≡ Holding k h → ((h.query ≡ None) ⊎ (0 < h.noted)) → (places : List Place) (log : List Logged) → Wrote o w Release places log
+pub release-after : (o : Inside) (ok : Kept o) (w : ℕ) (p : Place) (k : ℕ) (h : Held) → Spot o w p k → p ≡ Holding k h → ((h.query ≡ None) ⊎ (0 < h.noted))
+    → (places : List Place) (log : List Logged) → Wrote o w Release places log
     → IsObject o.shape (set o.slots.items k Slots.Empty) o.owing.items places o.returns.items o.changes.items o.admitted o.finished log
 release-after o ok w p k h s at may places log wrote =
     ⊎_elim (λ is. release-with o ok w p k h s at may (Reserved w h) is (λ v. refl) places log wrote)
-    (λ (jd, is). release-with o ok w p k h s at may (Finishing jd w h) is (λ v. refl) places log wrote) (holder-slot o.shape (now_of o) (tabled o ok) w k h s.low (sym s.is ∙ at))
+    (λ (jd, is). release-with o ok w p k h s at may (Finishing jd w h) is (λ v. refl) places log wrote)
+    (holder-slot o.shape (now_of o) (tabled o ok) w k h s.low (sym s.is ∙ at))
 
 -- a row of debts is within all of them
 pub row-within : (o : Inside) (ok : Kept o) (k : ℕ) → k < o.shape.slots → k * o.shape.workers + o.shape.workers ≤ length o.owing.items
 row-within o ok k in_k = let c = ok.debts_are.count in let r = row_fits k o.shape.workers o.shape.slots o.shape.workers in_k (omega arith) in omega arith
 
-pub row-within_set : (o : Inside) (ok : Kept o) (k i : ℕ) (b : Bool) → k < o.shape.slots → k * o.shape.workers + o.shape.workers ≤ length (set o.owing.items i b)
+pub row-within_set : (o : Inside) (ok : Kept o) (k i : ℕ) (b : Bool) → k < o.shape.slots
+    → k * o.shape.workers + o.shape.workers ≤ length (set o.owing.items i b)
 row-within_set o ok k i b in_k = rw (length-set o.owing.items i b) (row-within o ok k in_k)

@@ -48,11 +48,13 @@ now_of o = state_in o.shape o.log
 
 -- what a step writes into places and log
 abbrev pub Wrote : Inside → ℕ → Act → List Place → List Logged → Type 0
-Wrote o w a places log = ((p : Place) → slice_get o.places.items w ≡ Some p → places ≡ slice_set o.places.items w (moved o.shape a p)) × (log ≡ call w a ∷ o.log)
+Wrote o w a places log = ((p : Place) → slice_get o.places.items w ≡ Some p → places ≡ slice_set o.places.items w (moved o.shape a p))
+    × (log ≡ call w a ∷ o.log)
 
 -- a call that changes no notices and no numbers
 abbrev pub Calm : Act → Type 0
-Calm a = ((w : ℕ) (p : Place) (f : ℕ → ℕ → Bool) → changes_after w a p f ≡ f) × ((w : ℕ) (p : Place) (f : ℕ → ℕ → Bool) → returns_after w a p f ≡ f) × ((n : ℕ) → admitted_after a n ≡ n) × ((n : ℕ) → finished_after a n ≡ n)
+Calm a = ((w : ℕ) (p : Place) (f : ℕ → ℕ → Bool) → changes_after w a p f ≡ f) × ((w : ℕ) (p : Place) (f : ℕ → ℕ → Bool) → returns_after w a p f ≡ f)
+    × ((n : ℕ) → admitted_after a n ≡ n) × ((n : ℕ) → finished_after a n ≡ n)
 
 -- a call that changes no slot
 abbrev pub Still : Act → Type 0
@@ -79,7 +81,8 @@ module _ (o : Inside) (ok : Kept o) where
     -- after a call, where the rest that is kept is that of the next state
     pub follow : (a a' : Act) → a' ≡ a → IsAllowed o.shape (now_of o) w a → (places : List Place) (log : List Logged) → Wrote o w a' places log
         → (slots : List Slot) (owing : List Bool) (returns changes : List ℕ) (admitted finished : ℕ)
-        → (let S = next o.shape (now_of o) w a in HasSlots o.shape slots S.slots × HasDebts o.shape owing S.slots × HasMasks o.shape S.returns returns × HasMasks o.shape S.changes changes × (admitted ≡ S.admitted) × (finished ≡ S.finished))
+        → (let S = next o.shape (now_of o) w a in HasSlots o.shape slots S.slots × HasDebts o.shape owing S.slots × HasMasks o.shape S.returns returns
+        × HasMasks o.shape S.changes changes × (admitted ≡ S.admitted) × (finished ≡ S.finished))
         → IsObject o.shape slots owing places returns changes admitted finished log
     follow a a' is allowed places log wrote slots owing returns changes admitted finished new =
         let p = (now_of o).places w in
@@ -87,10 +90,12 @@ module _ (o : Inside) (ok : Kept o) where
         let f : log ≡ call w a ∷ o.log = wrote.1 ∙ ap (λ b. call w b ∷ o.log) is in
         subst (λ q. IsObject o.shape slots owing q returns changes admitted finished log) (sym e)
         (subst (λ l. IsObject o.shape slots owing (set o.places.items w (moved o.shape a p)) returns changes admitted finished l) (sym f)
-        (after-call o.shape o.slots.items slots o.owing.items owing o.places.items o.returns.items returns o.changes.items changes o.admitted admitted o.finished finished o.log w a ok low allowed new))
+        (after-call o.shape o.slots.items slots o.owing.items owing o.places.items o.returns.items returns o.changes.items changes o.admitted admitted
+        o.finished finished o.log w a ok low allowed new))
 
     -- notices and numbers after a call that changes none
-    resting : (a : Act) → Calm a → (let S = next o.shape (now_of o) w a in HasMasks o.shape S.returns o.returns.items × HasMasks o.shape S.changes o.changes.items × (o.admitted ≡ S.admitted) × (o.finished ≡ S.finished))
+    resting : (a : Act) → Calm a → (let S = next o.shape (now_of o) w a in
+        HasMasks o.shape S.returns o.returns.items × HasMasks o.shape S.changes o.changes.items × (o.admitted ≡ S.admitted) × (o.finished ≡ S.finished))
     resting a calm = let S = now_of o in let p = S.places w in (
       subst (λ f. HasMasks o.shape f o.returns.items) (sym (calm.1 w p S.returns)) ok.returns_are,
       subst (λ f. HasMasks o.shape f o.changes.items) (sym (calm.0 w p S.changes)) ok.changes_are,
@@ -99,7 +104,8 @@ module _ (o : Inside) (ok : Kept o) where
     )
 
     -- after a call that changes its worker's place alone
-    pub quiet : (a a' : Act) → a' ≡ a → IsAllowed o.shape (now_of o) w a → (places : List Place) (log : List Logged) → Wrote o w a' places log → Still a → Calm a
+    pub quiet : (a a' : Act) → a' ≡ a → IsAllowed o.shape (now_of o) w a → (places : List Place) (log : List Logged) → Wrote o w a' places log → Still a
+        → Calm a
         → IsObject o.shape o.slots.items o.owing.items places o.returns.items o.changes.items o.admitted o.finished log
     quiet a a' is allowed places log wrote still calm =
         let S = now_of o in
@@ -116,8 +122,11 @@ module _ (o : Inside) (ok : Kept o) where
         )
 
     -- after a call that changes no notices and no numbers, where the slot and the debts are those of the next state
-    pub writes : (a a' : Act) → a' ≡ a → IsAllowed o.shape (now_of o) w a → (places : List Place) (log : List Logged) → Wrote o w a' places log → Calm a → (k : ℕ) → k ≡ site a ((now_of o).places w)
-        → (slots : List Slot) (owing : List Bool) → (let S = now_of o in HasSlots o.shape slots (upd S.slots k (slot_after o.shape w a (S.slots k))) × HasDebts o.shape owing (upd S.slots k (slot_after o.shape w a (S.slots k))))
+    pub writes : (a a' : Act) → a' ≡ a → IsAllowed o.shape (now_of o) w a → (places : List Place) (log : List Logged) → Wrote o w a' places log → Calm a
+        → (k : ℕ) → k ≡ site a ((now_of o).places w)
+        → (slots : List Slot) (owing : List Bool) → (let S = now_of o in
+        HasSlots o.shape slots (upd S.slots k (slot_after o.shape w a (S.slots k))) × HasDebts o.shape owing
+        (upd S.slots k (slot_after o.shape w a (S.slots k))))
         → IsObject o.shape slots owing places o.returns.items o.changes.items o.admitted o.finished log
     writes a a' is allowed places log wrote calm k at slots owing new =
         let S = now_of o in
@@ -132,7 +141,8 @@ module _ (o : Inside) (ok : Kept o) where
         )
 
 -- what the call ensures of the object
-pub makes : (d : Shape) (log new : List Logged) (old : Story) (w : ℕ) (a a' : Act) → record { shape = d; log = log } ≡ old → a' ≡ a → new ≡ call w a' ∷ log → IsLegal d (calls_of new) → MakesCall old w a (record { shape = d; log = new })
+pub makes : (d : Shape) (log new : List Logged) (old : Story) (w : ℕ) (a a' : Act) → record { shape = d; log = log } ≡ old → a' ≡ a → new ≡ call w a' ∷ log
+    → IsLegal d (calls_of new) → MakesCall old w a (record { shape = d; log = new })
 makes d log new old w a a' view is wrote legal = record {
   story = ap (λ l. record { shape = d; log = l }) (wrote ∙ ap (λ b. call w b ∷ log) is) ∙ ap (λ (x : Story). record x { log = call w a ∷ x.log }) view;
   legal = legal;
@@ -148,11 +158,13 @@ pub record Spot (o : Inside) (w : ℕ) (p : Place) (k : ℕ) : Type 0 where
   pub in_slots : k < o.shape.slots
   pub index : k < o.slots.len
 
-pub spot : (o : Inside) (ok : Kept o) (old : Story) → record { shape = o.shape; log = o.log } ≡ old → (w : ℕ) → w < old.shape.workers → place_in old w ≢ Free → (p : Place) → p ≡ get_or o.places.items w p → (k : ℕ) → k ≡ slot_of p → Spot o w p k
+pub spot : (o : Inside) (ok : Kept o) (old : Story) → record { shape = o.shape; log = o.log } ≡ old → (w : ℕ) → w < old.shape.workers
+    → place_in old w ≢ Free → (p : Place) → p ≡ get_or o.places.items w p → (k : ℕ) → k ≡ slot_of p → Spot o w p k
 spot o ok old view w low busy p is k slot =
     let at = subst (λ (x : Story). (w < x.shape.workers) × (place_in x w ≢ Free)) (sym view) (low, busy) in
     let e : p ≡ (now_of o).places w = read o.places.items w ((now_of o).places w) p (place-is o ok w at.0) is in
-    let in_k : k < o.shape.slots = subst (λ j. j < o.shape.slots) (sym (slot ∙ ap slot_of e)) (within-slots o.shape ((now_of o).places w) ((bounded o ok).places w) at.1) in
+    let in_k : k < o.shape.slots = subst (λ j. j < o.shape.slots) (sym (slot ∙ ap slot_of e))
+    (within-slots o.shape ((now_of o).places w) ((bounded o ok).places w) at.1) in
     record { low = at.0; is = e; slot = slot; in_slots = in_k; index = (let c = ok.slots_are.count in let l = o.slots.ok.0 in omega arith) }
 
 -- what the slot shows that was read there
@@ -160,19 +172,23 @@ pub slot-read : (o : Inside) (ok : Kept o) (k : ℕ) → k < o.shape.slots → (
 slot-read o ok k in_k x is = read o.slots.items k (shown ((now_of o).slots k)) x (ok.slots_are.are k in_k) is
 
 -- a fact of the object's place, of the place that was read
-pub spotted : (o : Inside) (old : Story) (w : ℕ) (p : Place) (k : ℕ) → record { shape = o.shape; log = o.log } ≡ old → Spot o w p k → (P : Place → Type 0) → P (place_in old w) → P p
+pub spotted : (o : Inside) (old : Story) (w : ℕ) (p : Place) (k : ℕ) → record { shape = o.shape; log = o.log } ≡ old → Spot o w p k → (P : Place → Type 0)
+    → P (place_in old w) → P p
 spotted o old w p k view s P h = subst P (sym s.is) (subst (λ (x : Story). P (place_in x w)) (sym view) h)
 
 -- where the worker is after its call
-pub gone : (o : Inside) (w : ℕ) (a a' : Act) → a' ≡ a → (log : List Logged) → log ≡ call w a' ∷ o.log → (state_in o.shape log).places w ≡ moved o.shape a ((now_of o).places w)
-gone o w a a' is log wrote = ap (λ l. (state_in o.shape l).places w) (wrote ∙ ap (λ b. call w b ∷ o.log) is) ∙ upd-same (now_of o).places w (moved o.shape a ((now_of o).places w))
+pub gone : (o : Inside) (w : ℕ) (a a' : Act) → a' ≡ a → (log : List Logged) → log ≡ call w a' ∷ o.log
+    → (state_in o.shape log).places w ≡ moved o.shape a ((now_of o).places w)
+gone o w a a' is log wrote = ap (λ l. (state_in o.shape l).places w) (wrote ∙ ap (λ b. call w b ∷ o.log) is) ∙ upd-same (now_of o).places w
+    (moved o.shape a ((now_of o).places w))
 
 -- a fact of the shape that is kept, of the object's
 pub of-shape : (o : Inside) (old : Story) → record { shape = o.shape; log = o.log } ≡ old → (P : Shape → Type 0) → P o.shape → P old.shape
 of-shape o old view P h = subst P (ap (λ (x : Story). x.shape) view) h
 
 -- a fact of the object's story, of what is kept
-pub of-story : (o : Inside) (old : Story) → record { shape = o.shape; log = o.log } ≡ old → (P : Story → Type 0) → P old → P (record { shape = o.shape; log = o.log })
+pub of-story : (o : Inside) (old : Story) → record { shape = o.shape; log = o.log } ≡ old → (P : Story → Type 0) → P old
+    → P (record { shape = o.shape; log = o.log })
 of-story o old view P h = subst P (sym view) h
 
 -- how many workers there are

@@ -19,43 +19,60 @@ use Rattle.plain_slots.specs.Objects.{HasSlots, HasDebts, HasPlaces, HasMasks, I
 use Rattle.slot_station.proofs.Lists.{lists-set, lists-kept, get-set_same, get-set_other, pair-within}
 
 module _ (d : Shape) where
-  pub slots-set : (slots : List Slot) (f : ℕ → SlotState) (k : ℕ) (x : SlotState) → HasSlots d slots f → k < d.slots → HasSlots d (set slots k (shown x)) (upd f k x)
+  pub slots-set : (slots : List Slot) (f : ℕ → SlotState) (k : ℕ) (x : SlotState) → HasSlots d slots f → k < d.slots
+      → HasSlots d (set slots k (shown x)) (upd f k x)
   slots-set slots f k x has low = record { count = length-set slots k _ ∙ has.count; are = lists-set shown d.slots slots f k x has.count low has.are }
 
-  pub slots-kept : (slots : List Slot) (f : ℕ → SlotState) (k : ℕ) (x : SlotState) → HasSlots d slots f → shown x ≡ shown (f k) → HasSlots d slots (upd f k x)
+  pub slots-kept : (slots : List Slot) (f : ℕ → SlotState) (k : ℕ) (x : SlotState) → HasSlots d slots f → shown x ≡ shown (f k)
+      → HasSlots d slots (upd f k x)
   slots-kept slots f k x has same = record { count = has.count; are = lists-kept shown d.slots slots f k x same has.are }
 
-  pub places-set : (places : List Place) (f : ℕ → Place) (w : ℕ) (p : Place) → HasPlaces d places f → w < d.workers → HasPlaces d (set places w p) (upd f w p)
-  places-set places f w p has low = record { count = length-set places w p ∙ has.count; are = lists-set (λ q. q) d.workers places f w p has.count low has.are }
+  pub places-set : (places : List Place) (f : ℕ → Place) (w : ℕ) (p : Place) → HasPlaces d places f → w < d.workers
+      → HasPlaces d (set places w p) (upd f w p)
+  places-set places f w p has low = record {
+    count = length-set places w p ∙ has.count;
+    are = lists-set
+        (λ q. q) d.workers places f w p has.count low has.are;
+  }
 
   debts-kept-at : (owing : List Bool) (f : ℕ → SlotState) (k : ℕ) (x : SlotState) → HasDebts d owing f → ((v : ℕ) → v < d.workers → owes x v ≡ owes (f k) v)
       → (s v : ℕ) → s < d.slots → v < d.workers → Dec (s ≡ k) → slice_get owing (s * d.workers + v) ≡ Some (owes (upd f k x s) v)
   debts-kept-at owing f k x has same s v in_s in_v (yes e) =
-      has.are s v in_s in_v ∙ ap (λ j. Some (owes (f j) v)) e ∙ ap Some (sym (same v in_v)) ∙ ap (λ y. Some (owes y v)) (sym (upd-same f k x) ∙ ap (upd f k x) (sym e))
+      has.are s v in_s in_v ∙ ap (λ j. Some (owes (f j) v)) e ∙ ap Some (sym (same v in_v)) ∙ ap (λ y. Some (owes y v))
+      (sym (upd-same f k x) ∙ ap (upd f k x) (sym e))
   debts-kept-at owing f k x has same s v in_s in_v (no ne) = has.are s v in_s in_v ∙ ap (λ y. Some (owes y v)) (sym (upd-else f k x s ne))
 
   -- nobody's debt changed
-  pub debts-kept : (owing : List Bool) (f : ℕ → SlotState) (k : ℕ) (x : SlotState) → HasDebts d owing f → ((v : ℕ) → v < d.workers → owes x v ≡ owes (f k) v) → HasDebts d owing (upd f k x)
+  pub debts-kept : (owing : List Bool) (f : ℕ → SlotState) (k : ℕ) (x : SlotState) → HasDebts d owing f
+      → ((v : ℕ) → v < d.workers → owes x v ≡ owes (f k) v) → HasDebts d owing (upd f k x)
   debts-kept owing f k x has same = record { count = has.count; are = λ s v in_s in_v. debts-kept-at owing f k x has same s v in_s in_v (ℕ_discrete s k) }
 
-  debts-set-here : (owing : List Bool) (f : ℕ → SlotState) (k u : ℕ) (x : SlotState) (b : Bool) → HasDebts d owing f → k < d.slots → u < d.workers → owes x u ≡ b → ((v : ℕ) → v < d.workers → v ≢ u → owes x v ≡ owes (f k) v)
+  debts-set-here : (owing : List Bool) (f : ℕ → SlotState) (k u : ℕ) (x : SlotState) (b : Bool) → HasDebts d owing f → k < d.slots → u < d.workers
+      → owes x u ≡ b → ((v : ℕ) → v < d.workers → v ≢ u → owes x v ≡ owes (f k) v)
       → (v : ℕ) → v < d.workers → Dec (v ≡ u) → slice_get (set owing (k * d.workers + u) b) (k * d.workers + v) ≡ Some (owes x v)
   debts-set-here owing f k u x b has in_k in_u now same v in_v (yes e) =
       let low : k * d.workers + u < length owing = rw has.count (pair-within d.slots d.workers k u in_k in_u) in
-      ap (λ j. slice_get (set owing (k * d.workers + u) b) (k * d.workers + j)) e ∙ get-set_same owing (k * d.workers + u) b low ∙ ap Some (sym now) ∙ ap (λ j. Some (owes x j)) (sym e)
+      ap (λ j. slice_get (set owing (k * d.workers + u) b) (k * d.workers + j)) e ∙ get-set_same owing (k * d.workers + u) b low ∙ ap Some (sym now) ∙ ap
+      (λ j. Some (owes x j)) (sym e)
   debts-set-here owing f k u x b has in_k in_u now same v in_v (no ne) =
-      get-set_other owing (k * d.workers + u) (k * d.workers + v) b (λ e. ne (let r : v ≡ u = omega arith in r)) ∙ has.are k v in_k in_v ∙ ap Some (sym (same v in_v ne))
+      get-set_other owing (k * d.workers + u) (k * d.workers + v) b (λ e. ne (let r : v ≡ u = omega arith in r)) ∙ has.are k v in_k in_v ∙ ap Some
+      (sym (same v in_v ne))
 
-  debts-set-at : (owing : List Bool) (f : ℕ → SlotState) (k u : ℕ) (x : SlotState) (b : Bool) → HasDebts d owing f → k < d.slots → u < d.workers → owes x u ≡ b → ((v : ℕ) → v < d.workers → v ≢ u → owes x v ≡ owes (f k) v)
-      → (s v : ℕ) → s < d.slots → v < d.workers → Dec (s ≡ k) → slice_get (set owing (k * d.workers + u) b) (s * d.workers + v) ≡ Some (owes (upd f k x s) v)
+  debts-set-at : (owing : List Bool) (f : ℕ → SlotState) (k u : ℕ) (x : SlotState) (b : Bool) → HasDebts d owing f → k < d.slots → u < d.workers
+      → owes x u ≡ b → ((v : ℕ) → v < d.workers → v ≢ u → owes x v ≡ owes (f k) v)
+      → (s v : ℕ) → s < d.slots → v < d.workers → Dec (s ≡ k)
+      → slice_get (set owing (k * d.workers + u) b) (s * d.workers + v) ≡ Some (owes (upd f k x s) v)
   debts-set-at owing f k u x b has in_k in_u now same s v in_s in_v (yes e) =
-      ap (λ j. slice_get (set owing (k * d.workers + u) b) (j * d.workers + v)) e ∙ debts-set-here owing f k u x b has in_k in_u now same v in_v (ℕ_discrete v u)
+      ap (λ j. slice_get (set owing (k * d.workers + u) b) (j * d.workers + v)) e ∙ debts-set-here owing f k u x b has in_k in_u now same v in_v
+      (ℕ_discrete v u)
       ∙ ap (λ y. Some (owes y v)) (sym (upd-same f k x) ∙ ap (upd f k x) (sym e))
   debts-set-at owing f k u x b has in_k in_u now same s v in_s in_v (no ne) =
-      get-set_other owing (k * d.workers + u) (s * d.workers + v) b (λ e. ne (same_from_place s v k u d.workers in_v in_u e).0) ∙ has.are s v in_s in_v ∙ ap (λ y. Some (owes y v)) (sym (upd-else f k x s ne))
+      get-set_other owing (k * d.workers + u) (s * d.workers + v) b (λ e. ne (same_from_place s v k u d.workers in_v in_u e).0) ∙ has.are s v in_s in_v ∙ ap
+      (λ y. Some (owes y v)) (sym (upd-else f k x s ne))
 
   -- the debt of one worker at one slot changed
-  pub debts-set : (owing : List Bool) (f : ℕ → SlotState) (k u : ℕ) (x : SlotState) (b : Bool) → HasDebts d owing f → k < d.slots → u < d.workers → owes x u ≡ b → ((v : ℕ) → v < d.workers → v ≢ u → owes x v ≡ owes (f k) v)
+  pub debts-set : (owing : List Bool) (f : ℕ → SlotState) (k u : ℕ) (x : SlotState) (b : Bool) → HasDebts d owing f → k < d.slots → u < d.workers
+      → owes x u ≡ b → ((v : ℕ) → v < d.workers → v ≢ u → owes x v ≡ owes (f k) v)
       → HasDebts d (set owing (k * d.workers + u) b) (upd f k x)
   debts-set owing f k u x b has in_k in_u now same = record {
     count = length-set owing (k * d.workers + u) b ∙ has.count;
@@ -63,9 +80,11 @@ module _ (d : Shape) where
   }
 
 -- After a call, where slots, debts, notices and numbers are those of the next state. The worker goes to its next place.
-pub after-call : (d : Shape) (slots slots' : List Slot) (owing owing' : List Bool) (places : List Place) (returns returns' changes changes' : List ℕ) (admitted admitted' finished finished' : ℕ) (log : List Logged) (w : ℕ) (a : Act)
+pub after-call : (d : Shape) (slots slots' : List Slot) (owing owing' : List Bool) (places : List Place) (returns returns' changes changes' : List ℕ)
+    (admitted admitted' finished finished' : ℕ) (log : List Logged) (w : ℕ) (a : Act)
     → IsObject d slots owing places returns changes admitted finished log → w < d.workers → IsAllowed d (state_in d log) w a
-    → (let S = next d (state_in d log) w a in HasSlots d slots' S.slots × HasDebts d owing' S.slots × HasMasks d S.returns returns' × HasMasks d S.changes changes' × (admitted' ≡ S.admitted) × (finished' ≡ S.finished))
+    → (let S = next d (state_in d log) w a in HasSlots d slots' S.slots × HasDebts d owing' S.slots × HasMasks d S.returns returns'
+    × HasMasks d S.changes changes' × (admitted' ≡ S.admitted) × (finished' ≡ S.finished))
     → IsObject d slots' owing' (set places w (moved d a ((state_in d log).places w))) returns' changes' admitted' finished' (call w a ∷ log)
 after-call d slots slots' owing owing' places returns returns' changes changes' admitted admitted' finished finished' log w a ok low allowed new = record {
   shape = ok.shape;

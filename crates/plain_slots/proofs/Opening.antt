@@ -16,22 +16,29 @@ use Rattle.slot_station.proofs.Lists.{pair-within}
 use Rattle.plain_slots.proofs.Masks.{word-within}
 
 get-replicate : {A : Type 0} (n k : ℕ) (x : A) → k < n → slice_get (replicate n x) k ≡ Some x
-get-replicate n k x h = let l : length (replicate n x) ≡ n = length-replicate n x in slice_get-get_or (replicate n x) k x (omega arith) ∙ ap Some (get_or-replicate n k x x h)
+get-replicate n k x h = let l : length (replicate n x) ≡ n = length-replicate n x in slice_get-get_or (replicate n x) k x (omega arith)
+    ∙ ap Some (get_or-replicate n k x x h)
 
 no-masks : (d : Shape) → HasMasks d (λ w s. false) (replicate {A = ℕ} (d.workers * PARTS) 0)
 no-masks d = record {
   count = length-replicate {A = ℕ} (d.workers * PARTS) 0;
-  masks = λ w part in_w in_p. rw (get_or-replicate {A = ℕ} (d.workers * PARTS) (w * PARTS + part) 0 0 (word-within d.workers w part in_w in_p)) (record { small = omega arith; each = λ k low. bit_at-zero k });
+  masks = λ w part in_w in_p. rw (get_or-replicate {A = ℕ} (d.workers * PARTS) (w * PARTS + part) 0 0 (word-within d.workers w part in_w in_p))
+      (record { small = omega arith; each = λ k low. bit_at-zero k });
 }
 
 pub opens : (d : Shape) (slots : List Slot) (owing : List Bool) (places : List Place) (returns changes : List ℕ) (log : List Logged) → IsShape d
-    → slots ≡ replicate d.slots Empty → owing ≡ replicate (d.slots * d.workers) false → places ≡ replicate d.workers Free → returns ≡ replicate {A = ℕ} (d.workers * PARTS) 0 → changes ≡ replicate {A = ℕ} (d.workers * PARTS) 0 → log ≡ []
+    → slots ≡ replicate d.slots Empty → owing ≡ replicate (d.slots * d.workers) false → places ≡ replicate d.workers Free
+    → returns ≡ replicate {A = ℕ} (d.workers * PARTS) 0 → changes ≡ replicate {A = ℕ} (d.workers * PARTS) 0 → log ≡ []
     → IsObject d slots owing places returns changes 0 0 log
 opens d slots owing places returns changes log shape a b c e f g = rw (a, b, c, e, f, g) (record {
   shape = shape;
   legal = tt;
   slots_are = record { count = length-replicate d.slots Empty; are = λ s h. get-replicate d.slots s Empty h };
-  debts_are = record { count = length-replicate (d.slots * d.workers) false; are = λ s v in_s in_v. get-replicate (d.slots * d.workers) (s * d.workers + v) false (pair-within d.slots d.workers s v in_s in_v) };
+  debts_are = record {
+    count = length-replicate (d.slots * d.workers) false;
+    are = λ s v in_s in_v. get-replicate (d.slots * d.workers)
+        (s * d.workers + v) false (pair-within d.slots d.workers s v in_s in_v);
+  };
   places_are = record { count = length-replicate d.workers Free; are = λ w h. get-replicate d.workers w Free h };
   returns_are = no-masks d;
   changes_are = no-masks d;

@@ -38,4 +38,5 @@ look_of (Finishing id) = look.Invalid
 -- what a claim of n tuples answers of the task set of a slot
 abbrev pub ClaimFrom : state.SlotState → ℕ → Option (ℕ × ℕ) → Type 0
 ClaimFrom x n None = (state.task_of x).total ≤ (state.task_of x).cursor
-ClaimFrom x n (Some r) = (r.0 ≡ (state.task_of x).cursor) × (r.0 < (state.task_of x).total) × (r.1 ≡ min (state.task_of x).total (r.0 + n))
+ClaimFrom x n (Some r) = let t = state.task_of x in
+    (r.0 ≡ t.cursor) × (r.0 < t.total) × (r.1 ≡ min t.total (r.0 + n))

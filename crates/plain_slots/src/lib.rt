@@ -5,10 +5,30 @@
 //! below is named here again.
 //!
 //! The layers above may use one fact: `PlainTable` is a `OneTable`, so each of its seats is a `Station`.
+//!
+//! A caller over any station, and its use over a table (proved in `examples`):
+//!
+//! ```
+//! fn progress<B: Fits, S: Station<B>, L: Ledger>(
+//!     station: &mut S,
+//!     steps: &mut Steps<L>,
+//! ) -> (u32, u32)
+//!     ensures { steps.new ≡ steps.old + 2 }
+//! {
+//!     let admitted = station.arrivals(steps);
+//!     (admitted, station.finished(steps))
+//! }
+//!
+//! let mut table = PlainTable::<B>::make(alloc, 2, 3, queries, Snapshot::of(&subject))?;
+//! let mut seat = table.seat(0);
+//! let (admitted, done) = progress(&mut seat, steps);
+//! ```
 #![tactic(auto)]
 
 mod answers;
 pub mod object;
+#[cfg(test)]
+mod examples;
 #[cfg(test)]
 mod player;
 #[cfg(test)]
@@ -20,6 +40,13 @@ mod tests;
 #[cfg(test)]
 mod worker_calls;
 
+pub use object::PlainObject;
 pub use one_thread::seat;
+pub use one_thread::{OneSeat, OneTable, SlotObject};
 pub use slot_history::{act, laws, place, shape};
+pub use slot_station::{
+    Admit, Announcer, Claim, Coordinator, Debt, Fits, History, Holder, Leave, Look, MakeRefusal, Mark,
+    Memo, Note, Pay, Reserve, Shut, Spent, Station, StepWork, Steps, Sweep, run_uncounted,
+};
 pub use slot_station::{log, note, notes, reply, station, steps, token};
+pub use table::{PlainSeat, PlainTable};

@@ -55,7 +55,7 @@ fn tables_end(rt: HostRuntime) -> Result<(), Fail> {
 
 /// A memo of two numbers.
 fn two_noted(alloc: Global) -> Result<Memo, AllocError>
-    ensures { IfOk result (λ memo. memo ≡ 16 ∷ 5 ∷ []) }
+    ensures { IfOk result (λ memo. memo ≡ 5 ∷ 16 ∷ []) }
 {
     let mut memo = Memo::new(alloc)?;
     memo.note(5);

@@ -37,14 +37,16 @@ own-has (Leading t id) s h = refl
 own-has _ s h = absurd (cc)
 
 -- nobody is inside a slot that is held
-pub held-outside : (d : Shape) (S : ObjectState) → IsTable d S → (s v w : ℕ) (k : Held) → v < d.workers → IsHeldBy w k (S.slots s) → has_own_cell (S.places v) s ≡ false
+pub held-outside : (d : Shape) (S : ObjectState) → IsTable d S → (s v w : ℕ) (k : Held) → v < d.workers → IsHeldBy w k (S.slots s)
+    → has_own_cell (S.places v) s ≡ false
 held-outside d S ok s v w k low held = false_from_ne_true (has_own_cell (S.places v) s)
     (λ h. held-not (S.slots s) w k held (inside-slots d S ok s v (id_at (S.places v)) low h (own-inside (S.places v) s h)).0)
 
 -- ---- notes
 
 -- no call of a worker that holds a slot changes a note
-noted-held : (d : Shape) (S : ObjectState) (w : ℕ) (a : Act) (s : ℕ) (k : Held) → IsAllowed d S w a → S.places w ≡ Holding s k → (v : ℕ) (n : Note) → noted a w v n ≡ n
+noted-held : (d : Shape) (S : ObjectState) (w : ℕ) (a : Act) (s : ℕ) (k : Held) → IsAllowed d S w a → S.places w ≡ Holding s k → (v : ℕ) (n : Note)
+    → noted a w v n ≡ n
 noted-held d S w (LookOpen id) s k ok at v n = absurd (let r : Holding s k ≡ Entered ok.0 = sym at ∙ ok.1 in cc)
 noted-held d S w (ClaimRange m from to) s k ok at v n = absurd (let r : Holding s k ≡ Inside ok.0 ok.1 = sym at ∙ ok.2 in cc)
 noted-held d S w PayLast s k ok at v n = absurd (let r : Holding s k ≡ Owing ok.0 ok.1 = sym at ∙ ok.2 in cc)

@@ -22,7 +22,8 @@ module _ {B : Type 0} where
   some-maps P Q f None h = h
   some-maps P Q f (Some b) h = f b h
 
-  pub says-maps : (P Q P' Q' : B → Type 0) → ((b : B) → P b → P' b) → ((b : B) → Q b → Q' b) → (n : Note) (x : Option B) → NoteSays P Q n x → NoteSays P' Q' n x
+  pub says-maps : (P Q P' Q' : B → Type 0) → ((b : B) → P b → P' b) → ((b : B) → Q b → Q' b) → (n : Note) (x : Option B) → NoteSays P Q n x
+      → NoteSays P' Q' n x
   says-maps P Q P' Q' f g note.Empty x h = h
   says-maps P Q P' Q' f g note.Kept x h = some-maps P P' f x h
   says-maps P Q P' Q' f g note.Fresh x h = some-maps Q Q' g x h
@@ -40,7 +41,8 @@ module _ {B : Type 0} (fits : ℕ → List (ℕ × ℕ) → B → Type 0) (R : �
   -- ---- the worker's side
 
   -- other ranges of other task sets
-  pub cell-ranges : (R' : ℕ → List (ℕ × ℕ)) (X : SlotState) (b : Bool) (n : Note) (N : ℕ → Note) (x : Option B) → (has_id X ≡ true → R' (id_of X) ≡ R (id_of X)) → CellAt fits R X b n N x → CellAt fits R' X b n N x
+  pub cell-ranges : (R' : ℕ → List (ℕ × ℕ)) (X : SlotState) (b : Bool) (n : Note) (N : ℕ → Note) (x : Option B)
+      → (has_id X ≡ true → R' (id_of X) ≡ R (id_of X)) → CellAt fits R X b n N x → CellAt fits R' X b n N x
   cell-ranges R' Empty b n N x same c = c
   cell-ranges R' (Reserved w h) b n N x same c = c
   cell-ranges R' (Open t) true n N x same c = subst (λ r. NoteSays (fits t.id r) (λ b. ⊥) n x) (sym (same refl)) c
@@ -68,7 +70,8 @@ module _ {B : Type 0} (fits : ℕ → List (ℕ × ℕ) → B → Type 0) (R : �
   cell-enters (Finishing id w h) b n N x c = c
 
   -- whoever goes out has kept its cell
-  pub cell-leaves : (X : SlotState) (b : Bool) (n m : Note) (N : ℕ → Note) (x : Option B) → (b ≡ true → n ≡ note.Kept) → CellAt fits R X b n N x → CellAt fits R X false m N x
+  pub cell-leaves : (X : SlotState) (b : Bool) (n m : Note) (N : ℕ → Note) (x : Option B) → (b ≡ true → n ≡ note.Kept) → CellAt fits R X b n N x
+      → CellAt fits R X false m N x
   cell-leaves Empty b n m N x kept c = c
   cell-leaves (Reserved w h) b n m N x kept c = c
   cell-leaves (Open t) true n m N x kept c = subst (λ k. NoteSays (FitsClaims fits R t.id) (λ b. ⊥) k x) (kept refl) c
@@ -78,13 +81,16 @@ module _ {B : Type 0} (fits : ℕ → List (ℕ × ℕ) → B → Type 0) (R : �
   cell-leaves (Finishing id w h) b n m N x kept c = c
 
   -- a claim loosens the own note
-  pub cell-claims : (R' : ℕ → List (ℕ × ℕ)) (X : SlotState) (n : Note) (N : ℕ → Note) (x : Option B) → (is_open X ≡ true) ⊎ (is_shut X ≡ true) → CellAt fits R X true n N x → CellAt fits R' X true (loosened n) N x
+  pub cell-claims : (R' : ℕ → List (ℕ × ℕ)) (X : SlotState) (n : Note) (N : ℕ → Note) (x : Option B) → (is_open X ≡ true) ⊎ (is_shut X ≡ true)
+      → CellAt fits R X true n N x → CellAt fits R' X true (loosened n) N x
   cell-claims R' X n N x = open-shut-cases X (λ Y. CellAt fits R Y true n N x → CellAt fits R' Y true (loosened n) N x)
-      (λ t. says-loosens (FitsClaims fits R t.id) (FitsClaims fits R' t.id) (λ b. ⊥) n x) (λ t e. says-loosens (FitsClaims fits R t.id) (FitsClaims fits R' t.id) (λ b. ⊥) n x)
+      (λ t. says-loosens (FitsClaims fits R t.id) (FitsClaims fits R' t.id) (λ b. ⊥) n x)
+      (λ t e. says-loosens (FitsClaims fits R t.id) (FitsClaims fits R' t.id) (λ b. ⊥) n x)
 
   -- ---- the notes of the holder
 
-  pub cell-notes : (X : SlotState) (b : Bool) (n : Note) (N N' : ℕ → Note) (x : Option B) → ((u : ℕ) (h : Held) → IsHeldBy u h X → N' u ≡ N u) → CellAt fits R X b n N x → CellAt fits R X b n N' x
+  pub cell-notes : (X : SlotState) (b : Bool) (n : Note) (N N' : ℕ → Note) (x : Option B) → ((u : ℕ) (h : Held) → IsHeldBy u h X → N' u ≡ N u)
+      → CellAt fits R X b n N x → CellAt fits R X b n N' x
   cell-notes Empty b n N N' x same c = c
   cell-notes (Reserved w h) b n N N' x same c = subst (λ k. NoteSays (λ b. ⊥) (FitsNext fits h) k x) (sym (same w h (inl refl))) c
   cell-notes (Open t) true n N N' x same c = c
@@ -150,7 +156,8 @@ module _ {B : Type 0} (fits : ℕ → List (ℕ × ℕ) → B → Type 0) (R : �
     cell-admitted q w h X (inl is) none = subst (λ Y. Cell Y → Cell (held_on (AdmitGot q) Y)) (sym is)
         (says-maps (λ y. ⊥) (FitsNext fits h) (λ y. ⊥) (FitsNext fits (record h { query = Some q })) (λ y f. f) (next-admits q h none) (N w) x)
     cell-admitted q w h X (inr (id, is)) none = subst (λ Y. Cell Y → Cell (held_on (AdmitGot q) Y)) (sym is)
-        (says-maps (FitsClaims fits R id) (FitsNext fits h) (FitsClaims fits R id) (FitsNext fits (record h { query = Some q })) (λ y f. f) (next-admits q h none) (N w) x)
+        (says-maps (FitsClaims fits R id) (FitsNext fits h) (FitsClaims fits R id) (FitsNext fits (record h { query = Some q })) (λ y f. f)
+        (next-admits q h none) (N w) x)
 
     -- all cells of a slot that is released are empty
     pub cell-released : (w : ℕ) (h : Held) (X : SlotState) → IsHeldBy w h X → N w ≡ note.Empty → Cell X → Cell Empty
@@ -170,9 +177,11 @@ module _ {B : Type 0} (fits : ℕ → List (ℕ × ℕ) → B → Type 0) (R : �
 
     -- a value that fits the next task set and no ranges is kept when that is installed
     next-kept : (h : Held) (id : ℕ) → id ≡ next_id h → R id ≡ [] → IsSomeAnd x (FitsNext fits h) → IsSomeAnd x (FitsClaims fits R id)
-    next-kept h id is none = some-maps (FitsNext fits h) (FitsClaims fits R id) (λ y f. subst (λ r. fits id r y) (sym none) (subst (λ i. fits i [] y) (sym is) f.1)) x
+    next-kept h id is none = some-maps (FitsNext fits h) (FitsClaims fits R id)
+        (λ y f. subst (λ r. fits id r y) (sym none) (subst (λ i. fits i [] y) (sym is) f.1)) x
 
-    pub cell-opened : (w id : ℕ) (h : Held) (X : SlotState) → IsHeldBy w h X → id ≡ next_id h → R id ≡ [] → N w ≡ note.Fresh → CellAt fits R X false n N x → CellAt fits R (opened id X) false n N x
+    pub cell-opened : (w id : ℕ) (h : Held) (X : SlotState) → IsHeldBy w h X → id ≡ next_id h → R id ≡ [] → N w ≡ note.Fresh → CellAt fits R X false n N x
+        → CellAt fits R (opened id X) false n N x
     cell-opened w id h X (inl is) next none fresh = subst (λ Y. CellAt fits R Y false n N x → CellAt fits R (opened id Y) false n N x) (sym is)
         (λ c. next-kept h id next none (subst (λ k. NoteSays (λ b. ⊥) (FitsNext fits h) k x) fresh c))
     cell-opened w id h X (inr (jd, is)) next none fresh = subst (λ Y. CellAt fits R Y false n N x → CellAt fits R (opened id Y) false n N x) (sym is)

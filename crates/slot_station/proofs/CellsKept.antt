@@ -39,7 +39,8 @@ module _ (d : Shape) (h : List Entry) (w : ℕ) (low : w < d.workers) (legal : I
   inside-apart s other has same = other (inside-one d h legal w t id low own-there inside-there s has same)
 
 -- a call of w after a history, with notes of cells that allow it, and a cell of the slot s that has x
-module _ {B : Type 0} (fits : ℕ → List (ℕ × ℕ) → B → Type 0) (totals : ℕ → Option ℕ) (d : Shape) (h : List Entry) (N : ℕ → ℕ → Note) (w : ℕ) (a : Act) (legal : IsLegal d (entry w a ∷ h))
+module _ {B : Type 0} (fits : ℕ → List (ℕ × ℕ) → B → Type 0) (totals : ℕ → Option ℕ) (d : Shape) (h : List Entry) (N : ℕ → ℕ → Note) (w : ℕ) (a : Act)
+    (legal : IsLegal d (entry w a ∷ h))
     (allow : NotesAllow totals d w (place_of d h w) (N w) a) (s : ℕ) (x : Option B) where
   abbrev X : SlotState
   X = (state_after d h).slots s
@@ -63,14 +64,16 @@ module _ {B : Type 0} (fits : ℕ → List (ℕ × ℕ) → B → Type 0) (total
       (λ t id at same. subst (λ r. (is_open (S.slots r) ≡ true) ⊎ (is_shut (S.slots r) ≡ true)) same (inside-open d h w legal.0 legal.2 t id at))
       (λ t id at other. inside-apart d h w legal.0 legal.2 t id at s other)
       totals (N w) a legal.1 allow c in
-      cell-ranges fits R (λ id. ranges_of d w id (entry w a ∷ h)) X (has_own_cell (place_of d (entry w a ∷ h) w) s) (N' w w) H x (λ has. ranges-mine d w (id_of X) (entry w a) h refl)
+      cell-ranges fits R (λ id. ranges_of d w id (entry w a ∷ h)) X (has_own_cell (place_of d (entry w a ∷ h) w) s) (N' w w) H x
+      (λ has. ranges-mine d w (id_of X) (entry w a) h refl)
       (subst (λ p. CellAt fits R X (has_own_cell p s) (N' w w) H x) (sym (place-mine d (entry w a) h w refl))
       (subst (λ m. CellAt fits R X (has_own_cell (moved d a (S.places w)) s) m H x) (sym (note-mine w a N w)) own))
 
   cell-of-other : (H : ℕ → Note) (u : ℕ) → u ≢ w → Before H u → After H u
   cell-of-other H u other c =
       let R : ℕ → List (ℕ × ℕ) = λ id. ranges_of d u id h in
-      cell-ranges fits R (λ id. ranges_of d u id (entry w a ∷ h)) X (has_own_cell (place_of d (entry w a ∷ h) u) s) (N' u u) H x (λ has. ranges-other d u (id_of X) (entry w a) h other)
+      cell-ranges fits R (λ id. ranges_of d u id (entry w a ∷ h)) X (has_own_cell (place_of d (entry w a ∷ h) u) s) (N' u u) H x
+      (λ has. ranges-other d u (id_of X) (entry w a) h other)
       (subst (λ p. CellAt fits R X (has_own_cell p s) (N' u u) H x) (sym (place-other d (entry w a) h u other))
       (subst (λ m. CellAt fits R X (has_own_cell (place_of d h u) s) m H x) (sym (note-other w a N u u other)) c))
 
@@ -81,7 +84,8 @@ module _ {B : Type 0} (fits : ℕ → List (ℕ × ℕ) → B → Type 0) (total
       let H : ℕ → Note = λ u. N' u v in
       let noted_so : Before H v = cell-notes fits (λ id. ranges_of d v id h) X (has_own_cell (place_of d h v) s) (N v v) (λ u. N u v) H x
       (notes-held d S w a N (table d h legal.2) legal.1 s v) c in
-      let own : After H v = dite (ℕ_discrete v w) (λ same. subst (λ u. Before H u → After H u) (sym same) (cell-of-mine H) noted_so) (λ other. cell-of-other H v other noted_so) in
+      let own : After H v = dite (ℕ_discrete v w) (λ same. subst (λ u. Before H u → After H u) (sym same) (cell-of-mine H) noted_so)
+      (λ other. cell-of-other H v other noted_so) in
       upd-cases S.slots (site a (S.places w)) (slot_after d w a (S.slots (site a (S.places w)))) s (At fits d h N w s v in_v x a)
       (λ is. subst (λ t. At fits d h N w s v in_v x a (slot_after d w a (S.slots t))) is (slot-cell fits d h N w s v in_v x totals a legal allow is own))
       (λ other. own)

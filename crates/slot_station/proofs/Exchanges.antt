@@ -31,7 +31,8 @@ use Rattle.slot_station.specs.Cells.{CellOf}
 
 module _ {B : Type 0} (fits : ℕ → List (ℕ × ℕ) → B → Type 0) (R : ℕ → List (ℕ × ℕ)) (N : ℕ → Note) (x : Option B) where
   -- of a worker that is inside the own note speaks
-  inside-says : (X : SlotState) (n : Note) → (is_open X ≡ true) ⊎ (is_shut X ≡ true) → CellAt fits R X true n N x ≡ NoteSays (FitsClaims fits R (id_of X)) (λ b. ⊥) n x
+  inside-says : (X : SlotState) (n : Note) → (is_open X ≡ true) ⊎ (is_shut X ≡ true)
+      → CellAt fits R X true n N x ≡ NoteSays (FitsClaims fits R (id_of X)) (λ b. ⊥) n x
   inside-says (Open t) n open_ = refl
   inside-says (Shut t e) n open_ = refl
   inside-says Empty n open_ = absurd (⊎_elim (λ k. true≢false (sym k)) (λ k. true≢false (sym k)) open_)
@@ -39,13 +40,17 @@ module _ {B : Type 0} (fits : ℕ → List (ℕ × ℕ) → B → Type 0) (R : �
   inside-says (Finishing id w h) n open_ = absurd (⊎_elim (λ k. true≢false (sym k)) (λ k. true≢false (sym k)) open_)
 
   -- at a slot that is held the holder's note does
-  pub says-held : (w : ℕ) (h : Held) (X : SlotState) (b : Bool) (n : Note) → IsHeldBy w h X → ((P : B → Type 0) → NoteSays P (FitsNext fits h) (N w) x) → CellAt fits R X b n N x
+  pub says-held : (w : ℕ) (h : Held) (X : SlotState) (b : Bool) (n : Note) → IsHeldBy w h X → ((P : B → Type 0) → NoteSays P (FitsNext fits h) (N w) x)
+      → CellAt fits R X b n N x
   says-held w h X b n (inl is) says = subst (λ Y. CellAt fits R Y b n N x) (sym is) (says (λ y. ⊥))
   says-held w h X b n (inr (id, is)) says = subst (λ Y. CellAt fits R Y b n N x) (sym is) (says (FitsClaims fits R id))
 
-  pub held-says : (w : ℕ) (h : Held) (X : SlotState) (b : Bool) (n : Note) (P : B → Type 0) → IsHeldBy w h X → ((id : ℕ) → X ≡ Finishing id w h → (y : B) → FitsClaims fits R id y → P y) → CellAt fits R X b n N x → NoteSays P (FitsNext fits h) (N w) x
-  held-says w h X b n P (inl is) finalised c = says-maps (λ y. ⊥) (FitsNext fits h) P (FitsNext fits h) (λ y f. absurd f) (λ y f. f) (N w) x (subst (λ Y. CellAt fits R Y b n N x) is c)
-  held-says w h X b n P (inr (id, is)) finalised c = says-maps (FitsClaims fits R id) (FitsNext fits h) P (FitsNext fits h) (finalised id is) (λ y f. f) (N w) x (subst (λ Y. CellAt fits R Y b n N x) is c)
+  pub held-says : (w : ℕ) (h : Held) (X : SlotState) (b : Bool) (n : Note) (P : B → Type 0) → IsHeldBy w h X
+      → ((id : ℕ) → X ≡ Finishing id w h → (y : B) → FitsClaims fits R id y → P y) → CellAt fits R X b n N x → NoteSays P (FitsNext fits h) (N w) x
+  held-says w h X b n P (inl is) finalised c = says-maps (λ y. ⊥) (FitsNext fits h) P (FitsNext fits h) (λ y f. absurd f) (λ y f. f) (N w) x
+      (subst (λ Y. CellAt fits R Y b n N x) is c)
+  held-says w h X b n P (inr (id, is)) finalised c = says-maps (FitsClaims fits R id) (FitsNext fits h) P (FitsNext fits h) (finalised id is) (λ y f. f)
+      (N w) x (subst (λ Y. CellAt fits R Y b n N x) is c)
 
 module _ {B : Type 0} (P Q : B → Type 0) where
   pub says-kept : (new : Option B) → IfSome new P → NoteSays P Q (kept_note new) new
@@ -84,7 +89,8 @@ module _ (d : Shape) (h : List Entry) (w : ℕ) (low : w < d.workers) (legal : I
   inside-at = inside-slots d (state_after d h) (table d h legal) (slot_of p) w (id_at p) low own (own-inside p (slot_of p) own)
 
   -- it is as the own note says
-  pub own-cell-is : {B : Type 0} (fits : ℕ → List (ℕ × ℕ) → B → Type 0) (N : ℕ → ℕ → Note) (x : Option B) → CellOf fits d h N (slot_of p) w x ≡ NoteSays (FitsClaims fits (λ id. ranges_of d w id h) (id_at p)) (λ b. ⊥) (N w w) x
+  pub own-cell-is : {B : Type 0} (fits : ℕ → List (ℕ × ℕ) → B → Type 0) (N : ℕ → ℕ → Note) (x : Option B)
+      → CellOf fits d h N (slot_of p) w x ≡ NoteSays (FitsClaims fits (λ id. ranges_of d w id h) (id_at p)) (λ b. ⊥) (N w w) x
   own-cell-is fits N x =
       ap (λ b. CellAt fits (λ id. ranges_of d w id h) X b (N w w) (λ u. N u w) x) own
       ∙ inside-says fits (λ id. ranges_of d w id h) (λ u. N u w) x X (N w w) inside-at.0

@@ -42,7 +42,8 @@ named-slot part f bits k mask is true t = one-bit (f (part * 64 + k)) (sym (mask
 named-slot part f bits k mask is false t = absurd (let z = bit_at_above bits 64 k mask.small (ltb-false k 64 t) in omega arith)
 
 -- the mask of pending notices names slots that there are
-names-slots : (slots : ℕ) (pending : ℕ → Bool) (part bits : ℕ) → ((s : ℕ) → pending s ≡ true → s < slots) → IsMask part pending bits → NamesSlots slots part bits
+names-slots : (slots : ℕ) (pending : ℕ → Bool) (part bits : ℕ) → ((s : ℕ) → pending s ≡ true → s < slots) → IsMask part pending bits
+    → NamesSlots slots part bits
 names-slots slots pending part bits names mask k is = names (part * 64 + k) (named-slot part pending bits k mask is (ltb k 64) refl)
 
 -- ---- a task set that is worked on
@@ -115,7 +116,8 @@ module _ {O Sub : Type 0} {total : Sub → ℕ → Option ℕ} {old new : Seen O
   range-past n (claim.Range from to) m (s, id, at) =
       let d = old.desk.shape in
       let w = old.desk.worker in
-      subst (λ p. LiesPast (ranges_of d w (id_at p) old.trail) (claim.Range from to)) (sym at) (ranges-go-on d w n from to s id old.trail new.trail m.called at)
+      subst (λ p. LiesPast (ranges_of d w (id_at p) old.trail) (claim.Range from to)) (sym at)
+      (ranges-go-on d w n from to s id old.trail new.trail m.called at)
   range-past n (claim.Exhausted x) m at = tt
 
   -- what a worker takes names slots that there are

@@ -23,12 +23,14 @@ id-query (Finishing id w h) has = refl
 id-query _ has = absurd (cc)
 
 -- whoever is inside with an id is so at the one slot that has it
-pub inside-one : (d : Shape) (h : List Entry) → IsLegal d h → (v t id : ℕ) → v < d.workers → has_own_cell (place_of d h v) t ≡ true → is_inside (place_of d h v) id ≡ true
+pub inside-one : (d : Shape) (h : List Entry) → IsLegal d h → (v t id : ℕ) → v < d.workers → has_own_cell (place_of d h v) t ≡ true
+    → is_inside (place_of d h v) id ≡ true
     → (s : ℕ) → has_id ((state_after d h).slots s) ≡ true → id_of ((state_after d h).slots s) ≡ id → t ≡ s
 inside-one d h legal v t id low own inside s has same =
     let X : ℕ → SlotState = (state_after d h).slots in
     let at = inside-slots d (state_after d h) (table d h legal) t v id low own inside in
-    (book d h legal).apart t s (id / STAGES) (id-query (X t) (open-has (X t) at.0) ∙ ap (λ i. Some (i / STAGES)) at.1) (id-query (X s) has ∙ ap (λ i. Some (i / STAGES)) same)
+    (book d h legal).apart t s (id / STAGES) (id-query (X t) (open-has (X t) at.0) ∙ ap (λ i. Some (i / STAGES)) at.1)
+    (id-query (X s) has ∙ ap (λ i. Some (i / STAGES)) same)
 
 -- of a task set that is installed now nobody has claimed
 pub unclaimed : (d : Shape) (h : List Entry) (w id : ℕ) → IsLegal d (entry w (Install id) ∷ h) → (v : ℕ) → ranges_of d v id h ≡ []

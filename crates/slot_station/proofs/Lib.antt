@@ -2,6 +2,7 @@ pub mod CellPlaces
 pub mod CellSteps
 pub mod CellsKept
 pub mod Exchanges
+pub mod Memos
 pub mod Follows
 pub mod Ids
 pub mod Lists

@@ -24,20 +24,24 @@ Lists show n l f = (k : ℕ) → k < n → slice_get l k ≡ Some (show (f k))
 lists-set-at : {A X : Type 0} (show : X → A) (n : ℕ) (l : List A) (f : ℕ → X) (i : ℕ) (x : X) → length l ≡ n → i < n → Lists show n l f
     → (k : ℕ) → k < n → Dec (k ≡ i) → slice_get (set l i (show x)) k ≡ Some (show (upd f i x k))
 lists-set-at show n l f i x count low is k in_n (yes e) =
-    subst (λ j. slice_get (set l i (show x)) j ≡ Some (show (upd f i x j))) (sym e) (get-set_same l i (show x) (omega arith) ∙ ap (λ y. Some (show y)) (sym (upd-same f i x)))
+    subst (λ j. slice_get (set l i (show x)) j ≡ Some (show (upd f i x j))) (sym e)
+    (get-set_same l i (show x) (omega arith) ∙ ap (λ y. Some (show y)) (sym (upd-same f i x)))
 lists-set-at show n l f i x count low is k in_n (no ne) =
     get-set_other l i k (show x) ne ∙ is k in_n ∙ ap (λ y. Some (show y)) (sym (upd-else f i x k ne))
 
-pub lists-set : {A X : Type 0} (show : X → A) (n : ℕ) (l : List A) (f : ℕ → X) (i : ℕ) (x : X) → length l ≡ n → i < n → Lists show n l f → Lists show n (set l i (show x)) (upd f i x)
+pub lists-set : {A X : Type 0} (show : X → A) (n : ℕ) (l : List A) (f : ℕ → X) (i : ℕ) (x : X) → length l ≡ n → i < n → Lists show n l f
+    → Lists show n (set l i (show x)) (upd f i x)
 lists-set show n l f i x count low is k in_n = lists-set-at show n l f i x count low is k in_n (ℕ_discrete k i)
 
 lists-kept-at : {A X : Type 0} (show : X → A) (n : ℕ) (l : List A) (f : ℕ → X) (i : ℕ) (x : X) → show x ≡ show (f i) → Lists show n l f
     → (k : ℕ) → k < n → Dec (k ≡ i) → slice_get l k ≡ Some (show (upd f i x k))
-lists-kept-at show n l f i x same is k in_n (yes e) = is k in_n ∙ ap (λ j. Some (show (f j))) e ∙ ap Some (sym same) ∙ ap (λ y. Some (show y)) (sym (upd-same f i x) ∙ ap (upd f i x) (sym e))
+lists-kept-at show n l f i x same is k in_n (yes e) = is k in_n ∙ ap (λ j. Some (show (f j))) e ∙ ap Some (sym same) ∙ ap (λ y. Some (show y))
+    (sym (upd-same f i x) ∙ ap (upd f i x) (sym e))
 lists-kept-at show n l f i x same is k in_n (no ne) = is k in_n ∙ ap (λ y. Some (show y)) (sym (upd-else f i x k ne))
 
 -- a change that does not show
-pub lists-kept : {A X : Type 0} (show : X → A) (n : ℕ) (l : List A) (f : ℕ → X) (i : ℕ) (x : X) → show x ≡ show (f i) → Lists show n l f → Lists show n l (upd f i x)
+pub lists-kept : {A X : Type 0} (show : X → A) (n : ℕ) (l : List A) (f : ℕ → X) (i : ℕ) (x : X) → show x ≡ show (f i) → Lists show n l f
+    → Lists show n l (upd f i x)
 lists-kept show n l f i x same is k in_n = lists-kept-at show n l f i x same is k in_n (ℕ_discrete k i)
 
 -- of pairs, at s * n + v, each is within all of them

@@ -21,7 +21,8 @@ use Rattle.slot_station.proofs.CellSteps.{cell-ranges, cell-outside, cell-enters
 use Rattle.slot_station.proofs.CellPlaces.{own-has}
 
 -- the call is of the subject then
-pub installs-of : (totals : ℕ → Option ℕ) (d : Shape) (w : ℕ) (p : Place) (notes : ℕ → Note) (a : Act) → NotesAllow totals d w p notes a → InstallsOf totals a (held_at p).total
+pub installs-of : (totals : ℕ → Option ℕ) (d : Shape) (w : ℕ) (p : Place) (notes : ℕ → Note) (a : Act) → NotesAllow totals d w p notes a
+    → InstallsOf totals a (held_at p).total
 installs-of totals d w p notes (Install id) allow = allow.1
 installs-of totals d w p notes _ allow = tt
 
@@ -35,7 +36,8 @@ told-outside : (d : Shape) (t k s : ℕ) (again : Bool) → has_own_cell (told_o
 told-outside d t k s again = cond_both (eqb (k + 1) d.workers) Free (Announcing t again (k + 1)) (λ q. has_own_cell q s ≡ false) (λ h. refl) (λ h. refl)
 
 -- its values meet `fits`; R, its ranges; the slot s, in the state X, has the holder's notes N; its cell there has x
-module _ {B : Type 0} (fits : ℕ → List (ℕ × ℕ) → B → Type 0) (d : Shape) (S : ObjectState) (w s : ℕ) (R : ℕ → List (ℕ × ℕ)) (X : SlotState) (N : ℕ → Note) (x : Option B)
+module _ {B : Type 0} (fits : ℕ → List (ℕ × ℕ) → B → Type 0) (d : Shape) (S : ObjectState) (w s : ℕ) (R : ℕ → List (ℕ × ℕ)) (X : SlotState) (N : ℕ → Note)
+    (x : Option B)
     (here : (t id : ℕ) → S.places w ≡ Inside t id → t ≡ s → (is_open X ≡ true) ⊎ (is_shut X ≡ true))
     (else_ : (t id : ℕ) → S.places w ≡ Inside t id → t ≢ s → has_id X ≡ true → id_of X ≢ id) where
   abbrev Own : Act → Place → Note → Type 0
@@ -55,15 +57,19 @@ module _ {B : Type 0} (fits : ℕ → List (ℕ × ℕ) → B → Type 0) (d : S
       (λ c. cell-outside fits R' X n n' N x (cell-ranges fits R R' X false n N x
       (λ has. ap (λ b. cond b ((from, to) ∷ R (id_of X)) (R (id_of X))) (ne_eqb id (id_of X) (λ e. else_ t id at other has (sym e)))) c)))
 
-  own-leaves : (p q : Place) (n : Note) → has_own_cell q s ≡ false → (has_cell p ≡ true → n ≡ note.Kept) → CellAt fits R X (has_own_cell p s) n N x → CellAt fits R X (has_own_cell q s) n N x
-  own-leaves p q n out kept c = subst (λ b. CellAt fits R X b n N x) (sym out) (cell-leaves fits R X (has_own_cell p s) n n N x (λ h. kept (own-has p s h)) c)
+  own-leaves : (p q : Place) (n : Note) → has_own_cell q s ≡ false → (has_cell p ≡ true → n ≡ note.Kept) → CellAt fits R X (has_own_cell p s) n N x
+      → CellAt fits R X (has_own_cell q s) n N x
+  own-leaves p q n out kept c = subst (λ b. CellAt fits R X b n N x) (sym out)
+      (cell-leaves fits R X (has_own_cell p s) n n N x (λ h. kept (own-has p s h)) c)
 
-  pub own-cell : (totals : ℕ → Option ℕ) (notes : ℕ → Note) (a : Act) → IsAllowed d S w a → NotesAllow totals d w (S.places w) notes a → Own a (S.places w) (notes w)
+  pub own-cell : (totals : ℕ → Option ℕ) (notes : ℕ → Note) (a : Act) → IsAllowed d S w a → NotesAllow totals d w (S.places w) notes a
+      → Own a (S.places w) (notes w)
   own-cell totals notes (Enter t) ok allow = subst (λ q. Own (Enter t) q (notes w)) (sym ok.0) (λ c. c)
   own-cell totals notes (LookOpen id) ok allow = subst (λ q. Own (LookOpen id) q (notes w)) (sym ok.1) (own-looks ok.0 id (notes w))
   own-cell totals notes LookInvalid ok allow = subst (λ q. Own LookInvalid q (notes w)) (sym ok.1) (λ c. c)
   own-cell totals notes LookVacant ok allow = subst (λ q. Own LookVacant q (notes w)) (sym ok.1) (λ c. c)
-  own-cell totals notes (ClaimRange k from to) ok allow = subst (λ q. Own (ClaimRange k from to) q (notes w)) (sym ok.2) (own-claims k from to ok.0 ok.1 (notes w) ok.2)
+  own-cell totals notes (ClaimRange k from to) ok allow = subst (λ q. Own (ClaimRange k from to) q (notes w)) (sym ok.2)
+      (own-claims k from to ok.0 ok.1 (notes w) ok.2)
   own-cell totals notes (ClaimUsed k) ok allow = subst (λ q. Own (ClaimUsed k) q (notes w)) (sym ok.2) (λ c. c)
   own-cell totals notes ShutWon ok allow = subst (λ q. Own ShutWon q (notes w)) (sym ok.2) (λ c. c)
   own-cell totals notes ShutLost ok allow = subst (λ q. Own ShutLost q (notes w)) (sym ok.2) (λ c. c)
@@ -85,6 +91,7 @@ module _ {B : Type 0} (fits : ℕ → List (ℕ × ℕ) → B → Type 0) (d : S
   own-cell totals notes (Total t) ok allow = subst (λ q. Own (Total t) q (notes w)) (sym ok.2) (λ c. c)
   own-cell totals notes (Install id) ok allow = subst (λ q. Own (Install id) q (notes w)) (sym ok.2) (λ c. c)
   own-cell totals notes Release ok allow = subst (λ q. Own Release q (notes w)) (sym ok.2) (λ c. c)
-  own-cell totals notes Tell ok allow = subst (λ q. Own Tell q (notes w)) (sym ok.3) (λ c. subst (λ b. CellAt fits R X b (notes w) N x) (sym (told-outside d ok.0 ok.2 s ok.1)) c)
+  own-cell totals notes Tell ok allow = subst (λ q. Own Tell q (notes w)) (sym ok.3)
+      (λ c. subst (λ b. CellAt fits R X b (notes w) N x) (sym (told-outside d ok.0 ok.2 s ok.1)) c)
   own-cell totals notes (TakeReturn part bits) ok allow = λ c. c
   own-cell totals notes (TakeChange part bits) ok allow = λ c. c

@@ -27,7 +27,8 @@ use Rattle.slot_station.proofs.Ids.{unclaimed}
 use Rattle.slot_station.specs.Cells.{NotesAllow}
 
 -- the cell of the worker v at the slot s, which has x; its values meet `fits`
-module _ {B : Type 0} (fits : ℕ → List (ℕ × ℕ) → B → Type 0) (d : Shape) (h : List Entry) (N : ℕ → ℕ → Note) (w s v : ℕ) (in_v : v < d.workers) (x : Option B) where
+module _ {B : Type 0} (fits : ℕ → List (ℕ × ℕ) → B → Type 0) (d : Shape) (h : List Entry) (N : ℕ → ℕ → Note) (w s v : ℕ) (in_v : v < d.workers)
+    (x : Option B) where
   abbrev old : ObjectState
   old = state_after d h
 
@@ -47,7 +48,8 @@ module _ {B : Type 0} (fits : ℕ → List (ℕ × ℕ) → B → Type 0) (d : S
   abbrev pub At : Act → SlotState → Type 0
   At a X = CellAt fits (ranges a) X (inside a) (notes_after w a N v v) (notes a) x
 
-  held-here : (a : Act) (t : ℕ) (k : Held) → IsLegal d (entry w a ∷ h) → old.places w ≡ Holding t k → s ≡ slot_of (old.places w) → IsHeldBy w k (old.slots s)
+  held-here : (a : Act) (t : ℕ) (k : Held) → IsLegal d (entry w a ∷ h) → old.places w ≡ Holding t k → s ≡ slot_of (old.places w)
+      → IsHeldBy w k (old.slots s)
   held-here a t k legal at is = subst (λ r. IsHeldBy w k (old.slots r)) (sym (is ∙ ap slot_of at)) (holder-slot d old (table d h legal.2) w t k legal.0 at)
 
   -- nobody is inside a slot whose task set is finalised now
@@ -66,34 +68,44 @@ module _ {B : Type 0} (fits : ℕ → List (ℕ × ℕ) → B → Type 0) (d : S
   opened-unclaimed id legal = dite (ℕ_discrete v w) (ranges-mine d v id (entry w (Install id)) h) (ranges-other d v id (entry w (Install id)) h)
       ∙ unclaimed d h w id legal v
 
-  last-cell : (a : Act) (k : Held) → IsLegal d (entry w a ∷ h) → moved d a (old.places w) ≡ Holding s k → notes a w ≡ note.Kept → At a (old.slots s) → At a (finalised_by w (old.slots s))
-  last-cell a k legal at kept = subst (λ b. CellAt fits (ranges a) (old.slots s) b (notes_after w a N v v) (notes a) x → CellAt fits (ranges a) (finalised_by w (old.slots s)) b (notes_after w a N v v) (notes a) x)
+  last-cell : (a : Act) (k : Held) → IsLegal d (entry w a ∷ h) → moved d a (old.places w) ≡ Holding s k → notes a w ≡ note.Kept → At a (old.slots s)
+      → At a (finalised_by w (old.slots s))
+  last-cell a k legal at kept = subst (λ b. CellAt fits (ranges a) (old.slots s) b (notes_after w a N v v) (notes a) x
+      → CellAt fits (ranges a) (finalised_by w (old.slots s)) b (notes_after w a N v v) (notes a) x)
       (sym (finalised-outside a k legal at)) (cell-finalised fits (ranges a) (notes_after w a N v v) (notes a) x w (old.slots s) kept)
 
-  installed-cell : (id t : ℕ) (k : Held) → IsLegal d (entry w (Install id) ∷ h) → N w v ≡ note.Fresh → old.places w ≡ Holding t k → id ≡ next_id k → s ≡ slot_of (old.places w)
+  installed-cell : (id t : ℕ) (k : Held) → IsLegal d (entry w (Install id) ∷ h) → N w v ≡ note.Fresh → old.places w ≡ Holding t k → id ≡ next_id k
+      → s ≡ slot_of (old.places w)
       → At (Install id) (old.slots s) → At (Install id) (opened id (old.slots s))
   installed-cell id t k legal fresh at next is =
       let held : IsHeldBy w k (old.slots s) = held-here (Install id) t k legal at is in
       let n : Note = notes_after w (Install id) N v v in
-      subst (λ b. CellAt fits (ranges (Install id)) (old.slots s) b n (notes (Install id)) x → CellAt fits (ranges (Install id)) (opened id (old.slots s)) b n (notes (Install id)) x)
+      subst (λ b. CellAt fits (ranges (Install id)) (old.slots s) b n (notes (Install id)) x
+      → CellAt fits (ranges (Install id)) (opened id (old.slots s)) b n (notes (Install id)) x)
       (sym (opened-outside id k legal held))
-      (cell-opened fits (ranges (Install id)) n (notes (Install id)) x w id k (old.slots s) held next (opened-unclaimed id legal) (note-mine w (Install id) N v ∙ fresh))
+      (cell-opened fits (ranges (Install id)) n (notes (Install id)) x w id k (old.slots s) held next (opened-unclaimed id legal)
+      (note-mine w (Install id) N v ∙ fresh))
 
   pub slot-cell : (totals : ℕ → Option ℕ) (a : Act) → IsLegal d (entry w a ∷ h) → NotesAllow totals d w (old.places w) (N w) a → s ≡ site a (old.places w)
       → At a (old.slots s) → At a (slot_after d w a (old.slots s))
   slot-cell totals (ClaimRange k from to) legal allow is = cell-claimed fits (ranges (ClaimRange k from to)) _ _ _ x k (old.slots s)
   slot-cell totals (ClaimUsed k) legal allow is = cell-claimed fits (ranges (ClaimUsed k)) _ _ _ x k (old.slots s)
   slot-cell totals ShutWon legal allow is = cell-shut fits (ranges ShutWon) _ _ _ x w (old.slots s)
-  slot-cell totals PayLast legal allow is = last-cell PayLast _ legal (ap (λ t. Holding t (finalisation (id_at (old.places w)))) (sym is)) (note-mine w PayLast N v)
+  slot-cell totals PayLast legal allow is = last-cell PayLast _ legal (ap (λ t. Holding t (finalisation (id_at (old.places w)))) (sym is))
+      (note-mine w PayLast N v)
   slot-cell totals PayDone legal allow is = cell-ended fits (ranges PayDone) _ _ _ x d w PayDone (old.slots s)
   slot-cell totals MarkMarked legal allow is = cell-ended fits (ranges MarkMarked) _ _ _ x d w MarkMarked (old.slots s)
   slot-cell totals MarkMissed legal allow is = cell-ended fits (ranges MarkMissed) _ _ _ x d w MarkMissed (old.slots s)
-  slot-cell totals SweepLast legal allow is = last-cell SweepLast _ legal (ap (λ t. Holding t (finalisation (id_at (old.places w)))) (sym is)) (note-mine w SweepLast N v)
+  slot-cell totals SweepLast legal allow is = last-cell SweepLast _ legal (ap (λ t. Holding t (finalisation (id_at (old.places w)))) (sym is))
+      (note-mine w SweepLast N v)
   slot-cell totals (SweepOthers k) legal allow is = cell-ended fits (ranges (SweepOthers k)) _ _ _ x d w (SweepOthers k) (old.slots s)
-  slot-cell totals (ReserveGot t) legal allow is = cell-reserved fits (ranges (ReserveGot t)) _ _ _ x w (old.slots s) (ap (λ r. is_empty (old.slots r)) is ∙ legal.1.2) (note-mine w (ReserveGot t) N v)
-  slot-cell totals (AdmitGot q) legal allow is = cell-admitted fits (ranges (AdmitGot q)) _ _ _ x q w legal.1.1 (old.slots s) (held-here (AdmitGot q) legal.1.0 legal.1.1 legal legal.1.2 is) legal.1.3
+  slot-cell totals (ReserveGot t) legal allow is = cell-reserved fits (ranges (ReserveGot t)) _ _ _ x w (old.slots s)
+      (ap (λ r. is_empty (old.slots r)) is ∙ legal.1.2) (note-mine w (ReserveGot t) N v)
+  slot-cell totals (AdmitGot q) legal allow is = cell-admitted fits (ranges (AdmitGot q)) _ _ _ x q w legal.1.1 (old.slots s)
+      (held-here (AdmitGot q) legal.1.0 legal.1.1 legal legal.1.2 is) legal.1.3
   slot-cell totals (NoteDone k) legal allow is = cell-noted fits (ranges (NoteDone k)) _ _ _ x k (old.slots s)
   slot-cell totals (Total k) legal allow is = cell-totalled fits (ranges (Total k)) _ _ _ x k (old.slots s)
   slot-cell totals (Install id) legal allow is = installed-cell id legal.1.0 legal.1.1 legal (allow.0 v in_v) legal.1.2 legal.1.4 is
-  slot-cell totals Release legal allow is = cell-released fits (ranges Release) _ _ _ x w legal.1.1 (old.slots s) (held-here Release legal.1.0 legal.1.1 legal legal.1.2 is) (note-mine w Release N v ∙ allow v in_v)
+  slot-cell totals Release legal allow is = cell-released fits (ranges Release) _ _ _ x w legal.1.1 (old.slots s)
+      (held-here Release legal.1.0 legal.1.1 legal legal.1.2 is) (note-mine w Release N v ∙ allow v in_v)
   slot-cell totals _ legal allow is = λ c. c

@@ -23,8 +23,15 @@ use Rattle.slot_station.specs.Replies.{mark_act, admit_act, admitted_holder, mar
 use Rattle.slot_station.specs.Tokens.{IsHolder, IsCoordinator, IsAnnouncer, opens, last_opened}
 
 -- a holder after it admitted a query, noted or set a total; where the admission is lost it is the same
-pub admit-holds : (d : Shape) (w : ℕ) (p r : Place) (h : Holder) (q : ℕ) (a : Admit) → IsHolder d w p h → r ≡ moved d (admit_act q a) p → IsHolder d w r (admitted_holder q a h)
-admit-holds d w p r h q admit.Got ok goes = record { worker = ok.worker; noted = ok.noted; total = ok.total; place = goes ∙ ap (moved d (AdmitGot q)) ok.place }
+pub admit-holds : (d : Shape) (w : ℕ) (p r : Place) (h : Holder) (q : ℕ) (a : Admit) → IsHolder d w p h → r ≡ moved d (admit_act q a) p
+    → IsHolder d w r (admitted_holder q a h)
+admit-holds d w p r h q admit.Got ok goes = record {
+  worker = ok.worker;
+  noted = ok.noted;
+  total = ok.total;
+  place = goes ∙ ap
+      (moved d (AdmitGot q)) ok.place;
+}
 admit-holds d w p r h q (admit.Lost other) ok goes = record { worker = ok.worker; noted = ok.noted; total = ok.total; place = goes ∙ ok.place }
 
 pub note-holds : (d : Shape) (w : ℕ) (p r : Place) (h : Holder) (k : ℕ) → IsHolder d w p h → r ≡ moved d (NoteDone k) p → IsHolder d w r h
@@ -40,11 +47,13 @@ mark-holds d w p r c mark.Marked ok goes = record { worker = ok.worker; workers 
 mark-holds d w p r c mark.Missed ok goes = record { worker = ok.worker; workers = ok.workers; place = goes ∙ ap (moved d MarkMissed) ok.place }
 
 -- an announcer that told one more, and is not done
-pub tell-holds : (d : Shape) (w : ℕ) (p r : Place) (x : Announcer) → IsAnnouncer d w p x → r ≡ moved d Tell p → x.told + 1 < d.workers → IsAnnouncer d w r (record x { told = x.told + 1 })
+pub tell-holds : (d : Shape) (w : ℕ) (p r : Place) (x : Announcer) → IsAnnouncer d w p x → r ≡ moved d Tell p → x.told + 1 < d.workers
+    → IsAnnouncer d w r (record x { told = x.told + 1 })
 tell-holds d w p r x ok goes more = record {
   worker = ok.worker;
   workers = ok.workers;
-  place = goes ∙ ap (moved d Tell) ok.place ∙ ap (λ b. cond b Free (Announcing x.slot x.again (x.told + 1))) (ne_eqb (x.told + 1) d.workers (λ e. omega arith));
+  place = goes ∙ ap (moved d Tell) ok.place ∙ ap (λ b. cond b Free (Announcing x.slot x.again (x.told + 1)))
+      (ne_eqb (x.told + 1) d.workers (λ e. omega arith));
 }
 
 -- ---- the slot that an announcer opened
@@ -144,8 +153,10 @@ opened-step d w s k again e es ih (yes same) at =
     let goes = sym (place-mine d e es w same) ∙ at in
     let eqs : eqb w e.worker ≡ true = eq-eqb w e.worker same in
     ⊎_elim
-    (λ (j, was, opens_). ap₂ (λ a b. cond (a && b) (Some (slot_of (place_of d es w), (held_at (place_of d es w)).again)) (last_opened d w es)) eqs opens_ ∙ ih j was)
-    (λ (opens_, slot, kind). ap₂ (λ a b. cond (a && b) (Some (slot_of (place_of d es w), (held_at (place_of d es w)).again)) (last_opened d w es)) eqs opens_
+    (λ (j, was, opens_). ap₂ (λ a b. cond (a && b) (Some (slot_of (place_of d es w), (held_at (place_of d es w)).again)) (last_opened d w es)) eqs opens_
+    ∙ ih j was)
+    (λ (opens_, slot, kind). ap₂ (λ a b. cond (a && b) (Some (slot_of (place_of d es w), (held_at (place_of d es w)).again)) (last_opened d w es)) eqs
+    opens_
     ∙ ap₂ (λ t b. Some (t, b)) slot kind)
     (announced d e.act (place_of d es w) s k again goes)
 opened-step d w s k again e es ih (no other) at =
@@ -153,6 +164,7 @@ opened-step d w s k again e es ih (no other) at =
     ∙ ih k (sym (place-other d e es w other) ∙ at)
 
 -- the slot that an announcer tells of is the one that it opened last
-pub announcer-opened : (d : Shape) (w s : ℕ) (again : Bool) (h : List Entry) (k : ℕ) → place_of d h w ≡ Announcing s again k → last_opened d w h ≡ Some (s, again)
+pub announcer-opened : (d : Shape) (w s : ℕ) (again : Bool) (h : List Entry) (k : ℕ) → place_of d h w ≡ Announcing s again k
+    → last_opened d w h ≡ Some (s, again)
 announcer-opened d w s again [] k at = absurd (cc at)
 announcer-opened d w s again (e ∷ es) k at = opened-step d w s k again e es (announcer-opened d w s again es) (ℕ_discrete w e.worker) at

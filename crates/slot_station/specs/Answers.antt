@@ -1,4 +1,4 @@
--- What a one-thread table answers, by the caller's place and what the slot holds.
+-- What calls answer, by the caller's place and what the slot holds.
 use Rattle.std.specs.Prelude.{ℕ, ◌/◌, ◌%◌, Bool, true, false, cond, eqb, Option, Some, None}
 use Rattle.slot_history.specs.declared.shape.Shape.{Shape}
 use Rattle.slot_history.specs.declared.shape.TheConstants.{STAGES}
@@ -29,11 +29,24 @@ module _ (w : ℕ) (p : Place) where
   claim_of (Some r) = claim.Range r.0 r.1
 
   abbrev pub shut_of : Shape → Bool → Shut
-  shut_of d true = shut.Won (record { worker = w; slot = slot_of p; id = id_at p; workers = d.workers; asked = 0; marked = 0 })
+  shut_of d true = shut.Won (record {
+    worker = w;
+    slot = slot_of p;
+    id = id_at p;
+    workers = d.workers;
+    asked = 0;
+    marked = 0;
+  })
   shut_of d false = shut.Lost
 
   abbrev pub finaliser_of : Holder
-  finaliser_of = record { worker = w; slot = slot_of p; query = Some (id_at p / STAGES); stage = id_at p % STAGES; again = true }
+  finaliser_of = record {
+    worker = w;
+    slot = slot_of p;
+    query = Some (id_at p / STAGES);
+    stage = id_at p % STAGES;
+    again = true;
+  }
 
   -- where so many workers have to pay
   abbrev pub sweep_of : ℕ → Sweep
@@ -53,8 +66,12 @@ abbrev pub mark_of : Bool → Mark
 mark_of true = mark.Marked
 mark_of false = mark.Missed
 
+-- the holder that a worker becomes by a reservation
+abbrev pub reserver_of : ℕ → ℕ → Holder
+reserver_of w s = record { worker = w; slot = s; query = None; stage = 0; again = false }
+
 abbrev pub reserve_of : ℕ → ℕ → SlotState → Reserve
-reserve_of w s x = cond (is_empty x) (reserve.Got (record { worker = w; slot = s; query = None; stage = 0; again = false })) (reserve.Taken (slot_word x))
+reserve_of w s x = cond (is_empty x) (reserve.Got (reserver_of w s)) (reserve.Taken (slot_word x))
 
 -- where so many queries are admitted
 abbrev pub admit_of : ℕ → ℕ → Admit

@@ -12,21 +12,23 @@ use Rattle.slot_station.specs.declared.note.Note.{Note}
 use Rattle.slot_station.specs.declared.note.Note.TheVariants.{Kept}
 use Rattle.slot_station.specs.Cells.{has_cell, noted, NoteSays, FitsNext, FitsFinalised}
 
--- what no call of a station changes: whose it is, how large the object is, and the subject that the object serves
+-- what no call of a station changes: whose it is, how large the object is, and the subject that the
+-- object serves
 pub record Desk (Sub : Type 0) : Type 0 where
   pub worker : ℕ
   pub shape : Shape
   pub subject : Sub
 
--- what holds of the desk of every station: the numbers are in range, and the queries are the subject's
+-- what holds of the desk of every station: the numbers are in range, the queries the subject's
 pub record IsDesk {Sub : Type 0} (queries : Sub → ℕ) (desk : Desk Sub) : Type 0 where
   pub below : desk.worker < desk.shape.workers
   pub workers : (0 < desk.shape.workers) × (desk.shape.workers ≤ MOST_WORKERS)
   pub slots : (0 < desk.shape.slots) × (desk.shape.slots ≤ MOST_SLOTS)
   pub queries_are : desk.shape.queries ≡ queries desk.subject
 
--- what a station shows of itself: its origin and its desk, which no call changes; all that its worker has seen, the newest
--- first; and of each worker the note of its cell at the slot at which the station's worker is, if that cell is with it
+-- What a station shows of itself: its origin and its desk, which no call changes; all that its worker
+-- has seen, the newest first; and of each worker the note of its cell at the slot at which the
+-- station's worker is, if that cell is with it.
 pub record Seen (O Sub : Type 0) : Type 0 where
   pub origin : O
   pub desk : Desk Sub
@@ -54,7 +56,7 @@ module _ {O Sub : Type 0} where
   abbrev pub own_total : (Sub → ℕ → Option ℕ) → Seen O Sub → Option ℕ
   own_total total x = totals_of total x (id_at (own_place x))
 
-  -- a token, or what a reply brings, is this worker's: `Is` says so of it by a shape, a worker and its place
+  -- a token, or what a reply brings, is this worker's: `Is` says so by a shape, a worker and its place
   abbrev pub Owns : {X : Type 0} → (Shape → ℕ → Place → X → Type 0) → Seen O Sub → X → Type 0
   Owns Is x token = Is x.desk.shape x.desk.worker (own_place x) token
 
@@ -66,14 +68,16 @@ module _ {O Sub : Type 0} where
   abbrev pub KeptOwn : Seen O Sub → Type 0
   KeptOwn x = has_cell (own_place x) ≡ true → x.notes x.desk.worker ≡ Kept
 
-  -- The worker made this call. Its trail went on by what it had not seen and ends with the call; it is a legal history of the
-  -- subject, and of the worker it has just its own calls. The notes changed as the call says.
+  -- The worker made this call. Its trail went on by what it had not seen and ends with the call; it is
+  -- a legal history of the subject, and of the worker it has just its own calls. The notes changed as
+  -- the call says.
   pub record Makes (total : Sub → ℕ → Option ℕ) (a : Act) (old new : Seen O Sub) : Type 0 where
     pub origin : new.origin ≡ old.origin
     pub desk : new.desk ≡ old.desk
     pub called : Called old.desk.shape old.desk.worker a old.trail new.trail
     pub of_subject : IsOfTotals (totals_of total old) old.desk.shape new.trail
-    pub notes : (v : ℕ) → v < old.desk.shape.workers → new.notes v ≡ noted a old.desk.worker v (old.notes v)
+    pub notes : (v : ℕ) → v < old.desk.shape.workers
+        → new.notes v ≡ noted a old.desk.worker v (old.notes v)
 
   -- the worker made no call; it may have exchanged cells
   pub record KeepsTrail (old new : Seen O Sub) : Type 0 where
@@ -91,20 +95,21 @@ module _ {O Sub : Type 0} where
   abbrev pub ExchangesOwn : Note → Seen O Sub → Seen O Sub → Type 0
   ExchangesOwn note old new = Exchanges old.desk.worker note old new
 
-  -- what the values of cells have to fit: `fits` is of a subject, a worker, a task set and the ranges claimed of it
+  -- what the values of cells have to fit: `fits` is of a subject, a worker, a task set and its ranges
   module _ {B : Type 0} (fits : Sub → ℕ → ℕ → List (ℕ × ℕ) → B → Type 0) (x : Seen O Sub) where
     -- of the own cell: the ranges that the worker claimed of the task set with which it is inside
     abbrev pub OwnFits : B → Type 0
     OwnFits b = fits x.desk.subject x.desk.worker (id_at (own_place x)) (own_ranges x) b
 
-    -- of the cell of v at the slot that is held: the task set that may be installed next, and no ranges
+    -- of the cell of v at the slot that is held: the task set that may be installed next, no ranges
     abbrev pub NextFits : ℕ → B → Type 0
     NextFits v b = FitsNext (fits x.desk.subject v) (own_holding x) b
 
     -- of that cell: the ranges that v claimed of the task set that is finalised
     abbrev pub FinalisedFits : ℕ → B → Type 0
     FinalisedFits v b =
-        FitsFinalised (fits x.desk.subject v) (λ id. ranges_of x.desk.shape v id x.trail) (own_holding x) b
+        let ranges : ℕ → List (ℕ × ℕ) = λ id. ranges_of x.desk.shape v id x.trail in
+        FitsFinalised (fits x.desk.subject v) ranges (own_holding x) b
 
     -- the own cell holds what its note says
     abbrev pub OwnCellSays : Option B → Type 0

@@ -1,6 +1,7 @@
 pub mod Answers
 pub mod Cells
 pub mod Desks
+pub mod Laws
 pub mod Log
 pub mod Notes
 pub mod Places

@@ -73,9 +73,10 @@ abbrev pub SeesTaskSet : (ℕ → Option ℕ) → Look → Type 0
 SeesTaskSet total (look.Open id) = IsSome (total id)
 SeesTaskSet total _ = Unit {0}
 
--- a range is not empty, and is cut at the task set's total; of a claim without a range nothing is said
+-- a range is not empty, and is cut at the task set's total; of no range nothing is said
 abbrev pub IsCutRange : Option ℕ → ℕ → Claim → Type 0
-IsCutRange total n (claim.Range from to) = IsSomeAnd total (λ t. (from < t) × (to ≡ min t (from + n)))
+IsCutRange total n (claim.Range from to) =
+    IsSomeAnd total (λ t. (from < t) × (to ≡ min t (from + n)))
 IsCutRange total n (claim.Exhausted x) = Unit {0}
 
 -- a range begins where each of these ended, or later

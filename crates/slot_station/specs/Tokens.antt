@@ -58,7 +58,13 @@ module _ (d : Shape) (w : ℕ) (p : Place) where
     pub worker : x.worker ≡ w
     pub noted : ℕ
     pub total : Option ℕ
-    pub place : p ≡ Holding x.slot (record { query = x.query; stage = x.stage; again = x.again; noted = noted; total = total })
+    pub place : p ≡ Holding x.slot (record {
+      query = x.query;
+      stage = x.stage;
+      again = x.again;
+      noted = noted;
+      total = total;
+    })
 
   -- the worker opened the slot, and told so many workers
   pub record IsAnnouncer (x : Announcer) : Type 0 where
@@ -98,7 +104,9 @@ opens _ = false
 -- the slot that the worker w opened last, and whether it did so after a finalisation
 abbrev pub last_opened : Shape → ℕ → List Entry → Option (ℕ × Bool)
 last_opened d w [] = None
-last_opened d w (e ∷ es) = cond (eqb w e.worker && opens e.act) (Some (slot_of (place_of d es w), (held_at (place_of d es w)).again)) (last_opened d w es)
+last_opened d w (e ∷ es) =
+    let p = place_of d es w in
+    cond (eqb w e.worker && opens e.act) (Some (slot_of p, (held_at p).again)) (last_opened d w es)
 
 -- the token of the worker's last install, after it has told every worker
 pub record IsDone {O Sub : Type 0} (x : Seen O Sub) (token : Announcer) : Type 0 where

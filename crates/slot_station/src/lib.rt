@@ -11,8 +11,11 @@
 #![tactic(auto)]
 
 pub mod answers;
+pub mod history;
+pub mod laws;
 pub mod limits;
 pub mod log;
+pub mod memo;
 pub mod moves;
 pub mod note;
 pub mod notes;
@@ -21,4 +24,11 @@ pub mod station;
 pub mod steps;
 pub mod token;
 
-pub use slot_history::{act, laws, place, shape};
+pub use history::{History, HistoryKeeper, ShowsHistory};
+pub use memo::Memo;
+pub use note::Note;
+pub use reply::{Admit, Claim, Leave, Look, MakeRefusal, Mark, Pay, Reserve, Shut, Sweep};
+pub use slot_history::{act, place, shape};
+pub use station::{Fits, Station};
+pub use steps::{StepWork, Steps, run_uncounted};
+pub use token::{Announcer, Coordinator, Debt, Holder, Spent};

@@ -1,5 +1,7 @@
 //! Where a call leaves its worker.
-ghost use Rattle.std.specs.Prelude.{◌≡◌, ◌<◌};
+ghost use Rattle.std.specs.Prelude.{◌≡◌, ◌<◌, ◌↔◌, IsTrue};
+ghost use Rattle.slot_history.specs.Allowed.{IsReady};
+ghost use Rattle.slot_station.specs.Cells as cells;
 ghost use Rattle.slot_history.specs.States as states;
 ghost use Rattle.slot_history.specs.Steps.{moved, asked_one, told_one, holding_after};
 ghost use Rattle.slot_station.specs.Places.{IsCounted};
@@ -52,6 +54,35 @@ pub fn is_at(place: &Place, slot: u32) -> bool
             == slot,
         _ => false,
     }
+}
+
+/// Whether a worker at this place has a cell of its own.
+pub fn has_cell(place: &Place) -> bool
+    ensures { result ≡ cells.has_cell place.now }
+{
+    matches!(
+        place,
+        Place::Inside(..) | Place::Used(..) | Place::Behind(..) | Place::Leading(..)
+    )
+}
+
+/// Whether a worker at this place may leave its slot.
+pub fn can_leave(place: &Place) -> bool
+    ensures { result ≡ states.can_leave place.now }
+{
+    matches!(
+        place,
+        Place::Astray(_) | Place::Inside(..) | Place::Behind(..) | Place::Leading(..)
+    )
+}
+
+/// Whether a holding may install its next task set: the total is set, and after a finalisation one task set was noted
+/// and the query may have another stage.
+pub fn is_ready(held: &Held) -> bool
+    ensures { IsTrue result ↔ IsReady held.now }
+{
+    let may_go_on = !held.again || held.noted == 1 && held.stage < STAGES - 1;
+    held.query.is_some() && held.total.is_some() && may_go_on
 }
 
 /// What the holder of a slot has when it reserved the slot.

@@ -1,7 +1,8 @@
-//! Lists that only contracts see. At run time each is one word and a seat of no bytes.
+//! A list that only contracts see. At run time it is one word and a seat of no bytes.
 ghost use Rattle.std.specs.Prelude.{◌≡◌, List, ℕ, [], ◌∷◌, ◌<◌, IfOk};
 
-use crate::log::Logged;
+pub use crate::history::History;
+pub use crate::memo::Memo;
 use atomic_table::{Badge, Play, Seat, Table, TableRule};
 use std::alloc::{AllocError, Global};
 use std::collections::LinkedList;
@@ -16,7 +17,7 @@ impl<E> TableRule<E, LinkedList<E>, ()> for AnyWord {
     ghost first = { λ _. [] };
 }
 
-/// What was said is one more in the view.
+/// What is said is one more in the view.
 struct Noting;
 
 impl<E> Play<E, LinkedList<E>> for Noting {
@@ -25,7 +26,7 @@ impl<E> Play<E, LinkedList<E>> for Noting {
     ghost then = { Adds };
 }
 
-/// The values noted so far, the newest first. Contracts see the list.
+/// The values that were noted so far, the newest first. Contracts see the list.
 pub struct Notes<E> {
     table: Table<E, LinkedList<E>, (), AnyWord, Global>,
     seat: Seat<E, LinkedList<E>>,
@@ -48,7 +49,7 @@ impl<E> Notes<E> {
         Ok(Notes { table, seat })
     }
 
-    /// One more value is noted. It takes no memory.
+    /// Notes one more value. It takes no memory.
     pub fn note(&mut self, item: &E)
         ensures { self.new ≡ item.now ∷ self.old }
     {
@@ -74,64 +75,5 @@ impl<E> Drop for Notes<E> {
         let Notes { table, seat } = self;
         drop(seat);
         table.close().free();
-    }
-}
-
-/// The numbers noted so far, the newest first: one word at run time, and contracts see the list.
-#[derive(Drop)]
-pub struct Memo {
-    notes: Notes<u64>,
-}
-
-impl Model for Memo {
-    ghost Value = { List ℕ };
-
-    ghost view = { λ m. m.notes };
-}
-
-impl Memo {
-    /// Nothing is noted yet.
-    pub fn new(alloc: Global) -> Result<Memo, AllocError>
-        ensures { IfOk result (λ m. m ≡ []) }
-    {
-        Ok(Memo {
-            notes: Notes::new(alloc)?,
-        })
-    }
-
-    /// One more number is noted. It takes no memory.
-    pub fn note(&mut self, value: u64)
-        ensures { self.new ≡ value ∷ self.old }
-    {
-        self.notes.note(&value);
-    }
-}
-
-/// The history of a table that has ended. It holds a seat's view and no entries at run time; contracts see the list of
-/// its entries, the newest first.
-#[derive(Drop)]
-pub struct History {
-    badge: Badge<LinkedList<Logged>>,
-}
-
-impl Model for History {
-    ghost use Rattle.slot_history.specs.declared.act.Entry.{Entry};
-    ghost use Rattle.std.specs.Prelude.{List};
-    ghost use Rattle.slot_station.specs.Log.{calls_in};
-
-    ghost Value = { List Entry };
-
-    ghost view = { λ h. calls_in h.badge.views };
-}
-
-impl History {
-    ghost use Rattle.slot_station.specs.Log.{calls_in};
-    ghost use Rattle.std.specs.Prelude.{◌≡◌};
-
-    /// The history whose log the badge shows.
-    pub fn of(badge: Badge<LinkedList<Logged>>) -> History
-        ensures { result ≡ calls_in badge.views }
-    {
-        History { badge }
     }
 }

@@ -13,7 +13,8 @@ admit-admit-requires-clause-place g c =
     place-for x (λ p. (s : ℕ) × (h : Held) × (p ≡ Holding s h) × (h.query ≡ None)) (c.args.holder.now.slot, _, c.requires.holder.place, c.requires.none)
 
 pub admit-admit-requires-clause-query : goal.admit-admit-requires-clause-query
-admit-admit-requires-clause-query g c = shape-for (seat c.args.self.now c.table.inside c.table.view_is c.table.invariant) (λ (d : Shape). c.args.q < d.queries) c.requires.query
+admit-admit-requires-clause-query g c = shape-for (seat c.args.self.now c.table.inside c.table.view_is c.table.invariant)
+    (λ (d : Shape). c.args.q < d.queries) c.requires.query
 
 pub invariant_of-table : goal.invariant_of-table
 invariant_of-table g c =
@@ -34,4 +35,5 @@ returns-clause-holder g c =
     let w = c.args.self.now.worker in
     let old = token-old x (λ d p. IsHolder d w p c.args.holder.now) c.requires.holder in
     token-for x c.admit-admit.ensures (λ d p. IsHolder d w p c.admit.new.self)
-    (rw c.admit.ensures (admit-holds (g.O.SlotObject.story c.table.inside.object).shape w _ _ c.args.holder.now c.args.q c.admit-admit.result old (new-place x c.admit-admit.ensures)))
+    (rw c.admit.ensures (admit-holds (g.O.SlotObject.story c.table.inside.object).shape w _ _ c.args.holder.now c.args.q c.admit-admit.result old
+    (new-place x c.admit-admit.ensures)))

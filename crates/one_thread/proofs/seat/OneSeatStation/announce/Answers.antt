@@ -31,4 +31,5 @@ returns-clause-announcer g c more =
     (tell-holds (g.O.SlotObject.story c.table.inside.object).shape w _ _ c.args.announcer.now old (new-place x c.announce.ensures.made) untold)
 
 pub returns-clause-done : goal.returns-clause-done
-returns-clause-done g c all = seat-done (seat c.args.self.now c.table.inside c.table.view_is c.table.invariant) c.announce.ensures.made c.args.announcer.now c.requires.announcer all
+returns-clause-done g c all = seat-done (seat c.args.self.now c.table.inside c.table.view_is c.table.invariant) c.announce.ensures.made c.args.announcer.now
+    c.requires.announcer all

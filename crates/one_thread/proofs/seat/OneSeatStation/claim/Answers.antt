@@ -6,7 +6,8 @@ use Rattle.one_thread.proofs.Seated.{seat, place-for, claim-allows, table-after,
 use Rattle.one_thread.proofs.seat.OneSeatStation.claim.Goals as goal
 
 pub claim-requires-clause-place : goal.claim-requires-clause-place
-claim-requires-clause-place g c = place-for (seat c.args.self.now c.table.inside c.table.view_is c.table.invariant) (λ p. (s id : ℕ) × (p ≡ Inside s id)) c.requires.place
+claim-requires-clause-place g c = place-for (seat c.args.self.now c.table.inside c.table.view_is c.table.invariant)
+    (λ p. (s id : ℕ) × (p ≡ Inside s id)) c.requires.place
 
 pub invariant_of-table : goal.invariant_of-table
 invariant_of-table g c =
@@ -27,7 +28,11 @@ returns-clause-spent g c =
     token-for x c.claim.ensures.made (λ d p. ClaimGives d c.args.self.now.worker p c.claim.result) c.claim.ensures.spent
 
 pub returns-clause-range : goal.returns-clause-range
-returns-clause-range g c = range-cut c.args.n c.claim.result (seat-makes (seat c.args.self.now c.table.inside c.table.view_is c.table.invariant) c.claim.ensures.made {o = tt {0}} (claim-allows (seat c.args.self.now c.table.inside c.table.view_is c.table.invariant) c.args.n c.claim.result))
+returns-clause-range g c = range-cut c.args.n c.claim.result
+    (seat-makes (seat c.args.self.now c.table.inside c.table.view_is c.table.invariant) c.claim.ensures.made {o = tt {0}}
+    (claim-allows (seat c.args.self.now c.table.inside c.table.view_is c.table.invariant) c.args.n c.claim.result))
 
 pub returns-clause-past : goal.returns-clause-past
-returns-clause-past g c = range-past c.args.n c.claim.result (seat-makes (seat c.args.self.now c.table.inside c.table.view_is c.table.invariant) c.claim.ensures.made {o = tt {0}} (claim-allows (seat c.args.self.now c.table.inside c.table.view_is c.table.invariant) c.args.n c.claim.result)) c.requires.place
+returns-clause-past g c = range-past c.args.n c.claim.result
+    (seat-makes (seat c.args.self.now c.table.inside c.table.view_is c.table.invariant) c.claim.ensures.made {o = tt {0}}
+    (claim-allows (seat c.args.self.now c.table.inside c.table.view_is c.table.invariant) c.args.n c.claim.result)) c.requires.place

@@ -8,7 +8,8 @@ pub enter-requires-clause-place : goal.enter-requires-clause-place
 enter-requires-clause-place g c = place-for (seat c.args.self.now c.table.inside c.table.view_is c.table.invariant) (λ p. p ≡ Free) c.requires.place
 
 pub enter-requires-clause-slot : goal.enter-requires-clause-slot
-enter-requires-clause-slot g c = shape-for (seat c.args.self.now c.table.inside c.table.view_is c.table.invariant) (λ (d : Shape). c.args.s < d.slots) c.requires.slot
+enter-requires-clause-slot g c = shape-for (seat c.args.self.now c.table.inside c.table.view_is c.table.invariant)
+    (λ (d : Shape). c.args.s < d.slots) c.requires.slot
 
 pub invariant_of-table : goal.invariant_of-table
 invariant_of-table g c = table-after (seat c.args.self.now c.table.inside c.table.view_is c.table.invariant) c.enter.ensures tt

@@ -6,7 +6,8 @@ use Rattle.one_thread.proofs.Seated.{seat, place-for, leave-allows, table-after,
 use Rattle.one_thread.proofs.seat.OneSeatStation.leave.Goals as goal
 
 pub leave-requires-clause-place : goal.leave-requires-clause-place
-leave-requires-clause-place g c = place-for (seat c.args.self.now c.table.inside c.table.view_is c.table.invariant) (λ p. can_leave p ≡ true) c.requires.place
+leave-requires-clause-place g c = place-for (seat c.args.self.now c.table.inside c.table.view_is c.table.invariant)
+    (λ p. can_leave p ≡ true) c.requires.place
 
 pub invariant_of-table : goal.invariant_of-table
 invariant_of-table g c =
@@ -27,7 +28,11 @@ returns-clause-debt g c =
     token-for x c.leave.ensures.made (λ d p. LeaveGives d c.args.self.now.worker p c.leave.result) c.leave.ensures.debt
 
 pub returns-clause-task_set : goal.returns-clause-task_set
-returns-clause-task_set g c = owes-task_set c.leave.result (seat-makes (seat c.args.self.now c.table.inside c.table.view_is c.table.invariant) c.leave.ensures.made {o = tt {0}} (leave-allows (seat c.args.self.now c.table.inside c.table.view_is c.table.invariant) c.leave.result c.requires.cell))
+returns-clause-task_set g c = owes-task_set c.leave.result
+    (seat-makes (seat c.args.self.now c.table.inside c.table.view_is c.table.invariant) c.leave.ensures.made {o = tt {0}}
+    (leave-allows (seat c.args.self.now c.table.inside c.table.view_is c.table.invariant) c.leave.result c.requires.cell))
 
 pub returns-clause-coordinator : goal.returns-clause-coordinator
-returns-clause-coordinator g c = coordinator-left c.leave.result (seat-makes (seat c.args.self.now c.table.inside c.table.view_is c.table.invariant) c.leave.ensures.made {o = tt {0}} (leave-allows (seat c.args.self.now c.table.inside c.table.view_is c.table.invariant) c.leave.result c.requires.cell))
+returns-clause-coordinator g c = coordinator-left c.leave.result
+    (seat-makes (seat c.args.self.now c.table.inside c.table.view_is c.table.invariant) c.leave.ensures.made {o = tt {0}}
+    (leave-allows (seat c.args.self.now c.table.inside c.table.view_is c.table.invariant) c.leave.result c.requires.cell))

@@ -5,7 +5,8 @@ use Rattle.one_thread.proofs.Seated.{seat, place-for, look-allows, table-after, 
 use Rattle.one_thread.proofs.seat.OneSeatStation.look.Goals as goal
 
 pub look-requires-clause-place : goal.look-requires-clause-place
-look-requires-clause-place g c = place-for (seat c.args.self.now c.table.inside c.table.view_is c.table.invariant) (λ p. (s : ℕ) × (p ≡ Entered s)) c.requires.place
+look-requires-clause-place g c = place-for (seat c.args.self.now c.table.inside c.table.view_is c.table.invariant)
+    (λ p. (s : ℕ) × (p ≡ Entered s)) c.requires.place
 
 pub invariant_of-table : goal.invariant_of-table
 invariant_of-table g c =
@@ -21,4 +22,6 @@ returns-clause-made g c =
     seat-makes x c.look.ensures (look-allows x c.look.result)
 
 pub returns-clause-task_set : goal.returns-clause-task_set
-returns-clause-task_set g c = sees-task_set c.look.result (seat-makes (seat c.args.self.now c.table.inside c.table.view_is c.table.invariant) c.look.ensures {o = tt {0}} (look-allows (seat c.args.self.now c.table.inside c.table.view_is c.table.invariant) c.look.result))
+returns-clause-task_set g c = sees-task_set c.look.result
+    (seat-makes (seat c.args.self.now c.table.inside c.table.view_is c.table.invariant) c.look.ensures {o = tt {0}}
+    (look-allows (seat c.args.self.now c.table.inside c.table.view_is c.table.invariant) c.look.result))

@@ -44,4 +44,5 @@ returns-clause-coordinator g c =
     let w = c.args.self.now.worker in
     let old = token-old x (λ d p. IsCoordinator d w p c.args.coordinator.now) c.requires.coordinator in
     token-for x c.mark_next-mark.ensures.made (λ d p. IsCoordinator d w p c.count.new.self)
-    (rw c.count.ensures (mark-holds (g.O.SlotObject.story c.table.inside.object).shape w _ _ c.args.coordinator.now c.mark_next-mark.result old (new-place x c.mark_next-mark.ensures.made)))
+    (rw c.count.ensures (mark-holds (g.O.SlotObject.story c.table.inside.object).shape w _ _ c.args.coordinator.now c.mark_next-mark.result old
+    (new-place x c.mark_next-mark.ensures.made)))

@@ -8,7 +8,8 @@ use Rattle.one_thread.proofs.seat.OneSeatStation.own_cell.Goals as goal
 pub index_mut-requires : goal.index_mut-requires
 index_mut-requires g c =
     let x = seat c.args.self.now c.table.inside c.table.view_is c.table.invariant in
-    let at = c.cell_index-at.ensures ∙ ap₂ (λ (d : Shape) (s : ℕ). s * d.workers + c.args.self.now.worker) c.shape.ensures.shape (c.slot_at-slot.ensures ∙ ap slot_of c.place.ensures) in
+    let at = c.cell_index-at.ensures ∙ ap₂ (λ (d : Shape) (s : ℕ). s * d.workers + c.args.self.now.worker) c.shape.ensures.shape
+    (c.slot_at-slot.ensures ∙ ap slot_of c.place.ensures) in
     let l = c.table.inside.cells.ok.0 in
     let i : c.cell_index-at.result < length c.table.inside.cells.items = own-index x c.shape.ensures.legal c.requires.place at in
     omega arith
@@ -16,7 +17,8 @@ index_mut-requires g c =
 pub invariant_of-table : goal.invariant_of-table
 invariant_of-table g c =
     let x = seat c.args.self.now c.table.inside c.table.view_is c.table.invariant in
-    let at = c.cell_index-at.ensures ∙ ap₂ (λ (d : Shape) (s : ℕ). s * d.workers + c.args.self.now.worker) c.shape.ensures.shape (c.slot_at-slot.ensures ∙ ap slot_of c.place.ensures) in
+    let at = c.cell_index-at.ensures ∙ ap₂ (λ (d : Shape) (s : ℕ). s * d.workers + c.args.self.now.worker) c.shape.ensures.shape
+    (c.slot_at-slot.ensures ∙ ap slot_of c.place.ensures) in
     seat-own x c.shape.ensures.legal c.requires.place at c.replace-old.ensures.after c.kept_for-note.ensures c.requires.fits c.exchanged.ensures
 
 pub invariant_of-self : goal.invariant_of-self
@@ -25,5 +27,6 @@ invariant_of-self g c = exchanged (seat c.args.self.now c.table.inside c.table.v
 pub returns-clause-says : goal.returns-clause-says
 returns-clause-says g c =
     let x = seat c.args.self.now c.table.inside c.table.view_is c.table.invariant in
-    let at = c.cell_index-at.ensures ∙ ap₂ (λ (d : Shape) (s : ℕ). s * d.workers + c.args.self.now.worker) c.shape.ensures.shape (c.slot_at-slot.ensures ∙ ap slot_of c.place.ensures) in
+    let at = c.cell_index-at.ensures ∙ ap₂ (λ (d : Shape) (s : ℕ). s * d.workers + c.args.self.now.worker) c.shape.ensures.shape
+    (c.slot_at-slot.ensures ∙ ap slot_of c.place.ensures) in
     seat-own_says x c.shape.ensures.legal c.requires.place at (rw c.replace-old.ensures.value c.index_mut.ensures.value)

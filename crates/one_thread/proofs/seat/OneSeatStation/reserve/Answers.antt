@@ -9,7 +9,8 @@ pub reserve-requires-clause-place : goal.reserve-requires-clause-place
 reserve-requires-clause-place g c = place-for (seat c.args.self.now c.table.inside c.table.view_is c.table.invariant) (λ p. p ≡ Free) c.requires.place
 
 pub reserve-requires-clause-slot : goal.reserve-requires-clause-slot
-reserve-requires-clause-slot g c = shape-for (seat c.args.self.now c.table.inside c.table.view_is c.table.invariant) (λ (d : Shape). c.args.s < d.slots) c.requires.slot
+reserve-requires-clause-slot g c = shape-for (seat c.args.self.now c.table.inside c.table.view_is c.table.invariant)
+    (λ (d : Shape). c.args.s < d.slots) c.requires.slot
 
 pub invariant_of-table : goal.invariant_of-table
 invariant_of-table g c =

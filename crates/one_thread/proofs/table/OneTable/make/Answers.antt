@@ -9,7 +9,9 @@ use Rattle.one_thread.proofs.table.OneTable.make.Goals as goal
 pub invariant_of-result : goal.invariant_of-result
 invariant_of-result g c =
     let d : Shape = record { workers = c.args.workers; slots = c.args.slots; queries = c.args.queries } in
-    let count : length c.loop.cells.items ≡ d.slots * d.workers = (let i = c.loop.invariant.count in let e = c.loop.auto.counter-end in let t = c.loop-test.false in omega arith) in
+    let count : length c.loop.cells.items ≡ d.slots * d.workers =
+    (let i = c.loop.invariant.count in let e = c.loop.auto.counter-end in let t = c.loop-test.false in omega arith) in
     let is = c.in-Ok.ensures ∙ ap (λ (e : Shape). let x : Story = record { shape = e; log = [] } in x) c.in_ok-shape.ensures.shape.1 in
     subst (λ (x : Story). IsTableKept g.B.Fits.queries g.B.Fits.total g.B.Fits.fits x.shape c.args.subject.value x.log c.loop.cells.items) (sym is)
-    (table-opening g.B.Fits.queries g.B.Fits.total g.B.Fits.fits d c.args.subject.value c.requires c.loop.cells.items count (none-of c.loop.cells.items c.loop.invariant.none))
+    (table-opening g.B.Fits.queries g.B.Fits.total g.B.Fits.fits d c.args.subject.value c.requires c.loop.cells.items count
+    (none-of c.loop.cells.items c.loop.invariant.none))

@@ -15,8 +15,11 @@ admit_at-admit-requires c =
 pub invariant_of-self : goal.invariant_of-self
 invariant_of-self c =
     let o = c.self.inside in
-    let at = of-story o _ c.self.view_is (λ (x : Story). (c.args.worker < x.shape.workers) × ((s : ℕ) × (h : Held) × (place_in x c.args.worker ≡ Holding s h) × (h.query ≡ None)) × (c.args.q < x.shape.queries)) (c.requires.worker, c.requires.place, c.requires.query) in
-    admit-after o c.self.invariant c.args.worker at.0 c.args.q at.1 at.2 c.admit_at-admit.result c.admit_at-admit.ensures.admit c.admit_at-admit.new.admitted c.admit_at-admit.ensures.admitted c.act.result c.act.ensures _ _ (c.step.ensures.places, c.step.ensures.log)
+    let at = of-story o _ c.self.view_is (λ (x : Story). (c.args.worker < x.shape.workers)
+    × ((s : ℕ) × (h : Held) × (place_in x c.args.worker ≡ Holding s h) × (h.query ≡ None)) × (c.args.q < x.shape.queries))
+    (c.requires.worker, c.requires.place, c.requires.query) in
+    admit-after o c.self.invariant c.args.worker at.0 c.args.q at.1 at.2 c.admit_at-admit.result c.admit_at-admit.ensures.admit
+    c.admit_at-admit.new.admitted c.admit_at-admit.ensures.admitted c.act.result c.act.ensures _ _ (c.step.ensures.places, c.step.ensures.log)
 
 pub returns : goal.returns
 returns c = makes _ _ _ _ c.args.worker _ c.act.result c.self.view_is c.act.ensures c.step.ensures.log (invariant_of-self c).legal

@@ -5,9 +5,12 @@ use Rattle.plain_slots.proofs.Following.{quiet, counted-at, of-story}
 use Rattle.plain_slots.proofs.object.PlainObjectSlotObject.arrivals.Goals as goal
 
 pub step-requires-clause-counted : goal.step-requires-clause-counted
-step-requires-clause-counted c = counted-at c.self.inside c.self.invariant c.args.worker (of-story c.self.inside _ c.self.view_is (λ (x : Story). c.args.worker < x.shape.workers) c.requires.worker)
+step-requires-clause-counted c = counted-at c.self.inside c.self.invariant c.args.worker
+    (of-story c.self.inside _ c.self.view_is (λ (x : Story). c.args.worker < x.shape.workers) c.requires.worker)
 
 pub invariant_of-self : goal.invariant_of-self
 invariant_of-self c =
     let o = c.self.inside in
-    quiet o c.self.invariant c.args.worker (of-story o _ c.self.view_is (λ (x : Story). c.args.worker < x.shape.workers) c.requires.worker) (Arrivals o.admitted) (Arrivals o.admitted) refl c.self.invariant.admitted_is _ _ (c.step.ensures.places, c.step.ensures.log) (λ d v x. refl) (λ v p f. refl, λ v p f. refl, λ n. refl, λ n. refl)
+    quiet o c.self.invariant c.args.worker (of-story o _ c.self.view_is (λ (x : Story). c.args.worker < x.shape.workers) c.requires.worker)
+    (Arrivals o.admitted) (Arrivals o.admitted) refl c.self.invariant.admitted_is _ _ (c.step.ensures.places, c.step.ensures.log) (λ d v x. refl)
+    (λ v p f. refl, λ v p f. refl, λ n. refl, λ n. refl)

@@ -13,24 +13,31 @@ use Rattle.plain_slots.proofs.Following.{spot, spotted, gone, of-shape}
 use Rattle.plain_slots.proofs.object.PlainObjectSlotObject.install.Goals as goal
 
 pub index_mut-requires : goal.index_mut-requires
-index_mut-requires c = (spot c.self.inside c.self.invariant _ c.self.view_is c.args.worker c.requires.worker (λ e. (let h = c.requires.place.2 in cc)) _ c.index.ensures _ c.slot_at.ensures).index
+index_mut-requires c = (spot c.self.inside c.self.invariant _ c.self.view_is c.args.worker c.requires.worker
+    (λ e. (let h = c.requires.place.2 in cc)) _ c.index.ensures _ c.slot_at.ensures).index
 
 pub invariant_of-self : goal.invariant_of-self
 invariant_of-self c =
     let o = c.self.inside in
-    let s = spot c.self.inside c.self.invariant _ c.self.view_is c.args.worker c.requires.worker (λ e. (let h = c.requires.place.2 in cc)) _ c.index.ensures _ c.slot_at.ensures in
-    let at = spotted c.self.inside c.args.self.now c.args.worker c.index.result.now c.slot_at.result c.self.view_is s (λ p. (k : ℕ) × (h : Held) × (p ≡ Holding k h) × IsReady h × (c.args.id ≡ next_id h)) c.requires.place in
+    let s = spot c.self.inside c.self.invariant _ c.self.view_is c.args.worker c.requires.worker
+    (λ e. (let h = c.requires.place.2 in cc)) _ c.index.ensures _ c.slot_at.ensures in
+    let at = spotted c.self.inside c.args.self.now c.args.worker c.index.result.now c.slot_at.result c.self.view_is s
+    (λ p. (k : ℕ) × (h : Held) × (p ≡ Holding k h) × IsReady h × (c.args.id ≡ next_id h)) c.requires.place in
     let there = at.2 ∙ ap (λ k. Holding k at.1) (sym (s.slot ∙ ap slot_of at.2)) in
     let held : c.held_at-held.result ≡ at.1 = c.held_at-held.ensures ∙ ap held_at at.2 in
-    subst (λ t. IsObject o.shape (set o.slots.items c.slot_at.result (Slots.Open (record { id = c.args.id; total = t; next = 0 }))) o.owing.items c.step.new.places.items o.returns.items o.changes.items o.admitted o.finished c.step.new.log)
+    subst (λ t. IsObject o.shape (set o.slots.items c.slot_at.result (Slots.Open (record { id = c.args.id; total = t; next = 0 }))) o.owing.items
+    c.step.new.places.items o.returns.items o.changes.items o.admitted o.finished c.step.new.log)
     (sym (c.unwrap_or.ensures ∙ ap (λ (h : Held). unwrap_or h.total 0) held))
-    (install-after o c.self.invariant c.args.worker c.index.result.now c.slot_at.result c.args.id at.1 s there at.3 at.4 c.step.new.places.items c.step.new.log (c.step.ensures.places, c.step.ensures.log))
+    (install-after o c.self.invariant c.args.worker c.index.result.now c.slot_at.result c.args.id at.1 s there at.3 at.4 c.step.new.places.items
+    c.step.new.log (c.step.ensures.places, c.step.ensures.log))
 
 pub returns-clause-announcer : goal.returns-clause-announcer
 returns-clause-announcer c =
     let o = c.self.inside in
-    let s = spot c.self.inside c.self.invariant _ c.self.view_is c.args.worker c.requires.worker (λ e. (let h = c.requires.place.2 in cc)) _ c.index.ensures _ c.slot_at.ensures in
-    of-shape o _ c.self.view_is (λ d. IsAnnouncer d c.args.worker ((state_in o.shape c.step.new.log).places c.args.worker) (record { worker = c.args.worker; slot = c.slot_at-2.result; workers = o.shape.workers; told = 0; again = c.held_at-held.result.again }))
+    let s = spot c.self.inside c.self.invariant _ c.self.view_is c.args.worker c.requires.worker
+    (λ e. (let h = c.requires.place.2 in cc)) _ c.index.ensures _ c.slot_at.ensures in
+    of-shape o _ c.self.view_is (λ d. IsAnnouncer d c.args.worker ((state_in o.shape c.step.new.log).places c.args.worker)
+    (record { worker = c.args.worker; slot = c.slot_at-2.result; workers = o.shape.workers; told = 0; again = c.held_at-held.result.again }))
     (record {
       worker = refl;
       workers = refl;

@@ -9,5 +9,6 @@ use Rattle.plain_slots.proofs.object.PlainObjectSlotObject.set_total.Goals as go
 pub invariant_of-self : goal.invariant_of-self
 invariant_of-self c =
     let o = c.self.inside in
-    let at = of-story o _ c.self.view_is (λ (x : Story). (c.args.worker < x.shape.workers) × ((s : ℕ) × (h : Held) × (place_in x c.args.worker ≡ Holding s h) × IsSome h.query)) (c.requires.worker, c.requires.place) in
+    let at = of-story o _ c.self.view_is (λ (x : Story). (c.args.worker < x.shape.workers)
+    × ((s : ℕ) × (h : Held) × (place_in x c.args.worker ≡ Holding s h) × IsSome h.query)) (c.requires.worker, c.requires.place) in
     total-after o c.self.invariant c.args.worker at.0 c.args.total at.1 c.requires.number _ _ (c.step.ensures.places, c.step.ensures.log)

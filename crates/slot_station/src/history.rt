@@ -1,0 +1,95 @@
+//! The history of an object that has ended.
+ghost use Rattle.std.specs.Prelude.{◌≡◌, [], ◌∷◌, ◌<◌, length};
+ghost use Rattle.slot_station.specs.Log.{calls_in};
+
+use crate::log::Logged;
+use atomic_table::{Badge, Play, Seat, Table, TableRule};
+use std::alloc::{AllocError, Global};
+use std::collections::LinkedList;
+use std::marker::Model;
+
+/// The history of an object that has ended. It holds a seat's view and no entries at run time; contracts see the list of
+/// its entries, the newest first.
+#[derive(Drop)]
+pub struct History {
+    badge: Badge<LinkedList<Logged>>,
+}
+
+impl Model for History {
+    ghost use Rattle.slot_history.specs.declared.act.Entry.{Entry};
+    ghost use Rattle.std.specs.Prelude.{List};
+    ghost use Rattle.slot_station.specs.Log.{calls_in};
+
+    ghost Value = { List Entry };
+
+    ghost view = { λ h. calls_in h.badge.views };
+}
+
+impl History {
+    /// The history whose log the badge shows. It takes no memory.
+    pub fn of(badge: Badge<LinkedList<Logged>>) -> History
+        ensures { result ≡ calls_in badge.views }
+    {
+        History { badge }
+    }
+}
+
+/// What shows a history: the one that stands in the view of a joined seat, as an example.
+pub trait ShowsHistory {
+    ghost use Rattle.slot_history.specs.declared.act.Entry.{Entry};
+    ghost use Rattle.std.specs.Prelude.{List};
+
+    // Its entries, the newest first.
+    ghost history: { Self → List Entry };
+}
+
+/// Nothing is asked of the word or of the views.
+struct AnyWord;
+
+impl<X> TableRule<X, LinkedList<Logged>, ()> for AnyWord {
+    ghost holds = { λ _ _. Unit {0} };
+
+    ghost first = { λ _. [] };
+}
+
+/// The view is the log of the history that is told.
+struct Telling;
+
+impl<X: ShowsHistory> Play<X, LinkedList<Logged>> for Telling {
+    ghost use Rattle.slot_station.specs.Notes.{Tells};
+
+    ghost then = { Tells X.history };
+}
+
+/// Where a history is kept that has to outlive the object that shows it. It is made with the object, so that the end
+/// takes no memory; at run time it is one word.
+#[derive(Drop)]
+pub struct HistoryKeeper<X: ShowsHistory> {
+    table: Table<X, LinkedList<Logged>, (), AnyWord, Global>,
+    seat: Seat<X, LinkedList<Logged>>,
+    ghost ours: { seat.table_id ≡ table.shared.table_id },
+    ghost words: { 0 < table.shared.table_id.words },
+    ghost slots: { table.shared.table_id.slots ≡ 0 },
+    ghost none_out: { length seat.me.1 ≡ 0 },
+}
+
+impl<X: ShowsHistory> HistoryKeeper<X> {
+    /// No history is kept yet.
+    pub fn new(alloc: Global) -> Result<HistoryKeeper<X>, AllocError> {
+        let (table, seat) = Table::of_words(alloc, &[0], &())?;
+        Ok(HistoryKeeper { table, seat })
+    }
+
+    /// The history that is shown. It takes no memory.
+    pub fn keep(self, last: &X) -> History
+        ensures { result ≡ X.history last.now }
+    {
+        let HistoryKeeper { table, mut seat } = self;
+        table
+            .shared
+            .compare_exchange_with::<Telling>(&mut seat, 0, 0, 0, last);
+        let badge = seat.into_badge();
+        table.close().free();
+        History::of(badge)
+    }
+}

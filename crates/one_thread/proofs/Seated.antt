@@ -1,28 +1,24 @@
 -- A call over a seat of a table.
-use Rattle.std.proofs.Common.{◌≡◌, ◌≢◌, ℕ, ◌+◌, ◌<◌, ◌≤◌, ◌⊎◌, ⊎_elim, IsSome, Bool, true, false, cond, eqb, ◌&&◌, inl, inr, arith, List, [], ◌∷◌, ◌++◌, All, Option, Some, None, slice_get, refl, sym, ap, ap₂, ◌∙◌, subst, eq-eqb, ne_eqb}
+use Rattle.std.proofs.Common.{◌≡◌, ℕ, ◌+◌, ◌<◌, ◌≤◌, IsSome, true, false, cond, ◌&&◌, List, ◌∷◌, All, Option, Some, None, slice_get, refl, sym, ap, ap₂, ◌∙◌, subst, eq-eqb}
 use Rattle.std.proofs.lemmas.List.Elements.{All-cons}
 use Rattle.std.proofs.lemmas.Option.{get_or_from_slice_get, slice_get_within}
 use mathlib.Core.Logic.{∥∥₁_map}
-use native.Mathlib.Decide.{ℕ_discrete}
-use Rattle.std.proofs.lemmas.Bool.{cond_both}
 use Rattle.slot_history.specs.declared.shape.Shape.{Shape}
 use Rattle.slot_history.specs.declared.shape.TheConstants.{MOST_SLOTS, MOST_WORKERS}
 use Rattle.slot_history.specs.declared.act.Act.{Act}
-use Rattle.slot_history.specs.declared.act.Act.TheVariants.{Enter, LookOpen, LookInvalid, LookVacant, ClaimRange, ClaimUsed, ShutWon, ShutLost, LeaveLeft, LeaveOwe, PayLast, PayDone, MarkMarked, MarkMissed, SweepLast, SweepOthers, ReserveGot, ReserveTaken, AdmitGot, AdmitLost, Arrivals, Finished, Note as NoteDone, Total, Install, Release, Tell, TakeReturn, TakeChange}
+use Rattle.slot_history.specs.declared.act.Act.TheVariants.{Install, Release, Tell}
 use Rattle.slot_history.specs.declared.act.Entry.{Entry}
 use Rattle.slot_history.specs.declared.place.Place.{Place}
-use Rattle.slot_history.specs.declared.place.Place.TheVariants.{Free, Entered, Astray, Inside as At, Used, Behind, Leading, Asking, Owing, Holding, Announcing}
+use Rattle.slot_history.specs.declared.place.Place.TheVariants.{Free, Announcing}
 use Rattle.slot_history.specs.States.{held_at, slot_of}
-use Rattle.slot_history.specs.Steps.{moved, left, asked_one, holding_after, told_one}
+use Rattle.slot_history.specs.Steps.{moved}
 use Rattle.slot_history.specs.Allowed.{IsReady}
-use Rattle.slot_history.specs.Histories.{IsLegal, IsOfTotals, Begins, Called, entry, place_of}
+use Rattle.slot_history.specs.Histories.{IsLegal, IsOfTotals, Called, entry, place_of}
 use Rattle.slot_history.proofs.Sets.{upd-same}
-use Rattle.slot_history.proofs.Own.{place-mine, place-other}
+use Rattle.slot_history.proofs.Own.{place-mine}
 use Rattle.slot_station.specs.declared.note.Note.{Note}
 use Rattle.slot_station.specs.declared.note.Note.TheVariants.{Kept, Fresh}
 use Rattle.slot_station.specs.declared.note.Note.TheVariants as note
-use Rattle.slot_station.specs.declared.token.Holder.{Holder}
-use Rattle.slot_station.specs.declared.token.Coordinator.{Coordinator}
 use Rattle.slot_station.specs.declared.token.Announcer.{Announcer}
 use Rattle.slot_station.specs.declared.reply.Look.{Look}
 use Rattle.slot_station.specs.declared.reply.Look.TheVariants as look
@@ -48,30 +44,17 @@ use Rattle.one_thread.specs.declared.object.SlotObject as core
 use Rattle.one_thread.specs.declared.seat.OneSeat.{OneSeat}
 use Rattle.one_thread.specs.declared.table.OneTable.TheInside.{Inside}
 use Rattle.slot_station.specs.Cells.{has_cell, noted}
-use Rattle.slot_station.specs.Replies.{look_act, leave_act, claim_act, shut_act, mark_act, sweep_act, pay_act, reserve_act, admit_act, admitted_holder, marked_more}
+use Rattle.slot_station.specs.Replies.{look_act, leave_act, claim_act, shut_act, mark_act, sweep_act, pay_act, reserve_act, admit_act}
 use Rattle.slot_station.specs.Desks.{Desk, Seen, own_place, own_holding, AllNoted, KeptOwn, Makes}
 use Rattle.slot_station.specs.Log.{calls_of, note_in, call, who}
 use Rattle.one_thread.specs.Tables.{TableStory, IsTableKept}
 use Rattle.one_thread.specs.Stories.{Story, MakesCall, place_in, state_in}
-use Rattle.slot_station.specs.Tokens.{IsHolder, IsCoordinator, IsAnnouncer, IsDone, opens, last_opened}
+use Rattle.slot_station.specs.Tokens.{IsAnnouncer, IsDone, last_opened}
 use Rattle.slot_station.proofs.TokensKept.{announcer-opened}
 use Rattle.one_thread.specs.Seats.{IsSince, desk_over, trail_in, seen_by, shown_by}
-use Rattle.one_thread.proofs.Trails.{own-trail, place-trail}
+use Rattle.one_thread.proofs.Trails.{own-trail, place-trail, begins}
 use Rattle.slot_station.specs.Cells.{NotesAllow}
 use Rattle.one_thread.proofs.TablesKept.{table-call}
-
--- the trail is a beginning of the history
-begins-step : (w : ℕ) (e : Entry) (es : List Entry) → Begins es (trail_in w es) → Dec (w ≡ e.worker) → Begins (e ∷ es) (trail_in w (e ∷ es))
-begins-step w e es ih (yes same) = ([], sym (ap (λ b. cond b (e ∷ es) (trail_in w es)) (eq-eqb w e.worker same)))
-begins-step w e es ih (no other) = (
-  e ∷ ih.0,
-  ap (λ l. e ∷ l) ih.1 ∙ ap (λ l. (e ∷ ih.0) ++ l)
-      (sym (ap (λ b. cond b (e ∷ es) (trail_in w es)) (ne_eqb w e.worker other))),
-)
-
-pub begins : (w : ℕ) (h : List Entry) → Begins h (trail_in w h)
-begins w [] = ([], refl)
-begins w (e ∷ es) = begins-step w e es (begins w es) (ℕ_discrete w e.worker)
 
 -- a call of w is the last that its trail has
 pub trail-call : (w : ℕ) (a : Act) (h : List Entry) → trail_in w (entry w a ∷ h) ≡ entry w a ∷ h

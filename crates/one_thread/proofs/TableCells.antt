@@ -20,6 +20,7 @@ use Rattle.slot_history.proofs.Table.{table}
 use Rattle.slot_history.proofs.Within.{within}
 use Rattle.slot_history.proofs.Holdings.{holder-slot, slots-sound, holder-place}
 use Rattle.slot_history.proofs.Duties.{IsHeldBy}
+use Rattle.slot_history.proofs.Holders.{finalises-slot}
 use Rattle.slot_station.specs.declared.note.Note.{Note}
 use Rattle.slot_station.specs.declared.log.Logged.{Logged}
 use Rattle.slot_station.specs.declared.log.Logged.TheVariants.{Exchanged}
@@ -31,7 +32,7 @@ use Rattle.slot_station.specs.Cells.{FitsClaims}
 use Rattle.one_thread.specs.Tables.{IsTableKept}
 use Rattle.one_thread.specs.Seats.{trail_in, shown_by}
 use Rattle.slot_station.proofs.Lists.{get-set_same, get-set_other, pair-within}
-use Rattle.one_thread.proofs.Trails.{place-trail, ranges-trail, ranges-finalised, finalises}
+use Rattle.one_thread.proofs.Trails.{place-trail, ranges-trail, ranges-finalised}
 use Rattle.slot_station.proofs.Exchanges.{has-within, says-kept, says-fresh, says-held, held-says, own-cell-is, inside-only, inside-holds, cell-else}
 use Rattle.slot_station.specs.Cells.{CellOf}
 
@@ -136,7 +137,7 @@ module _ {B Sub : Type 0} (queries : Sub → ℕ) (total : Sub → ℕ → Optio
         → FinalisedFits fits shown v y
     finalised-fits id is y f =
         let sound : IsFinalisation id k = subst IsSlotSound is (slots-sound d h legal s) in
-        let same : id ≡ finalised_id k = sym (ap id_of is) ∙ (finalises w k (S.slots s) held (slots-sound d h legal s) sound.again).1 in
+        let same : id ≡ finalised_id k = sym (ap id_of is) ∙ ap id_of (finalises-slot w k (S.slots s) held (slots-sound d h legal s) sound.again) in
         let by_history : fits subject v (finalised_id k) (ranges_of d v (finalised_id k) h) y = subst
         (λ i. fits subject v i (ranges_of d v i h) y) same f in
         let by_trail : fits subject v (finalised_id k) (ranges_of d v (finalised_id k) trail) y =

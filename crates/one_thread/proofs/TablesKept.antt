@@ -1,36 +1,19 @@
 -- A call keeps what a table keeps of its cells.
-use Rattle.std.proofs.Common.{◌≡◌, ◌≢◌, ℕ, ◌+◌, ◌*◌, ◌<◌, ◌⊎◌, true, List, [], ◌∷◌, length, Option, Some, None, refl, sym, ap, ◌∙◌, subst, eq-eqb}
+use Rattle.std.proofs.Common.{◌≡◌, ℕ, ◌+◌, ◌*◌, List, [], ◌∷◌, length, Option, Some, None, subst}
 use Rattle.std.specs.List.{slice_get}
-use mathlib.Core.Logic.{dite}
-use native.Mathlib.Decide.{ℕ_discrete}
 use Rattle.slot_history.specs.declared.shape.Shape.{Shape}
 use Rattle.slot_history.specs.declared.act.Act.{Act}
 use Rattle.slot_history.specs.declared.act.Entry.{Entry}
-use Rattle.slot_history.specs.declared.place.Place.TheVariants.{Inside}
-use Rattle.slot_history.specs.States.{SlotState, ObjectState, id_of, is_inside, has_id, is_open, is_shut, has_own_cell}
-use Rattle.slot_history.specs.Steps.{site, moved, slot_after, state_after}
-use Rattle.slot_history.specs.Histories.{IsLegal, entry, place_of, ranges_of, ranges_after}
-use Rattle.slot_history.proofs.Sets.{upd-cases}
+use Rattle.slot_history.specs.Histories.{IsLegal, entry, place_of}
 use Rattle.slot_history.proofs.Subject.{subject-goes-on}
-use Rattle.slot_history.proofs.Table.{table}
-use Rattle.slot_history.proofs.Own.{place-mine, place-other, ranges-mine, ranges-other}
-use Rattle.slot_history.proofs.Places.{inside-slots}
-use Rattle.slot_station.specs.declared.note.Note.{Note}
 use Rattle.slot_station.specs.declared.log.Logged.{Logged}
-use Rattle.slot_station.specs.Cells.{noted}
 use Rattle.slot_station.specs.Log.{calls_of, call, note_in}
-use Rattle.slot_station.specs.Cells.{CellAt}
 use Rattle.slot_station.proofs.CellsKept.{cell-call}
 use Rattle.one_thread.specs.Tables.{IsTableKept}
 use Rattle.one_thread.specs.Seats.{trail_in}
 use Rattle.one_thread.proofs.Trails.{place-trail}
-use Rattle.slot_station.proofs.CellSteps.{cell-ranges, cell-notes}
-use Rattle.slot_station.proofs.CellPlaces.{note-mine, note-other, notes-held}
-use Rattle.slot_station.specs.Cells.{notes_after, CellOf}
-use Rattle.slot_station.proofs.Ids.{inside-one}
 use Rattle.slot_station.specs.Cells.{NotesAllow}
-use Rattle.slot_station.proofs.OwnCells.{installs-of, own-cell}
-use Rattle.slot_station.proofs.SlotCells.{At, slot-cell}
+use Rattle.slot_station.proofs.OwnCells.{installs-of}
 
 module _ {B Sub : Type 0} (queries : Sub → ℕ) (total : Sub → ℕ → Option ℕ) (fits : Sub → ℕ → ℕ → List (ℕ × ℕ) → B → Type 0) (d : Shape)
     (subject : Sub) where

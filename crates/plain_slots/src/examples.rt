@@ -28,10 +28,7 @@ impl Fits for Anything {
 }
 
 /// How many queries were admitted, and how many task sets are done.
-fn progress<B: Fits, S: Station<B>, L: Ledger>(
-    station: &mut S,
-    steps: &mut Steps<L>,
-) -> (u32, u32)
+fn progress<B: Fits, S: Station<B>, L: Ledger>(station: &mut S, steps: &mut Steps<L>) -> (u32, u32)
     ensures { steps.new ≡ steps.old + 2 }
 {
     let admitted = station.arrivals(steps);

@@ -26,9 +26,9 @@
 #![tactic(auto)]
 
 mod answers;
-pub mod object;
 #[cfg(test)]
 mod examples;
+pub mod object;
 #[cfg(test)]
 mod player;
 #[cfg(test)]
@@ -41,12 +41,11 @@ mod tests;
 mod worker_calls;
 
 pub use object::PlainObject;
-pub use one_thread::seat;
-pub use one_thread::{OneSeat, OneTable, SlotObject};
+pub use one_thread::{OneSeat, OneTable, SlotObject, seat};
 pub use slot_history::{act, laws, place, shape};
 pub use slot_station::{
-    Admit, Announcer, Claim, Coordinator, Debt, Fits, History, Holder, Leave, Look, MakeRefusal, Mark,
-    Memo, Note, Pay, Reserve, Shut, Spent, Station, StepWork, Steps, Sweep, run_uncounted,
+    Admit, Announcer, Claim, Coordinator, Debt, Fits, History, Holder, Leave, Look, MakeRefusal,
+    Mark, Memo, Note, Pay, Reserve, Shut, Spent, Station, StepWork, Steps, Sweep, log, note, notes,
+    reply, run_uncounted, station, steps, token,
 };
-pub use slot_station::{log, note, notes, reply, station, steps, token};
 pub use table::{PlainSeat, PlainTable};

@@ -1,48 +1,19 @@
 -- What places and notes say of the cells of a slot, before and after a call.
-use Rattle.std.proofs.Common.{◌≡◌, ◌≢◌, ℕ, ◌<◌, true, false, cond, refl, sym, ap, ◌∙◌, subst, eq-eqb, ne_eqb}
-use Rattle.std.proofs.lemmas.Bool.{false_from_ne_true}
+use Rattle.std.proofs.Common.{◌≡◌, ◌≢◌, ℕ, cond, refl, sym, ap, ◌∙◌, subst, eq-eqb, ne_eqb}
 use mathlib.Core.Logic.{dite}
 use native.Mathlib.Decide.{ℕ_discrete}
 use Rattle.slot_history.specs.declared.shape.Shape.{Shape}
 use Rattle.slot_history.specs.declared.act.Act.{Act}
 use Rattle.slot_history.specs.declared.act.Act.TheVariants.{LookOpen, ClaimRange, PayLast, SweepLast, ReserveGot}
 use Rattle.slot_history.specs.declared.place.Held.{Held}
-use Rattle.slot_history.specs.declared.place.Place.{Place}
-use Rattle.slot_history.specs.declared.place.Place.TheVariants.{Free, Entered, Inside, Used, Behind, Leading, Asking, Owing, Holding}
-use Rattle.slot_history.specs.States.{ObjectState, id_at, is_inside, has_own_cell}
+use Rattle.slot_history.specs.declared.place.Place.TheVariants.{Free, Entered, Inside, Asking, Owing, Holding}
+use Rattle.slot_history.specs.States.{ObjectState}
 use Rattle.slot_history.specs.Allowed.{IsAllowed}
 use Rattle.slot_history.specs.Table.{IsTable}
 use Rattle.slot_history.proofs.Duties.{IsHeldBy}
-use Rattle.slot_history.proofs.Places.{inside-slots, held-not}
 use Rattle.slot_history.proofs.Holdings.{holder-place}
 use Rattle.slot_station.specs.declared.note.Note.{Note}
-use Rattle.slot_station.specs.Cells.{has_cell, noted, notes_after}
-
--- ---- places
-
--- whoever has its own cell of a slot is inside with the id that its place names
-pub own-inside : (p : Place) (s : ℕ) → has_own_cell p s ≡ true → is_inside p (id_at p) ≡ true
-own-inside (Inside t id) s h = eq-eqb id id refl
-own-inside (Used t id) s h = eq-eqb id id refl
-own-inside (Behind t id) s h = eq-eqb id id refl
-own-inside (Leading t id) s h = eq-eqb id id refl
-own-inside _ s h = absurd (cc)
-
--- whoever has its own cell of some slot has its own cell
-pub own-has : (p : Place) (s : ℕ) → has_own_cell p s ≡ true → has_cell p ≡ true
-own-has (Inside t id) s h = refl
-own-has (Used t id) s h = refl
-own-has (Behind t id) s h = refl
-own-has (Leading t id) s h = refl
-own-has _ s h = absurd (cc)
-
--- nobody is inside a slot that is held
-pub held-outside : (d : Shape) (S : ObjectState) → IsTable d S → (s v w : ℕ) (k : Held) → v < d.workers → IsHeldBy w k (S.slots s)
-    → has_own_cell (S.places v) s ≡ false
-held-outside d S ok s v w k low held = false_from_ne_true (has_own_cell (S.places v) s)
-    (λ h. held-not (S.slots s) w k held (inside-slots d S ok s v (id_at (S.places v)) low h (own-inside (S.places v) s h)).0)
-
--- ---- notes
+use Rattle.slot_station.specs.Cells.{noted, notes_after}
 
 -- no call of a worker that holds a slot changes a note
 noted-held : (d : Shape) (S : ObjectState) (w : ℕ) (a : Act) (s : ℕ) (k : Held) → IsAllowed d S w a → S.places w ≡ Holding s k → (v : ℕ) (n : Note)

@@ -19,7 +19,7 @@ use Rattle.slot_station.specs.Cells.{CellAt}
 use Rattle.slot_station.proofs.CellSteps.{cell-ranges, cell-notes}
 use Rattle.slot_station.proofs.CellPlaces.{note-mine, note-other, notes-held}
 use Rattle.slot_station.specs.Cells.{notes_after, CellOf}
-use Rattle.slot_station.proofs.Ids.{inside-one}
+use Rattle.slot_history.proofs.Inside.{inside-one}
 use Rattle.slot_station.specs.Cells.{NotesAllow}
 use Rattle.slot_station.proofs.OwnCells.{own-cell}
 use Rattle.slot_station.proofs.SlotCells.{At, slot-cell}

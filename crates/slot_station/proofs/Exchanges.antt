@@ -1,5 +1,5 @@
 -- What a worker that has a cell knows of it, and that an exchange by it changes nothing that is known of the other cells.
-use Rattle.std.proofs.Common.{◌≡◌, ◌≢◌, ℕ, ◌<◌, ◌⊎◌, Bool, true, false, List, Option, Some, None, IfSome, inl, inr, ⊎_elim, refl, sym, ap, ◌∙◌, subst, eq-eqb}
+use Rattle.std.proofs.Common.{◌≡◌, ◌≢◌, ℕ, ◌<◌, ◌⊎◌, Bool, true, false, List, Option, Some, None, IfSome, inl, inr, ⊎_elim, refl, sym, ap, ◌∙◌, subst}
 use Rattle.std.proofs.lemmas.Bool.{false_from_ne_true}
 use mathlib.Core.Logic.{dite}
 use mathlib.Core.Bool.{true≢false}
@@ -8,7 +8,6 @@ use Rattle.slot_history.specs.declared.shape.Shape.{Shape}
 use Rattle.slot_history.specs.declared.act.Entry.{Entry}
 use Rattle.slot_history.specs.declared.place.Held.{Held}
 use Rattle.slot_history.specs.declared.place.Place.{Place}
-use Rattle.slot_history.specs.declared.place.Place.TheVariants.{Inside, Used, Behind, Leading}
 use Rattle.slot_history.specs.States.{SlotState, Reserved, Open, Shut, Finishing, Empty, ObjectState, slot_of, id_at, id_of, is_open, is_shut, has_own_cell}
 use Rattle.slot_history.specs.Steps.{state_after}
 use Rattle.slot_history.specs.Histories.{IsLegal, place_of, ranges_of}
@@ -22,9 +21,9 @@ use Rattle.slot_history.proofs.Within.{within-slots}
 use Rattle.slot_station.specs.declared.note.Note.{Note}
 use Rattle.slot_station.specs.Cells.{has_cell, kept_note, fresh_note, NoteSays, FitsNext}
 use Rattle.slot_station.specs.Cells.{FitsClaims, CellAt}
-use Rattle.slot_station.proofs.Ids.{inside-one}
+use Rattle.slot_history.proofs.Inside.{inside-one}
 use Rattle.slot_station.proofs.CellSteps.{says-maps, cell-outside, cell-notes}
-use Rattle.slot_station.proofs.CellPlaces.{own-inside}
+use Rattle.slot_history.proofs.Places.{own-inside, has-own}
 use Rattle.slot_station.specs.Cells.{CellOf}
 
 -- ---- what is said of a cell by its slot
@@ -62,13 +61,6 @@ module _ {B : Type 0} (P Q : B → Type 0) where
   says-fresh (Some b) fit = fit
 
 -- ---- places inside a slot
-
-has-own : (p : Place) → has_cell p ≡ true → has_own_cell p (slot_of p) ≡ true
-has-own (Inside t id) h = eq-eqb t t refl
-has-own (Used t id) h = eq-eqb t t refl
-has-own (Behind t id) h = eq-eqb t t refl
-has-own (Leading t id) h = eq-eqb t t refl
-has-own _ h = absurd (cc)
 
 pub has-within : (d : Shape) (p : Place) → has_cell p ≡ true → IsPlaceWithin d p → slot_of p < d.slots
 has-within d p h k = within-slots d p k (λ e. true≢false (sym h ∙ ap has_cell e))

@@ -4,7 +4,6 @@ pub mod CellsKept
 pub mod Exchanges
 pub mod Memos
 pub mod Follows
-pub mod Ids
 pub mod Lists
 pub mod OwnCells
 pub mod SlotCells

@@ -18,7 +18,7 @@ use Rattle.slot_station.specs.Cells.{has_cell, loosened, noted, NotesAllow}
 use Rattle.slot_history.specs.Subject.{InstallsOf}
 use Rattle.slot_station.specs.Cells.{CellAt}
 use Rattle.slot_station.proofs.CellSteps.{cell-ranges, cell-outside, cell-enters, cell-leaves, cell-claims}
-use Rattle.slot_station.proofs.CellPlaces.{own-has}
+use Rattle.slot_history.proofs.Places.{own-has}
 
 -- the call is of the subject then
 pub installs-of : (totals : ℕ → Option ℕ) (d : Shape) (w : ℕ) (p : Place) (notes : ℕ → Note) (a : Act) → NotesAllow totals d w p notes a

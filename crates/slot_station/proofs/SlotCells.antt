@@ -21,9 +21,10 @@ use Rattle.slot_station.specs.declared.note.Note.{Note}
 use Rattle.slot_station.specs.declared.note.Note.TheVariants as note
 use Rattle.slot_station.specs.Cells.{CellAt}
 use Rattle.slot_station.proofs.CellSteps.{cell-claimed, cell-shut, cell-ended, cell-noted, cell-totalled, cell-reserved, cell-admitted, cell-released, cell-finalised, cell-opened}
-use Rattle.slot_station.proofs.CellPlaces.{held-outside, note-mine}
+use Rattle.slot_history.proofs.Places.{held-outside}
+use Rattle.slot_station.proofs.CellPlaces.{note-mine}
 use Rattle.slot_station.specs.Cells.{notes_after}
-use Rattle.slot_station.proofs.Ids.{unclaimed}
+use Rattle.slot_history.proofs.Inside.{unclaimed}
 use Rattle.slot_station.specs.Cells.{NotesAllow}
 
 -- the cell of the worker v at the slot s, which has x; its values meet `fits`

@@ -6,7 +6,7 @@ use Rattle.slot_history.specs.declared.act.Act.TheVariants.{LookOpen, ClaimRange
 use Rattle.slot_history.specs.declared.act.Entry.{Entry}
 use Rattle.slot_history.specs.declared.place.Held.{Held}
 use Rattle.slot_history.specs.declared.place.Place.{Place}
-use Rattle.slot_history.specs.declared.place.Place.TheVariants.{Inside, Used, Behind, Leading}
+pub use Rattle.slot_history.specs.States.{has_cell}
 use Rattle.slot_history.specs.States as state
 use Rattle.slot_history.specs.States.{SlotState, held_at, next_id, finalised_id, has_own_cell}
 use Rattle.slot_history.specs.Steps.{state_after}
@@ -14,14 +14,6 @@ use Rattle.slot_history.specs.Histories.{place_of, ranges_of}
 use Rattle.slot_history.specs.Subject.{InstallsOf}
 use Rattle.slot_station.specs.declared.note.Note.{Note}
 use Rattle.slot_station.specs.declared.note.Note.TheVariants.{Empty, Kept, Fresh, Loose}
-
--- the worker is inside at a slot, and has its own cell of it
-abbrev pub has_cell : Place → Bool
-has_cell (Inside s id) = true
-has_cell (Used s id) = true
-has_cell (Behind s id) = true
-has_cell (Leading s id) = true
-has_cell _ = false
 
 -- a kept value that is worked on may not fit any more
 abbrev pub loosened : Note → Note

@@ -1,15 +1,9 @@
 -- How large an object may be.
-use Rattle.std.specs.Prelude.{ℕ, ◌<◌, ◌≤◌, Bool, if◌then◌else◌, nat_lt, nat_le, ◌&&◌, not, Option, Some, None}
-use Rattle.slot_history.specs.declared.shape.Shape.{Shape}
+use Rattle.std.specs.Prelude.{ℕ, Bool, if◌then◌else◌, nat_lt, nat_le, ◌&&◌, not, Option, Some, None}
 use Rattle.slot_history.specs.declared.shape.TheConstants.{MOST_SLOTS, MOST_WORKERS, MOST_QUERIES}
+pub use Rattle.slot_history.specs.Bounds.{IsShape}
 use Rattle.slot_station.specs.declared.reply.MakeRefusal.{MakeRefusal}
 use Rattle.slot_station.specs.declared.reply.MakeRefusal.TheVariants.{BadSlots, BadWorkers, BadQueries}
-
--- the numbers of an object are within their limits
-pub record IsShape (d : Shape) : Type 0 where
-  pub slots : (0 < d.slots) × (d.slots ≤ MOST_SLOTS)
-  pub workers : (0 < d.workers) × (d.workers ≤ MOST_WORKERS)
-  pub queries : d.queries ≤ MOST_QUERIES
 
 -- whether a number lies within these two
 abbrev pub is_within : ℕ → ℕ → ℕ → Bool

@@ -1,0 +1,12 @@
+pub mod Addresses
+pub mod Slots
+pub mod Counters
+pub mod Fit
+pub mod WorkerWords
+pub mod SlotWords
+pub mod Readings
+pub mod Visits
+pub mod Endings
+pub mod Holdings
+pub mod Elsewhere
+pub mod Law

@@ -1,0 +1,5 @@
+pub mod Addresses
+pub mod Encodings
+pub mod Words
+pub mod Steps
+pub mod Laws

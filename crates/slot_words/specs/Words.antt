@@ -1,0 +1,71 @@
+-- What each word holds in a state.
+use Rattle.std.specs.Prelude.{◌≡◌, ℕ, ◌+◌, ◌-◌, ◌<◌, ◌≤◌, true, false, cond, List, length, slice_index, IfSome}
+use Rattle.slot_history.specs.declared.shape.Shape.{Shape}
+use Rattle.slot_history.specs.declared.shape.TheConstants.{MOST_SLOTS, MOST_WORKERS, MOST_QUERIES}
+use Rattle.slot_history.specs.declared.place.Place.{Place}
+use Rattle.slot_history.specs.States.{SlotState, Empty, Reserved, Open, Shut, Finishing, ObjectState, slot_of, id_of, slot_word, is_swept, is_at, owes}
+use Rattle.slot_history.specs.Allowed.{IsMask, debts}
+use Rattle.slot_history.specs.Payments.{payments, marks}
+use Rattle.slot_words.specs.declared.address.Address.{Address}
+use Rattle.slot_words.specs.declared.address.Address.TheVariants.{Meeting, ArrivalsAt, FinishedAt, StateOf, CursorOf, CounterOf, WorkerOf, ReturnOf, ChangeOf}
+use Rattle.slot_words.specs.Addresses.{IsThere, index, count_of_words}
+use Rattle.slot_words.specs.Encodings.{at_word, mark_for, cursor_word, zero_count}
+
+-- what the word of a slot's cursor holds; of an empty slot, and in a holding before a total is set, nothing is said
+abbrev pub IsCursor : SlotState → ℕ → Type 0
+IsCursor Empty n = Unit {0}
+IsCursor (Reserved w h) n = IfSome h.total (λ t. n ≡ cursor_word t 0)
+IsCursor (Open t) n = n ≡ cursor_word t.total t.cursor
+IsCursor (Shut t e) n = n ≡ cursor_word t.total t.cursor
+IsCursor (Finishing id w h) n = IfSome h.total (λ t. n ≡ cursor_word t 0)
+
+-- the counter of a slot: payments count down, and the sweep adds the marks
+abbrev pub counter_of : Shape → SlotState → ℕ
+counter_of d x = zero_count + cond (is_swept x) (marks d x) 0 - payments d x
+
+-- what the mark of the worker v at a slot adds to its word
+abbrev pub mark_at : SlotState → ℕ → ℕ
+mark_at x v = cond (owes x v) (mark_for (id_of x)) 0
+
+-- the word of the worker v at a place, by the slot that the place names
+abbrev pub worker_word : SlotState → ℕ → Place → ℕ
+worker_word x v p = cond (is_at p (slot_of p)) (at_word (slot_of p) + mark_at x v) 0
+
+-- the word at this address holds n in this state
+abbrev pub Holds : Shape → ObjectState → Address → ℕ → Type 0
+Holds d S Meeting n = n ≡ 0
+Holds d S ArrivalsAt n = n ≡ S.admitted
+Holds d S FinishedAt n = n ≡ S.finished
+Holds d S (StateOf s) n = n ≡ slot_word (S.slots s)
+Holds d S (CursorOf s) n = IsCursor (S.slots s) n
+Holds d S (CounterOf s) n = n ≡ counter_of d (S.slots s)
+Holds d S (WorkerOf v) n = n ≡ worker_word (S.slots (slot_of (S.places v))) v (S.places v)
+Holds d S (ReturnOf v part) n = IsMask part (S.returns v) n
+Holds d S (ChangeOf v part) n = IsMask part (S.changes v) n
+
+abbrev pub word_at : Shape → List ℕ → Address → ℕ
+word_at d words a = slice_index words (index d a)
+
+-- the words stand for the state
+pub record StandsFor (d : Shape) (words : List ℕ) (S : ObjectState) : Type 0 where
+  pub count : length words ≡ count_of_words d
+  pub each : (a : Address) → IsThere d a → Holds d S a (word_at d words a)
+
+-- the numbers of an object are within their limits
+pub record IsShape (d : Shape) : Type 0 where
+  pub slots : (0 < d.slots) × (d.slots ≤ MOST_SLOTS)
+  pub workers : (0 < d.workers) × (d.workers ≤ MOST_WORKERS)
+  pub queries : d.queries ≤ MOST_QUERIES
+
+-- the counter of a slot: before the sweep it is so many below 0 as workers paid, and after it so many above 0 as still have
+-- to pay; it is never further from 0 than there can be workers
+pub record IsCounter (d : Shape) (x : SlotState) (n : ℕ) : Type 0 where
+  pub unswept : is_swept x ≡ false → n + payments d x ≡ zero_count
+  pub swept : is_swept x ≡ true → n ≡ zero_count + debts d x
+  pub low : zero_count ≤ n + MOST_WORKERS
+  pub high : n ≤ zero_count + MOST_WORKERS
+
+-- the first words: all 0, but for the counters
+abbrev pub first_word : Address → ℕ
+first_word (CounterOf s) = zero_count
+first_word _ = 0

@@ -1,5 +1,5 @@
 -- Each call's one step is lawful on words that stand for a state that a legal history leaves.
-use Rattle.std.proofs.Common.{◌≡◌, ◌≢◌, ℕ, ◌+◌, ◌/◌, ◌<◌, ◌≤◌, Bool, true, false, List, sym, subst, arith}
+use Rattle.std.proofs.Common.{◌∷◌, ◌≡◌, ◌≢◌, ℕ, ◌+◌, ◌/◌, ◌<◌, ◌≤◌, Bool, true, false, List, sym, subst, arith}
 use Rattle.slot_history.specs.declared.shape.Shape.{Shape}
 use Rattle.slot_history.specs.declared.shape.TheConstants.{PARTS}
 use Rattle.slot_history.specs.declared.act.Act.{Act}
@@ -10,7 +10,7 @@ use Rattle.slot_history.specs.declared.place.Place.TheVariants.{Free, Entered, I
 use Rattle.slot_history.specs.States.{ObjectState, slot_of}
 use Rattle.slot_history.specs.Steps.{state_after, next}
 use Rattle.slot_history.specs.Allowed.{IsAllowed}
-use Rattle.slot_history.specs.Histories.{IsLegal}
+use Rattle.slot_history.specs.Histories.{IsLegal, entry}
 use Rattle.slot_history.specs.Bounds.{IsPlaceWithin}
 use Rattle.slot_history.specs.Calls.{Call, Entering, Looking, Claiming, Shutting, Leaving, Paying, Marking, Sweeping, Reserving, Admitting, AskingArrivals, AskingFinished, Noting, Totalling, Installing, Releasing, Telling, TakingReturn, TakingChange, call_of, MayCall, reply_of}
 use Rattle.slot_history.proofs.Table.{table}
@@ -24,6 +24,7 @@ use Rattle.slot_words.specs.Steps.{mask_told, address_of, change_of, answer_of}
 use Rattle.slot_words.specs.Laws.{IsStep, stepped, IsLaw}
 use Rattle.slot_words.proofs.Addresses.{index-low, stands-set}
 use Rattle.slot_words.proofs.Elsewhere.{elsewhere}
+use Rattle.slot_words.proofs.Numbers.{small}
 use Rattle.slot_words.proofs.Fit.{IsFit, fit-of}
 use Rattle.slot_words.proofs.SlotWords as slot
 use Rattle.slot_words.proofs.Readings.{Reads}
@@ -135,10 +136,14 @@ law c d h w words are low may =
     let held : Holds d S a n = are.stands.each a s.there in
     let reads : answer_of c p n ≡ reply_of d S w c = s.answer n held in
     let in_words = index-low d a s.there in
-    let count = are.stands.count in record {
+    let count = are.stands.count in
+    let ok : IsAllowed d S w (answer_of c p n) = subst (IsAllowed d S w) (sym reads) ((is-answered d S (table d h are.legal)).always w c low may) in
+    let legal : IsLegal d (entry w (answer_of c p n) ∷ h) = (low, ok, are.legal) in
+    let T : ObjectState = next d S w (reply_of d S w c) in
+    let stands = stands-set d words S T a (change_of c p n) are.stands s.there (s.here n held) (λ b in_b far m k. s.elsewhere b in_b far m k) in record {
       there = omega arith;
       reply = reads;
-      legal = (low, subst (IsAllowed d S w) (sym reads) ((is-answered d S (table d h are.legal)).always w c low may), are.legal);
-      stands = subst (λ k. StandsFor d (stepped d words a (change_of c p)) (next d S w k)) (sym reads)
-          (stands-set d words S (next d S w (reply_of d S w c)) a (change_of c p n) are.stands s.there (s.here n held) (λ b in_b far m k. s.elsewhere b in_b far m k));
+      legal = legal;
+      small = small d h w (answer_of c p n) are.shape legal;
+      stands = subst (λ k. StandsFor d (stepped d words a (change_of c p)) (next d S w k)) (sym reads) stands;
     }

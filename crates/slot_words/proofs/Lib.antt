@@ -1,7 +1,9 @@
 pub mod Addresses
+pub mod Openings
 pub mod Slots
 pub mod Counters
 pub mod Fit
+pub mod Numbers
 pub mod WorkerWords
 pub mod SlotWords
 pub mod Readings

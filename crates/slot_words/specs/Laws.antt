@@ -1,5 +1,5 @@
 -- The law of a call.
-use Rattle.std.specs.Prelude.{◌≡◌, ◌≢◌, ℕ, ◌<◌, List, ◌∷◌, length, slice_set}
+use Rattle.std.specs.Prelude.{◌≡◌, ◌≢◌, ℕ, ◌<◌, List, [], ◌∷◌, length, slice_set}
 use Rattle.slot_history.specs.declared.shape.Shape.{Shape}
 use Rattle.slot_history.specs.declared.act.Act.{Act}
 use Rattle.slot_history.specs.declared.act.Entry.{Entry}
@@ -11,7 +11,8 @@ use Rattle.slot_history.specs.Histories.{IsLegal, place_of, entry}
 use Rattle.slot_words.specs.declared.address.Address.{Address}
 use Rattle.slot_words.specs.declared.address.Address.TheVariants.{CounterOf}
 use Rattle.slot_words.specs.Addresses.{IsThere, index}
-use Rattle.slot_words.specs.Words.{Holds, IsShape, IsCounter, StandsFor, word_at}
+use Rattle.slot_words.specs.Numbers.{IsSmall}
+use Rattle.slot_words.specs.Words.{Holds, IsShape, IsCounter, StandsFor, AreFirst, word_at}
 use Rattle.slot_words.specs.Steps.{address_of, change_of, answer_of}
 
 -- The step of a call of w in this state: it is on a word that is there; whatever this word holds for the state, the call
@@ -29,11 +30,12 @@ abbrev pub stepped : Shape → List ℕ → Address → (ℕ → ℕ) → List �
 stepped d words a change = slice_set words (index d a) (change (word_at d words a))
 
 -- One step of w on the words that a history left: it is on one of them; what it reads there is the reply of the definition;
--- the history with this entry is legal; and the words stand for the state that it leaves.
+-- the history with this entry is legal; the words stand for the state that it leaves; and the numbers of the reply are small.
 pub record IsLawful (d : Shape) (h : List Entry) (w : ℕ) (c : Call) (a : Address) (change : ℕ → ℕ) (answer : ℕ → Act) (words : List ℕ) : Type 0 where
   pub there : index d a < length words
   pub reply : answer (word_at d words a) ≡ reply_of d (state_after d h) w c
   pub legal : IsLegal d (entry w (answer (word_at d words a)) ∷ h)
+  pub small : IsSmall (answer (word_at d words a))
   pub stands : StandsFor d (stepped d words a change) (state_after d (entry w (answer (word_at d words a)) ∷ h))
 
 -- the words stand for the state that a legal history leaves
@@ -53,3 +55,7 @@ IsLaw c at change answer = (d : Shape) (h : List Entry) (w : ℕ) (words : List 
 abbrev pub CountersSay : Type 0
 CountersSay = (d : Shape) (h : List Entry) (words : List ℕ) → AreWordsOf d h words
     → (s : ℕ) → s < d.slots → IsCounter d ((state_after d h).slots s) (word_at d words (CounterOf s))
+
+-- the words at the start are those of the empty history
+abbrev pub FirstWordsStand : Type 0
+FirstWordsStand = (d : Shape) (words : List ℕ) → IsShape d → AreFirst d words → AreWordsOf d [] words

@@ -65,7 +65,11 @@ pub record IsCounter (d : Shape) (x : SlotState) (n : ℕ) : Type 0 where
   pub low : zero_count ≤ n + MOST_WORKERS
   pub high : n ≤ zero_count + MOST_WORKERS
 
--- the first words: all 0, but for the counters
+-- what each word holds at the start: all 0, but for the counters, which are at 0
 abbrev pub first_word : Address → ℕ
 first_word (CounterOf s) = zero_count
 first_word _ = 0
+
+pub record AreFirst (d : Shape) (words : List ℕ) : Type 0 where
+  pub count : length words ≡ count_of_words d
+  pub each : (a : Address) → IsThere d a → word_at d words a ≡ first_word a

@@ -54,3 +54,10 @@ pub fn index(shape: &Shape, address: Address) -> usize
         }
     }
 }
+
+/// How many words there are.
+pub fn words_in(shape: &Shape) -> usize
+    ensures { result ≡ indices.count_of_words shape.now }
+{
+    worker_index(shape, shape.workers)
+}

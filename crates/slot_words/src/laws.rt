@@ -11,7 +11,7 @@ ghost use Rattle.slot_history.specs.Table.{nth_other};
 ghost use Rattle.slot_words.specs.declared.address.Address.TheVariants.{ArrivalsAt, FinishedAt, StateOf, CursorOf, CounterOf, WorkerOf, ReturnOf, ChangeOf};
 ghost use Rattle.slot_words.specs.Encodings.{open_word, at_word, marked, cursor_word};
 ghost use Rattle.slot_words.specs.Steps.{added, one_less, exchanged, bit_of, look_answer, claim_answer, shut_answer, leave_answer, pay_answer, mark_answer, sweep_answer, reserve_answer, admit_answer, asked_at, marked_at, mask_told};
-ghost use Rattle.slot_words.specs.Laws.{IsLaw, CountersSay};
+ghost use Rattle.slot_words.specs.Laws.{IsLaw, CountersSay, FirstWordsStand};
 
 /// A store on the own state word.
 ///
@@ -154,4 +154,9 @@ pub fn take_change()
 /// pay; and it lies within 64 of 0.
 pub fn counters()
     ensures { CountersSay }
+{}
+
+/// The words at the start stand for the opening state.
+pub fn first_words_stand()
+    ensures { FirstWordsStand }
 {}

@@ -10,4 +10,5 @@
 pub mod address;
 pub mod encoding;
 pub mod laws;
+pub mod opening;
 

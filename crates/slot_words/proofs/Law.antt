@@ -117,7 +117,7 @@ module _ (d : Shape) (S : ObjectState) (w : ℕ) (low : w < d.workers) (fit : Is
         answer = subst (λ k. (n : ℕ) → Holds d S (address_of w k p) n → answer_of k p n ≡ a) of (λ n h. (reads a ok n h).0);
         here = subst (λ k. (n : ℕ) → Holds d S (address_of w k p) n → Holds d T (address_of w k p) (change_of k p n)) of (λ n h. (reads a ok n h).1);
         elsewhere = subst (λ k. (b : Address) → IsThere d b → b ≢ address_of w k p → (n : ℕ) → Holds d S b n → Holds d T b n) of (λ b in_b far.
-        elsewhere d S w low fit.table a ok b in_b far);
+            elsewhere d S w low fit.table a ok b in_b far);
       }
 
 -- the step of every call, in a state that a legal history leaves

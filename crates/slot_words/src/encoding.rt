@@ -2,7 +2,7 @@
 //!
 //! Each function has a clause that the numbers can be read back from its word.
 
-ghost use Rattle.std.specs.Prelude.{◌≡◌, ℕ, ◌%◌, ◌<◌, ◌^◌, pos, negsuc, ◌+ℤ◌, ◌≤ℤ◌};
+ghost use Rattle.std.specs.Prelude.{◌≡◌, ◌<◌, ◌≤◌, ◌^◌, pos, negsuc, ◌+ℤ◌, ◌≤ℤ◌};
 ghost use Rattle.slot_history.specs.declared.shape.TheConstants.{MOST_SLOTS};
 ghost use Rattle.slot_words.specs.Encodings as words;
 
@@ -15,9 +15,9 @@ pub fn open_word(id: u32) -> u64
     (u64::from(id) + 1) * 4 + 2
 }
 
-/// The word of an open slot with the tag, the lowest bit: its task set is shut or being finalised.
+/// The word of an open slot with the tag, its lowest bit: the task set is shut or being finalised.
 pub fn tagged(word: u64) -> u64
-    requires { (id : ℕ) × (id < 2 ^ 32) × (word ≡ words.open_word id) }
+    requires { words.kind_in word ≡ 2 }
     ensures word { result ≡ words.tagged word }
     ensures kind { words.kind_in result ≡ 3 }
     ensures id { words.id_in result ≡ words.id_in word }
@@ -33,9 +33,9 @@ pub fn at_word(slot: u32) -> u64
     u64::from(slot) + 1
 }
 
-/// The state of a worker that is at a slot and is marked for the task set `id`: `512 + 1024 * id` more than before.
+/// The word of a worker that is at a slot, with the mark for the task set `id`: `512 + 1024 * id` more.
 pub fn marked(word: u64, id: u32) -> u64
-    requires { (slot : ℕ) × (slot < 2 ^ 32) × (word ≡ words.at_word slot) }
+    requires { (0 < word) × (word ≤ 2 ^ 32) }
     ensures word { result ≡ words.marked word id }
     ensures slot { word < 512 → words.slot_in result ≡ words.slot_in word }
     ensures id { word < 512 → words.mark_in result ≡ id }

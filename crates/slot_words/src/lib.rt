@@ -11,4 +11,5 @@ pub mod address;
 pub mod encoding;
 pub mod laws;
 pub mod opening;
-
+#[cfg(test)]
+mod tests;

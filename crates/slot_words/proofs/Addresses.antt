@@ -39,10 +39,12 @@ index-one d (ChangeOf w p) _ x y e = absurd (omega arith)
 pub stands-set : (d : Shape) (words : List ℕ) (S S' : ObjectState) (a : Address) (n : ℕ) → StandsFor d words S → IsThere d a → Holds d S' a n
     → ((b : Address) → IsThere d b → b ≢ a → (m : ℕ) → Holds d S b m → Holds d S' b m) → StandsFor d (set words (index d a) n) S'
 stands-set d words S S' a n s in_a here other =
-    let low : index d a < length words = let l = index-low d a in_a in let c = s.count in omega arith in record {
-      count = length-set words (index d a) n ∙ s.count;
-      each = λ b in_b. dite (ℕ_discrete (index d b) (index d a))
-          (λ same. let e = index-one d b a in_b in_a same in
-          subst (λ c. Holds d S' c (get_or (set words (index d a) n) (index d c) 0)) (sym e) (subst (Holds d S' a) (sym (get_or-set_same words (index d a) n 0 low)) here))
-          (λ ne. subst (Holds d S' b) (sym (get_or-set_other words (index d a) (index d b) n 0 ne)) (other b in_b (λ e. ne (ap (index d) e)) (get_or words (index d b) 0) (s.each b in_b)));
+    let i : ℕ = index d a in
+    let low : i < length words = let l = index-low d a in_a in let c = s.count in omega arith in
+    let new : Holds d S' a (get_or (set words i n) i 0) = subst (Holds d S' a) (sym (get_or-set_same words i n 0 low)) here in record {
+      count = length-set words i n ∙ s.count;
+      each = λ b in_b. dite (ℕ_discrete (index d b) i)
+          (λ same. subst (λ c. Holds d S' c (get_or (set words i n) (index d c) 0)) (sym (index-one d b a in_b in_a same)) new)
+          (λ ne. subst (Holds d S' b) (sym (get_or-set_other words i (index d b) n 0 ne))
+          (other b in_b (λ e. ne (ap (index d) e)) (get_or words (index d b) 0) (s.each b in_b)));
     }

@@ -150,9 +150,8 @@ module _ (d : Shape) (S : ObjectState) (w : ℕ) (low : w < d.workers) (fit : Is
   sweeps-last s id k m at none n h =
       let l = leading s id k m at in
       let r = sweep-word s id k m n at h in let is = r.word in let sum = r.sum in let few = r.few in
-      let v : n + m ≡ zero_count = omega arith in
       let z : added m n ≡ zero_count = omega arith in (
-        cond-true (eqb (n + m) zero_count) SweepLast (SweepOthers (n + m - zero_count)) (eq-eqb (n + m) zero_count v),
+        cond-true (eqb (added m n) zero_count) SweepLast (SweepOthers (added m n - zero_count)) (eq-eqb (added m n) zero_count z),
         counter-after d S w s (added m n) (slot_after d w SweepLast (S.slots s)) (z ∙ sym (ap (λ x. counter_of d (slot_after d w SweepLast x)) l.lead.slot)),
       )
 
@@ -160,15 +159,17 @@ module _ (d : Shape) (S : ObjectState) (w : ℕ) (low : w < d.workers) (fit : Is
   sweeps-on s id k m o at some_debt owed n h =
       let l = leading s id k m at in let t = l.lead.task in let e = l.lead.ending in let c = l.count in
       let r = sweep-word s id k m n at h in let is = r.word in let sum = r.sum in let few = r.few in
-      let rest : n + m - zero_count ≡ o = omega arith in
+      let rest : added m n - zero_count ≡ o = omega arith in
       let g : Ending = record e { swept = true } in
       let paid = c.paid_is in let marks_are = c.marked_is in let all = c.sum in let deb = c.owed_is in
       let mine = l.lead.asked.marks in
       let named : debts d (S.slots s) ≡ debts d (Shut t e) = ap (debts d) l.lead.slot in
       let v : counter_of d (Shut t g) ≡ 2 ^ 32 + marks d (Shut t e) - payments d (Shut t e) = refl in
-      let z : added m n ≡ counter_of d (Shut t g) = omega arith in (
-        cond-false (eqb (n + m) zero_count) SweepLast (SweepOthers (n + m - zero_count)) (ne_eqb (n + m) zero_count (λ q. omega arith)) ∙ ap SweepOthers rest,
-        counter-after d S w s (added m n) (slot_after d w (SweepOthers o) (S.slots s)) (z ∙ sym (ap (λ x. counter_of d (slot_after d w (SweepOthers o) x)) l.lead.slot)),
+      let z : added m n ≡ counter_of d (Shut t g) = omega arith in
+      let after = sym (ap (λ x. counter_of d (slot_after d w (SweepOthers o) x)) l.lead.slot) in (
+        cond-false (eqb (added m n) zero_count) SweepLast (SweepOthers (added m n - zero_count)) (ne_eqb (added m n) zero_count (λ q. omega arith))
+            ∙ ap SweepOthers rest,
+        counter-after d S w s (added m n) (slot_after d w (SweepOthers o) (S.slots s)) (z ∙ after),
       )
 
   -- ---- marks
@@ -232,7 +233,8 @@ module _ (d : Shape) (S : ObjectState) (w : ℕ) (low : w < d.workers) (fit : Is
       let no : N ≢ at_word s = λ is. true≢false (sym (unmarked-at (S.slots (slot_of q)) v q s (omega arith) (sym h ∙ is)) ∙ gone) in
       let miss : eqb N (at_word s) ≡ false = ne_eqb N (at_word s) no in
       let y : SlotState = slot_after d w MarkMissed (S.slots s) in
-      let same : mark_at y v ≡ mark_at (S.slots s) v = ap (λ x. mark_at (slot_after d w MarkMissed x) v) k.lead.slot ∙ sym (ap (λ x. mark_at x v) k.lead.slot) in
+      let same : mark_at y v ≡ mark_at (S.slots s) v =
+      ap (λ x. mark_at (slot_after d w MarkMissed x) v) k.lead.slot ∙ sym (ap (λ x. mark_at x v) k.lead.slot) in
       let after : worker_word (upd S.slots s y (slot_of q)) v q ≡ worker_word (S.slots (slot_of q)) v q =
       ap (λ m. cond (is_at q (slot_of q)) (at_word (slot_of q) + m) 0) (upd-cases S.slots s y (slot_of q) (λ x. mark_at x v ≡ mark_at (S.slots (slot_of q)) v)
       (λ e. same ∙ ap (λ r. mark_at (S.slots r) v) (sym e)) (λ ne. refl)) in (

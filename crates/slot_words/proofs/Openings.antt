@@ -39,7 +39,10 @@ filled-none d m words is count = subst (AreFilled d 0) (sym is) (record { count 
 
 -- the next counter
 next-below : (s n : ℕ) → s ≢ n → ltb s n ≡ ltb s (n + 1)
-next-below s n ne = ⊎_elim (λ lt. lt-ltb s n lt ∙ sym (lt-ltb s (n + 1) (omega arith))) (λ ge. le-ltb s n ge ∙ sym (le-ltb s (n + 1) (omega arith))) (cases_lt s n)
+next-below s n ne = ⊎_elim
+    (λ lt. lt-ltb s n lt ∙ sym (lt-ltb s (n + 1) (omega arith)))
+    (λ ge. le-ltb s n ge ∙ sym (le-ltb s (n + 1) (omega arith)))
+    (cases_lt s n)
 
 next-filled : (n : ℕ) (a : Address) → a ≢ CounterOf n → filled n a ≡ filled (n + 1) a
 next-filled n (CounterOf s) other = ap (λ b. cond b zero_count 0) (dite (ℕ_discrete s n) (λ e. absurd (other (ap CounterOf e))) (λ ne. next-below s n ne))

@@ -77,7 +77,8 @@ module _ (d : Shape) (S : ObjectState) (w : ℕ) (low : w < d.workers) (fit : Is
       let f : k ≤ 65536 = few in record {
         total = omega arith;
         cursor = omega arith;
-        after = subst (λ x. IsCursor x (added k n)) (sym (upd-same S.slots s (claimed (S.slots s) k))) (cursor-grows (S.slots s) (added k n) k kind (omega arith));
+        after = subst (λ x. IsCursor x (added k n)) (sym (upd-same S.slots s (claimed (S.slots s) k)))
+            (cursor-grows (S.slots s) (added k n) k kind (omega arith));
       }
 
   pub claims : (s id k from to : ℕ) → p ≡ Inside s id → k ≤ MOST_CLAIM → from ≡ (task_of (S.slots s)).cursor

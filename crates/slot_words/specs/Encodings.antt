@@ -17,7 +17,7 @@ kind_in word = word % 4
 abbrev pub id_in : ℕ → ℕ
 id_in word = word / 4 - 1
 
--- ---- the state of a worker: the lowest nine bits are its slot, plus 1; then one bit of a mark; then the id of the mark
+-- ---- the state of a worker: nine bits of its slot, plus 1; a bit of its mark; the id of the mark
 
 -- at this slot
 abbrev pub at_word : ℕ → ℕ
@@ -48,7 +48,8 @@ total_in word = word / 2 ^ 32
 abbrev pub cursor_in : ℕ → ℕ
 cursor_in word = word % 2 ^ 32
 
--- ---- the counter of a slot, which goes below 0 for a while: its word is so much higher
+-- ---- the counter of a slot, which is below 0 for a while
 
+-- the word of the count 0
 abbrev pub zero_count : ℕ
 zero_count = 2 ^ 32

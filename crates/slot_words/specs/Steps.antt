@@ -1,4 +1,5 @@
--- The one atomic step of each call: the word that it is on, what it makes of that word, and what it answers.
+-- The one atomic step of each call: the word that it is on, what it makes of it, and what it
+-- answers.
 use Rattle.std.specs.Prelude.{ℕ, ◌+◌, ◌-◌, ◌*◌, ◌/◌, ◌%◌, ◌^◌, true, false, cond, eqb, ltb, min, bit_or}
 use prog.Atomic.{either}
 use Rattle.slot_history.specs.declared.act.Act.{Act}
@@ -31,11 +32,13 @@ bit_of s = 1 * 2 ^ (s % 64) % 2 ^ 64
 -- ---- what a call reads in its word
 
 abbrev pub look_answer : ℕ → Act
-look_answer n = cond (eqb (kind_in n) 2) (LookOpen (id_in n)) (cond (eqb (kind_in n) 3) LookInvalid LookVacant)
+look_answer n = cond (eqb (kind_in n) 2) (LookOpen (id_in n))
+    (cond (eqb (kind_in n) 3) LookInvalid LookVacant)
 
 -- a claim of k tuples, of a total and a cursor
 abbrev pub claim_answer_of : ℕ → ℕ → ℕ → Act
-claim_answer_of k total cursor = cond (ltb cursor total) (ClaimRange k cursor (min total (cursor + k))) (ClaimUsed k)
+claim_answer_of k total cursor =
+    cond (ltb cursor total) (ClaimRange k cursor (min total (cursor + k))) (ClaimUsed k)
 
 abbrev pub claim_answer : ℕ → ℕ → Act
 claim_answer k n = claim_answer_of k (total_in n) (cursor_in n)
@@ -55,7 +58,8 @@ mark_answer s n = cond (eqb n (at_word s)) MarkMarked MarkMissed
 
 -- after m marks
 abbrev pub sweep_answer : ℕ → ℕ → Act
-sweep_answer m n = cond (eqb (n + m) zero_count) SweepLast (SweepOthers (n + m - zero_count))
+sweep_answer m n =
+    cond (eqb (added m n) zero_count) SweepLast (SweepOthers (added m n - zero_count))
 
 abbrev pub reserve_answer : ℕ → ℕ → Act
 reserve_answer s n = cond (eqb n 0) (ReserveGot s) (ReserveTaken s n)
@@ -74,7 +78,7 @@ abbrev pub marked_at : Place → ℕ
 marked_at (Asking s id n m) = m
 marked_at _ = 0
 
--- the mask word that an announcer writes: of a return after a finalisation, of a change after a reservation
+-- the mask word that an announcer writes: of returns after a finalisation, else of changes
 abbrev pub mask_told : Place → Address
 mask_told (Announcing s true told) = ReturnOf told (s / 64)
 mask_told (Announcing s false told) = ChangeOf told (s / 64)
@@ -110,7 +114,8 @@ change_of (Claiming k) p n = added k n
 change_of Shutting p n = bit_or n 1
 change_of Leaving p n = 0
 change_of Paying p n = one_less n
-change_of Marking p n = exchanged (at_word (slot_of p)) (marked (at_word (slot_of p)) (id_at p)) n
+change_of Marking p n =
+    let there = at_word (slot_of p) in exchanged there (marked there (id_at p)) n
 change_of Sweeping p n = added (marked_at p) n
 change_of (Reserving s) p n = exchanged 0 1 n
 change_of (Admitting q) p n = exchanged q (q + 1) n

@@ -11,7 +11,8 @@ use Rattle.slot_words.specs.declared.address.Address.TheVariants.{Meeting, Arriv
 use Rattle.slot_words.specs.Addresses.{IsThere, index, count_of_words}
 use Rattle.slot_words.specs.Encodings.{at_word, mark_for, cursor_word, zero_count}
 
--- what the word of a slot's cursor holds; of an empty slot, and in a holding before a total is set, nothing is said
+-- what the word of a slot's cursor holds; of an empty slot, and in a holding without a total,
+-- nothing is said
 abbrev pub IsCursor : SlotState → ℕ → Type 0
 IsCursor Empty n = Unit {0}
 IsCursor (Reserved w h) n = IfSome h.total (λ t. n ≡ cursor_word t 0)
@@ -57,8 +58,9 @@ pub record IsShape (d : Shape) : Type 0 where
   pub workers : (0 < d.workers) × (d.workers ≤ MOST_WORKERS)
   pub queries : d.queries ≤ MOST_QUERIES
 
--- the counter of a slot: before the sweep it is so many below 0 as workers paid, and after it so many above 0 as still have
--- to pay; it is never further from 0 than there can be workers
+-- the counter of a slot: before the sweep it is minus the number of workers that paid, and after it
+-- the number of workers that still have to pay; it is never further from 0 than there can be
+-- workers
 pub record IsCounter (d : Shape) (x : SlotState) (n : ℕ) : Type 0 where
   pub unswept : is_swept x ≡ false → n + payments d x ≡ zero_count
   pub swept : is_swept x ≡ true → n ≡ zero_count + debts d x

@@ -33,7 +33,8 @@ pub fn at_word(slot: u32) -> u64
     u64::from(slot) + 1
 }
 
-/// The word of a worker that is at a slot, with the mark for the task set `id`: `512 + 1024 * id` more.
+/// The word of a worker that is at a slot, with the mark for the task set `id`: `512 + 1024 * id`
+/// more.
 pub fn marked(word: u64, id: u32) -> u64
     requires { (0 < word) × (word ≤ 2 ^ 32) }
     ensures word { result ≡ words.marked word id }
@@ -52,8 +53,8 @@ pub fn cursor_word(total: u32, cursor: u32) -> u64
     (u64::from(total) << 32) + u64::from(cursor)
 }
 
-/// The counter of a slot: `2^32 + count`. The count is minus the number of workers that paid before the sweep, and after it
-/// the number that still have to pay.
+/// The counter of a slot: `2^32 + count`. The count is minus the number of workers that paid before
+/// the sweep, and after it the number that still have to pay.
 pub fn counter_word(count: i64) -> u64
     requires { (negsuc 63 ≤ℤ count) × (count ≤ℤ pos 64) }
     ensures { pos result ≡ pos words.zero_count +ℤ count }

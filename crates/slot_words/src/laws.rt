@@ -1,7 +1,9 @@
-//! The law of each call: the one word that its step is on, what it makes of that word, and what it answers.
+//! The law of each call: the one word that its step is on, what it makes of that word, and what it
+//! answers.
 //!
-//! Each function does nothing, and its contract is a law. The words, the changes and the answers in it are the step, by the
-//! number `w` of the worker that calls and its place `p`. Crates above cite `law` of `proofs/Law.antt`, which has them all.
+//! Each function does nothing, and its contract is a law. The word, the change and the answer in it
+//! are the step, by the number `w` of the worker that calls and its place `p`. Crates above cite
+//! `law` of `proofs/Law.antt`, which has all of them.
 
 ghost use Rattle.std.specs.Prelude.{ℕ, ◌+◌, bit_or};
 ghost use Rattle.slot_history.specs.declared.act.Act.TheVariants.{Enter, Arrivals, Finished, Note, Total, Install, Release, Tell, TakeReturn, TakeChange};
@@ -15,15 +17,16 @@ ghost use Rattle.slot_words.specs.Laws.{IsLaw, CountersSay, FirstWordsStand};
 
 /// A store on the own state word.
 ///
-/// No lock: only a coordinator writes another worker's word, and it marks nobody that is nowhere.
+/// No lock: nobody but a coordinator writes another worker's word, and it marks nobody that is
+/// nowhere.
 pub fn enter()
     ensures { (s : ℕ) → IsLaw (Entering s) (λ w p. WorkerOf w) (λ p n. at_word s) (λ p n. Enter s) }
 {}
 
 /// A load of the slot's state word.
 ///
-/// No lock: the worker's own word says that it is at the slot before it looks. So whoever shuts the slot after the look finds
-/// it there, or it has left.
+/// No lock: the worker's own word says that it is at the slot before it looks. So whoever shuts the
+/// slot after the look finds it there, or it has left.
 pub fn look()
     ensures { IsLaw Looking (λ w p. StateOf (slot_of p)) (λ p n. n) (λ p n. look_answer n) }
 {}
@@ -32,12 +35,14 @@ pub fn look()
 ///
 /// No lock: the total cannot change while somebody is inside, and two additions get two ranges.
 pub fn claim()
-    ensures { (k : ℕ) → IsLaw (Claiming k) (λ w p. CursorOf (slot_of p)) (λ p n. added k n) (λ p n. claim_answer k n) }
+    ensures { (k : ℕ) → IsLaw (Claiming k) (λ w p. CursorOf (slot_of p))
+        (λ p n. added k n) (λ p n. claim_answer k n) }
 {}
 
 /// A swap of the own state word with 0.
 ///
-/// No lock: the mark lies in the word that the leave takes, so it is found by this leave or comes too late to be set.
+/// No lock: the mark lies in the word that the leave takes, so it is found by this leave or comes
+/// too late to be set.
 pub fn leave()
     ensures { IsLaw Leaving (λ w p. WorkerOf w) (λ p n. 0) (λ p n. leave_answer n) }
 {}
@@ -46,43 +51,52 @@ pub fn leave()
 ///
 /// No lock: the step tells whether the tag was there before, so one shut alone is the first.
 pub fn shut()
-    ensures { IsLaw Shutting (λ w p. StateOf (slot_of p)) (λ p n. bit_or n 1) (λ p n. shut_answer n) }
+    ensures { IsLaw Shutting (λ w p. StateOf (slot_of p))
+        (λ p n. bit_or n 1) (λ p n. shut_answer n) }
 {}
 
-/// One compare and exchange on the state word of the next other worker: from at the slot to at the slot and marked for the
-/// coordinator's task set.
+/// One compare and exchange on the state word of the next other worker: from at the slot to at the
+/// slot and marked for the coordinator's task set.
 ///
-/// No lock: the mark is set only in a word that says that the worker is at the slot; any other word tells that it isn't.
+/// No lock: the mark is set only in a word that says that the worker is at the slot; any other word
+/// tells that it isn't.
 pub fn mark_next()
-    ensures { IsLaw Marking (λ w p. WorkerOf (nth_other w (asked_at p))) (λ p n. exchanged (at_word (slot_of p)) (marked (at_word (slot_of p)) (id_at p)) n) (λ p n. mark_answer (slot_of p) n) }
+    ensures { IsLaw Marking (λ w p. WorkerOf (nth_other w (asked_at p)))
+        (λ p n. let there = at_word (slot_of p) in exchanged there (marked there (id_at p)) n)
+        (λ p n. mark_answer (slot_of p) n) }
 {}
 
 /// An addition of the number of marks to the slot's counter.
 ///
-/// No lock: payments that came before have counted down, so the sum is the number of those that still have to pay.
+/// No lock: payments that came before have counted down, so the sum is the number of those that
+/// still have to pay.
 pub fn sweep()
-    ensures { IsLaw Sweeping (λ w p. CounterOf (slot_of p)) (λ p n. added (marked_at p) n) (λ p n. sweep_answer (marked_at p) n) }
+    ensures { IsLaw Sweeping (λ w p. CounterOf (slot_of p))
+        (λ p n. added (marked_at p) n) (λ p n. sweep_answer (marked_at p) n) }
 {}
 
 /// A subtraction of 1 from the slot's counter.
 ///
 /// No lock: it is above 0 only after the sweep, and one payment alone takes it from 1 to 0.
 pub fn pay()
-    ensures { IsLaw Paying (λ w p. CounterOf (slot_of p)) (λ p n. one_less n) (λ p n. pay_answer n) }
+    ensures { IsLaw Paying (λ w p. CounterOf (slot_of p))
+        (λ p n. one_less n) (λ p n. pay_answer n) }
 {}
 
 /// One compare and exchange on the slot's state word, from empty to reserved.
 ///
 /// No lock: of two that want the slot, one finds it empty.
 pub fn reserve()
-    ensures { (s : ℕ) → IsLaw (Reserving s) (λ w p. StateOf s) (λ p n. exchanged 0 1 n) (λ p n. reserve_answer s n) }
+    ensures { (s : ℕ) → IsLaw (Reserving s) (λ w p. StateOf s)
+        (λ p n. exchanged 0 1 n) (λ p n. reserve_answer s n) }
 {}
 
 /// One compare and exchange on the arrivals, from q to q + 1.
 ///
 /// No lock: of two that want to admit q, one finds it the next.
 pub fn admit()
-    ensures { (q : ℕ) → IsLaw (Admitting q) (λ w p. ArrivalsAt) (λ p n. exchanged q (q + 1) n) (λ p n. admit_answer q n) }
+    ensures { (q : ℕ) → IsLaw (Admitting q) (λ w p. ArrivalsAt)
+        (λ p n. exchanged q (q + 1) n) (λ p n. admit_answer q n) }
 {}
 
 /// A load of the arrivals.
@@ -110,15 +124,17 @@ pub fn note_done()
 ///
 /// No lock: nobody but its holder uses the cursor of a slot that is reserved or being finalised.
 pub fn set_total()
-    ensures { (t : ℕ) → IsLaw (Totalling t) (λ w p. CursorOf (slot_of p)) (λ p n. cursor_word t 0) (λ p n. Total t) }
+    ensures { (t : ℕ) → IsLaw (Totalling t) (λ w p. CursorOf (slot_of p))
+        (λ p n. cursor_word t 0) (λ p n. Total t) }
 {}
 
 /// A store of the open word in the slot's state word.
 ///
-/// No lock: nobody but its holder changes the state of a slot that is reserved or being finalised, and the total is there
-/// before the slot opens.
+/// No lock: nobody but its holder changes the state of a slot that is reserved or being finalised,
+/// and the total is there before the slot opens.
 pub fn install()
-    ensures { (id : ℕ) → IsLaw (Installing id) (λ w p. StateOf (slot_of p)) (λ p n. open_word id) (λ p n. Install id) }
+    ensures { (id : ℕ) → IsLaw (Installing id) (λ w p. StateOf (slot_of p))
+        (λ p n. open_word id) (λ p n. Install id) }
 {}
 
 /// A store of 0 in the slot's state word.
@@ -128,30 +144,33 @@ pub fn release()
     ensures { IsLaw Releasing (λ w p. StateOf (slot_of p)) (λ p n. 0) (λ p n. Release) }
 {}
 
-/// The slot's bit is set in a mask word of the worker that is told: of its returns after a finalisation, of its changes
-/// after a reservation.
+/// The slot's bit is set in a mask word of the worker that is told: of its returns after a
+/// finalisation, of its changes after a reservation.
 ///
 /// No lock: bits of other slots stay, and a bit that is set twice is set.
 pub fn announce()
-    ensures { IsLaw Telling (λ w p. mask_told p) (λ p n. bit_or n (bit_of (slot_of p))) (λ p n. Tell) }
+    ensures { IsLaw Telling (λ w p. mask_told p)
+        (λ p n. bit_or n (bit_of (slot_of p))) (λ p n. Tell) }
 {}
 
 /// A swap of an own mask word with 0.
 ///
 /// No lock: a notice that is set before the swap is taken by it, and a later one stays.
 pub fn take_return()
-    ensures { (part : ℕ) → IsLaw (TakingReturn part) (λ w p. ReturnOf w part) (λ p n. 0) (λ p n. TakeReturn part n) }
+    ensures { (part : ℕ) → IsLaw (TakingReturn part) (λ w p. ReturnOf w part)
+        (λ p n. 0) (λ p n. TakeReturn part n) }
 {}
 
 /// A swap of an own mask word with 0.
 ///
 /// No lock: as for `take_return`.
 pub fn take_change()
-    ensures { (part : ℕ) → IsLaw (TakingChange part) (λ w p. ChangeOf w part) (λ p n. 0) (λ p n. TakeChange part n) }
+    ensures { (part : ℕ) → IsLaw (TakingChange part) (λ w p. ChangeOf w part)
+        (λ p n. 0) (λ p n. TakeChange part n) }
 {}
 
-/// Before the sweep a slot's counter is minus the number of workers that paid, and after it the number that still have to
-/// pay; and it lies within 64 of 0.
+/// Before the sweep a slot's counter is minus the number of workers that paid, and after it the
+/// number that still have to pay; and it lies within 64 of 0.
 pub fn counters()
     ensures { CountersSay }
 {}

@@ -1,10 +1,12 @@
-//! The words of the slot object: what each holds in a state, and for each call of a worker the law of its one atomic step.
+//! The words of the slot object: what each holds in a state, and for each call the law of its one
+//! atomic step.
 //!
-//! It stands on `slot_history` alone. A step reads one word, writes one word, and nothing else; so the laws hold for a
-//! list of words on one thread and for atomic words that many threads share.
+//! It stands on `slot_history` alone. A step reads one word, writes one word, and nothing else; so
+//! the laws hold for a list of words on one thread and for atomic words that many threads share.
 //!
-//! The layers above may use one fact: on words that stand for the state of a legal history, the step of a call that its
-//! worker may make gives the reply of the definition and words that stand for the next state (`IsLaw`, module `laws`).
+//! The layers above may use one fact: on words that stand for the state of a legal history, the
+//! step of a call that its worker may make gives the reply of the definition and words that stand
+//! for the next state (`IsLaw`, module `laws`).
 #![tactic(auto)]
 
 pub mod address;

@@ -72,6 +72,13 @@ impl<B: Fits, O: SlotObject> OneTable<B, O> {
         self.object.shape()
     }
 
+    /// The object that makes the steps of the calls.
+    pub fn object(&self) -> &O
+        ensures { O.story result.now ≡ record { shape = self.now.shape; log = self.now.log } }
+    {
+        &self.object
+    }
+
     /// Hands the history over. It takes no memory.
     pub fn end(self) -> History
         ensures { result ≡ calls_of self.log }

@@ -1,0 +1,180 @@
+-- One step of the machine of words, whatever the call.
+use Rattle.std.proofs.Common.{◌≡◌, ℕ, ◌<◌, ◌≤◌, List, [], ◌∷◌, length, get_or, replicate, Some, slice_get, slice_index, slice_set, refl, sym, ap, ap₂, ◌∙◌, subst, length-set, arith}
+use Rattle.std.proofs.lemmas.List.{get_or-replicate, length-replicate}
+use Rattle.std.proofs.lemmas.Option.{get_or_from_slice_get, slice_get-get_or}
+use mathlib.Core.Logic.{dite}
+use native.Mathlib.Decide.{ℕ_discrete}
+use Rattle.slot_history.specs.declared.shape.Shape.{Shape}
+use Rattle.slot_history.specs.declared.shape.TheConstants.{MOST_WORKERS}
+use Rattle.slot_history.specs.declared.act.Act.{Act}
+use Rattle.slot_history.specs.declared.place.Place.{Place}
+use Rattle.slot_history.specs.declared.place.Place.TheVariants.{Free, Asking, Announcing}
+use Rattle.slot_history.specs.Sets.{upd}
+use Rattle.slot_history.specs.States.{ObjectState, slot_of}
+use Rattle.slot_history.specs.Steps.{moved, state_after}
+use Rattle.slot_history.specs.Table.{Duty, Meets, duty_of}
+use Rattle.slot_history.specs.Bounds.{IsPlaceWithin}
+use Rattle.slot_history.specs.Histories.{IsLegal, entry}
+use Rattle.slot_history.specs.Calls.{Call}
+use Rattle.slot_history.proofs.Duties.{asking-leads}
+use Rattle.slot_history.proofs.Sets.{count-most, upd-same, upd-else}
+use Rattle.slot_history.proofs.Table.{table}
+use Rattle.slot_history.proofs.Within.{within}
+use Rattle.slot_station.specs.declared.log.Logged.{Logged}
+use Rattle.slot_station.specs.Log.{calls_of, call}
+use Rattle.one_thread.specs.Stories.{MakesCall, state_in, place_in}
+use Rattle.slot_station.specs.Places.{IsCounted}
+use Rattle.slot_station.proofs.Lists.{get-set_same, get-set_other}
+use Rattle.slot_words.specs.declared.address.Address.{Address}
+use Rattle.slot_words.specs.Addresses.{index}
+use Rattle.slot_words.specs.Steps.{address_of, change_of, answer_of}
+use Rattle.slot_words.specs.Words.{IsShape, StandsFor, AreFirst, word_at}
+use Rattle.slot_words.specs.Numbers.{IsSmall}
+use Rattle.slot_words.specs.Laws.{IsLawful, stepped}
+use Rattle.slot_proto.specs.declared.machine.Machine.TheInside.{Inside}
+use Rattle.slot_words.proofs.Law.{law}
+use Rattle.slot_words.proofs.Openings.{first-words-stand}
+use Rattle.slot_proto.specs.Machines.{Running, IsMachine, IsCallOn, IsStepOf, Calls, place_now, story_of}
+
+-- an asking and a telling have come no further than there are workers
+counted : (d : Shape) (p : Place) (D : Duty) → d.workers ≤ MOST_WORKERS → Meets d (slot_of p) D p → IsPlaceWithin d p → IsCounted p
+counted d (Asking s id n m) D most meets low =
+    let (e, is, asked) = asking-leads d s id n m D meets in
+    let less = asked.within in
+    let marks = asked.marks in
+    let some = count-most d.workers e.marked in (omega arith, omega arith)
+counted d (Announcing s again told) D most meets low = let less = low.1 in omega arith
+counted d p D most meets low = tt
+
+-- the worker that calls is then where the call moves it, and what the reply brings is so by that place
+pub brings : (old new : Running) (w : ℕ) (a b : Act) (Brings : Place → Type 0) → Calls old w b new → b ≡ a → (q : Place) → q ≡ place_now old w
+    → Brings (moved old.shape a q) → Brings (place_now new w)
+brings old new w a b Brings made is q here h =
+    let S : ObjectState = state_in old.shape old.log in
+    let then : place_now new w ≡ moved old.shape b (place_now old w) =
+    ap (λ x. place_in x w) made.story ∙ upd-same S.places w (moved old.shape b (place_now old w)) in
+    subst Brings (ap₂ (moved old.shape) (sym is) here ∙ sym then) h
+
+-- of a machine that shows r
+module _ (r : Running) (places : List Place) (ok : IsMachine r.shape r.words places r.log) (w : ℕ) where
+  abbrev S : ObjectState
+  S = state_in r.shape r.log
+
+  abbrev p : Place
+  p = place_now r w
+
+  pub place-got : w < r.shape.workers → slice_get places w ≡ Some p
+  place-got low = ok.places_are.are w low
+
+  pub place-in : w < r.shape.workers → w < length places
+  place-in low = let c = ok.places_are.count in omega arith
+
+  pub place-within : IsPlaceWithin r.shape p
+  place-within = (within r.shape (calls_of r.log) ok.words_are.legal).places w
+
+  pub place-counted : w < r.shape.workers → IsCounted p
+  place-counted low =
+      let t = table r.shape (calls_of r.log) ok.words_are.legal in
+      counted r.shape p (duty_of (S.slots (slot_of p)) w) ok.words_are.shape.workers.1 (t.duty (slot_of p) w low) place-within
+
+  -- the law of the call
+  pub lawful : (c : Call) (a : Address) → IsCallOn r w c a → IsLawful r.shape (calls_of r.log) w c a (change_of c p) (answer_of c p) r.words
+  lawful c a on =
+      subst (λ b. IsLawful r.shape (calls_of r.log) w c b (change_of c p) (answer_of c p) r.words) (sym on.on)
+      (law c r.shape (calls_of r.log) w r.words ok.words_are on.below on.may)
+
+  -- the words, the places and the log that the step leaves
+  pub made : (c : Call) (a : Address) (new : ℕ) (act : Act) → IsStepOf r w c a new act
+      → IsMachine r.shape (slice_set r.words (index r.shape a) new) (slice_set places w (moved r.shape act p)) (call w act ∷ r.log)
+  made c a new act step =
+      let l = lawful c a step.call in
+      let low = step.call.below in
+      let put = moved r.shape act p in record {
+        words_are = record {
+          shape = ok.words_are.shape;
+          legal = subst (λ b. IsLegal r.shape (entry w b ∷ calls_of r.log)) (sym step.reads) l.legal;
+          stands = subst (λ n. StandsFor r.shape (slice_set r.words (index r.shape a) n) (state_in r.shape (call w act ∷ r.log))) (sym step.changes)
+              (subst (λ b. StandsFor r.shape (stepped r.shape r.words a (change_of c p)) (state_in r.shape (call w b ∷ r.log))) (sym step.reads) l.stands);
+        };
+        places_are = record {
+          count = length-set places w put ∙ ok.places_are.count;
+          are = λ v in_v. dite (ℕ_discrete v w)
+              (λ e. ap (slice_get (slice_set places w put)) e ∙ get-set_same places w put (place-in low)
+              ∙ ap Some (sym (ap (upd S.places w put) e ∙ upd-same S.places w put)))
+              (λ ne. get-set_other places w v put ne ∙ ok.places_are.are v in_v ∙ ap Some (sym (upd-else S.places w put v ne)));
+        };
+      }
+
+-- of the machine o, which shows r
+module _ (o : Inside) (ok : IsMachine o.shape o.words.items o.places.items o.log) (r : Running)
+    (view : record { shape = o.shape; words = o.words.items; log = o.log } ≡ r) (w : ℕ) where
+  abbrev Kept : Running → Type 0
+  Kept x = IsMachine x.shape x.words o.places.items x.log
+
+  sound : Kept r
+  sound = subst Kept view ok
+
+  -- the place that is read is the worker's
+  pub place-read : w < r.shape.workers → (q : Place) → q ≡ get_or o.places.items w q → q ≡ place_now r w
+  place-read low q is = is ∙ get_or_from_slice_get o.places.items w (place_now r w) q (place-got r o.places.items sound w low)
+
+  -- the word that is read is that at the address
+  pub word-in : (c : Call) (a : Address) → IsCallOn r w c a → (at : ℕ) → at ≡ index o.shape a → at < length o.words.items
+  word-in c a on at is =
+      let low = (lawful r o.places.items sound w c a on).there in
+      subst (λ i. i < length o.words.items) (sym is) (subst (λ (x : Running). index x.shape a < length x.words) (sym view) low)
+
+  pub word-there : (c : Call) (a : Address) → IsCallOn r w c a → (at : ℕ) → at ≡ index o.shape a → at < o.words.len
+  word-there c a on at is = let low = word-in c a on at is in let l = o.words.ok.0 in omega arith
+
+  pub word-read : (c : Call) (a : Address) → IsCallOn r w c a → (at : ℕ) → at ≡ index o.shape a → (n : ℕ) → n ≡ get_or o.words.items at n
+      → n ≡ word_at r.shape r.words a
+  word-read c a on at is n reads =
+      let got = slice_get-get_or o.words.items at 0 (word-in c a on at is) in
+      let here : n ≡ slice_index o.words.items at = reads ∙ get_or_from_slice_get o.words.items at (get_or o.words.items at 0) n got in
+      here ∙ ap (slice_index o.words.items) is ∙ ap (λ (x : Running). word_at x.shape x.words a) view
+
+  pub answer-small : (c : Call) (a : Address) → IsCallOn r w c a → (n : ℕ) → n ≡ word_at r.shape r.words a → IsSmall (answer_of c (place_now r w) n)
+  answer-small c a on n is = subst (λ k. IsSmall (answer_of c (place_now r w) k)) (sym is) (lawful r o.places.items sound w c a on).small
+
+  -- what is kept after the step, of a word, a place and a log that became so
+  pub kept : (c : Call) (a : Address) (new : ℕ) (act : Act) → IsStepOf r w c a new act → (at : ℕ) → at ≡ index o.shape a
+      → (q put : Place) → q ≡ get_or o.places.items w q → put ≡ moved o.shape act q → (log : List Logged) → log ≡ call w act ∷ o.log
+      → IsMachine o.shape (slice_set o.words.items at new) (slice_set o.places.items w put) log
+  kept c a new act step at is q put reads moves log noted =
+      let low = step.call.below in
+      let After : Running → Type 0 =
+      λ x. IsMachine x.shape (slice_set x.words (index x.shape a) new) (slice_set o.places.items w (moved x.shape act (place_now r w))) (call w act ∷ x.log) in
+      let then : After (record { shape = o.shape; words = o.words.items; log = o.log }) =
+      subst After (sym view) (made r o.places.items sound w c a new act step) in
+      let moved_to : put ≡ moved o.shape act (place_now r w) = moves ∙ ap (moved o.shape act) (place-read low q reads) in
+      subst (λ l. IsMachine o.shape (slice_set o.words.items at new) (slice_set o.places.items w put) l) (sym noted)
+      (subst (λ z. IsMachine o.shape (slice_set o.words.items at new) (slice_set o.places.items w z) (call w act ∷ o.log)) (sym moved_to)
+      (subst (λ i. IsMachine o.shape (slice_set o.words.items i new) (slice_set o.places.items w (moved o.shape act (place_now r w))) (call w act ∷ o.log)) (sym is) then))
+
+  pub called : (c : Call) (a : Address) (new : ℕ) (act : Act) → IsStepOf r w c a new act → (log : List Logged) → log ≡ call w act ∷ o.log
+      → MakesCall (story_of r) w act (record { shape = o.shape; log = log })
+  called c a new act step log noted =
+      let legal = (made r o.places.items sound w c a new act step).words_are.legal in
+      let After : Running → Type 0 = λ x. MakesCall (story_of r) w act (record { shape = x.shape; log = call w act ∷ x.log }) in
+      let then : After (record { shape = o.shape; words = o.words.items; log = o.log }) = subst After (sym view) (record { story = refl; legal = legal }) in
+      subst (λ l. MakesCall (story_of r) w act (record { shape = o.shape; log = l })) (sym noted) then
+
+  -- the place that is read lies within the shape, and its counts within the workers
+  pub read-within : w < r.shape.workers → (q : Place) → q ≡ get_or o.places.items w q → IsPlaceWithin r.shape q
+  read-within low q is = subst (IsPlaceWithin r.shape) (sym (place-read low q is)) (place-within r o.places.items sound w)
+
+  pub read-counted : w < r.shape.workers → (q : Place) → q ≡ get_or o.places.items w q → IsCounted q
+  read-counted low q is = subst IsCounted (sym (place-read low q is)) (place-counted r o.places.items sound w low)
+
+get-replicate : (n k : ℕ) (x : Place) → k < n → slice_get (replicate n x) k ≡ Some x
+get-replicate n k x h =
+    let l : length (replicate n x) ≡ n = length-replicate n x in slice_get-get_or (replicate n x) k x (omega arith) ∙ ap Some (get_or-replicate n k x x h)
+
+-- a machine that nobody has used
+pub opens : (d : Shape) (words : List ℕ) (places : List Place) (log : List Logged) → IsShape d → AreFirst d words → places ≡ replicate d.workers Free
+    → log ≡ [] → IsMachine d words places log
+opens d words places log shape first free none = rw (free, none) (record {
+  words_are = first-words-stand d words shape first;
+  places_are = record { count = length-replicate d.workers Free; are = λ w h. get-replicate d.workers w Free h };
+})

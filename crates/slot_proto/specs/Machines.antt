@@ -1,0 +1,61 @@
+-- The object as words on one thread, without its cells.
+use Rattle.std.specs.Prelude.{◌≡◌, ℕ, ◌<◌, List, Some, length, slice_get}
+use Rattle.slot_history.specs.declared.shape.Shape.{Shape}
+use Rattle.slot_history.specs.declared.act.Act.{Act}
+use Rattle.slot_history.specs.declared.place.Place.{Place}
+use Rattle.slot_history.specs.States.{ObjectState}
+use Rattle.slot_history.specs.Calls.{Call, MayAt}
+use Rattle.slot_station.specs.declared.log.Logged.{Logged}
+use Rattle.slot_station.specs.Log.{calls_of}
+use Rattle.one_thread.specs.Stories.{Story, MakesCall, state_in, place_in}
+use Rattle.slot_words.specs.declared.address.Address.{Address}
+use Rattle.slot_words.specs.Words.{word_at}
+use Rattle.slot_words.specs.Steps.{address_of, change_of, answer_of}
+use Rattle.slot_words.specs.Laws.{AreWordsOf}
+
+-- what contracts see of a machine: how large the object is, its words and its log
+pub record Running : Type 0 where
+  pub shape : Shape
+  pub words : List ℕ
+  pub log : List Logged
+
+-- without the words
+abbrev pub story_of : Running → Story
+story_of r = record { shape = r.shape; log = r.log }
+
+-- the state that its history leaves
+abbrev pub state_now : Running → ObjectState
+state_now r = state_in r.shape r.log
+
+-- where a worker is
+abbrev pub place_now : Running → ℕ → Place
+place_now r w = place_in (story_of r) w
+
+-- the worker made the call
+abbrev pub Calls : Running → ℕ → Act → Running → Type 0
+Calls old w a new = MakesCall (story_of old) w a (story_of new)
+
+-- the worker w may make the call c, and its step is on this word
+pub record IsCallOn (r : Running) (w : ℕ) (c : Call) (a : Address) : Type 0 where
+  pub below : w < r.shape.workers
+  pub may : MayAt r.shape (place_now r w) c
+  pub on : a ≡ address_of w c (place_now r w)
+
+-- the word at this address becomes `new`, and the call answers `act`: by what it holds, this is the
+-- step of the call c
+pub record IsStepOf (r : Running) (w : ℕ) (c : Call) (a : Address)
+    (new : ℕ) (act : Act) : Type 0 where
+  pub call : IsCallOn r w c a
+  pub changes : new ≡ change_of c (place_now r w) (word_at r.shape r.words a)
+  pub reads : act ≡ answer_of c (place_now r w) (word_at r.shape r.words a)
+
+-- the places of the workers
+pub record HasPlaces (d : Shape) (places : List Place) (f : ℕ → Place) : Type 0 where
+  pub count : length places ≡ d.workers
+  pub are : (w : ℕ) → w < d.workers → slice_get places w ≡ Some (f w)
+
+-- what is kept at run time is what the legal history of the log leaves
+pub record IsMachine (d : Shape) (words : List ℕ) (places : List Place)
+    (log : List Logged) : Type 0 where
+  pub words_are : AreWordsOf d (calls_of log) words
+  pub places_are : HasPlaces d places (state_in d log).places

@@ -11,7 +11,7 @@ use Rattle.slot_history.specs.declared.place.Place.{Place}
 use Rattle.slot_history.specs.declared.place.Place.TheVariants.{Free, Asking, Announcing}
 use Rattle.slot_history.specs.Sets.{upd}
 use Rattle.slot_history.specs.States.{ObjectState, slot_of}
-use Rattle.slot_history.specs.Steps.{moved, state_after}
+use Rattle.slot_history.specs.Steps.{moved}
 use Rattle.slot_history.specs.Table.{Duty, Meets, duty_of}
 use Rattle.slot_history.specs.Bounds.{IsPlaceWithin}
 use Rattle.slot_history.specs.Histories.{IsLegal, entry}
@@ -27,7 +27,7 @@ use Rattle.slot_station.specs.Places.{IsCounted}
 use Rattle.slot_station.proofs.Lists.{get-set_same, get-set_other}
 use Rattle.slot_words.specs.declared.address.Address.{Address}
 use Rattle.slot_words.specs.Addresses.{index}
-use Rattle.slot_words.specs.Steps.{address_of, change_of, answer_of}
+use Rattle.slot_words.specs.Steps.{change_of, answer_of}
 use Rattle.slot_words.specs.Words.{IsShape, StandsFor, AreFirst, word_at}
 use Rattle.slot_words.specs.Numbers.{IsSmall}
 use Rattle.slot_words.specs.Laws.{IsLawful, stepped}
@@ -148,9 +148,11 @@ module _ (o : Inside) (ok : IsMachine o.shape o.words.items o.places.items o.log
       let then : After (record { shape = o.shape; words = o.words.items; log = o.log }) =
       subst After (sym view) (made r o.places.items sound w c a new act step) in
       let moved_to : put ≡ moved o.shape act (place_now r w) = moves ∙ ap (moved o.shape act) (place-read low q reads) in
-      subst (λ l. IsMachine o.shape (slice_set o.words.items at new) (slice_set o.places.items w put) l) (sym noted)
-      (subst (λ z. IsMachine o.shape (slice_set o.words.items at new) (slice_set o.places.items w z) (call w act ∷ o.log)) (sym moved_to)
-      (subst (λ i. IsMachine o.shape (slice_set o.words.items i new) (slice_set o.places.items w (moved o.shape act (place_now r w))) (call w act ∷ o.log)) (sym is) then))
+      let Now : ℕ → Place → List Logged → Type 0 =
+      λ i z l. IsMachine o.shape (slice_set o.words.items i new) (slice_set o.places.items w z) l in
+      let p : Place = moved o.shape act (place_now r w) in
+      subst (λ l. Now at put l) (sym noted)
+      (subst (λ z. Now at z (call w act ∷ o.log)) (sym moved_to) (subst (λ i. Now i p (call w act ∷ o.log)) (sym is) then))
 
   pub called : (c : Call) (a : Address) (new : ℕ) (act : Act) → IsStepOf r w c a new act → (log : List Logged) → log ≡ call w act ∷ o.log
       → MakesCall (story_of r) w act (record { shape = o.shape; log = log })

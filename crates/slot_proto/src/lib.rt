@@ -1,8 +1,8 @@
 //! The slot object as words, on one thread: each call reads one word and writes one word.
 //!
 //! It stands on `slot_words`, whose laws say that this is enough, and on `one_thread`, which has
-//! the table and its seats over any object. What a call reads in its word (`reading`) serves the board too,
-//! whose words many threads share.
+//! the table and its seats over any object. What a call reads in its word (`reading`) serves the
+//! board too, whose words many threads share.
 //!
 //! The layers above may use one fact: after each call the words stand for the state of the history,
 //! which is legal, and the reply is the definition's.
@@ -11,3 +11,5 @@
 pub mod machine;
 pub mod proto;
 pub mod reading;
+#[cfg(test)]
+mod tests;

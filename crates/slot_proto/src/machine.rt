@@ -1,4 +1,5 @@
-//! The object as words on one thread, without its cells: each call reads one word and writes that word.
+//! The object as words on one thread, without its cells: each call reads one word and writes that
+//! word.
 ghost use Rattle.std.specs.Prelude.{◌≡◌, ℕ, ◌<◌};
 ghost use Rattle.slot_history.specs.Bounds.{IsPlaceWithin};
 ghost use Rattle.slot_history.specs.Calls.{Call};
@@ -75,8 +76,8 @@ impl Machine {
         self.words[index(&self.shape, address)]
     }
 
-    /// The one atomic step of a call: its word becomes `new`, its worker goes to its next place, and
-    /// it is noted with its answer.
+    /// The one atomic step of a call: its word becomes `new`, its worker goes to its next place,
+    /// and it is noted with its answer.
     fn step(&mut self, worker: u32, address: Address, new: u64, act: &Act)
         requires { (c : Call) × IsStepOf self.old worker c address new act.now }
         ensures { Calls self.old worker act.now self.new }

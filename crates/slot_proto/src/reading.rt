@@ -14,12 +14,12 @@ ghost use Rattle.slot_station.specs.Tokens.{ClaimGives, ShutGives, LeaveGives, S
 ghost use Rattle.slot_words.specs.Numbers.{IsSmall};
 ghost use Rattle.slot_words.specs.Steps as step;
 
+use slot_history::place::Place;
+use slot_history::shape::Shape;
 use slot_station::answers::finaliser;
 use slot_station::moves::{id_at, slot_at};
 use slot_station::reply::{Admit, Claim, Leave, Look, Mark, Pay, Reserve, Shut, Sweep};
 use slot_station::token::{Coordinator, Debt, Holder, Spent};
-use slot_history::place::Place;
-use slot_history::shape::Shape;
 use slot_words::address::Address;
 
 /// The counter's word at 0.
@@ -40,7 +40,8 @@ pub fn look_in(word: u64) -> Look
 /// What a claim of n tuples finds in the cursor of its slot.
 pub fn claim_in(word: u64, n: u32, worker: u32, place: &Place) -> Claim
     ensures act { claim_act n result ≡ step.claim_answer n word }
-    ensures gives { (d : Shape) → ClaimGives d worker (moved d (claim_act n result) place.now) result }
+    ensures gives { (d : Shape)
+        → ClaimGives d worker (moved d (claim_act n result) place.now) result }
 {
     let total = word / (1 << 32);
     let cursor = word % (1 << 32);
@@ -58,7 +59,8 @@ pub fn claim_in(word: u64, n: u32, worker: u32, place: &Place) -> Claim
 /// What a shut finds in the state of its slot.
 pub fn shut_in(word: u64, worker: u32, place: &Place, shape: &Shape) -> Shut
     ensures act { shut_act result ≡ step.shut_answer word }
-    ensures gives { ShutGives shape.now worker (moved shape.now (shut_act result) place.now) result }
+    ensures gives { let d = shape.now in
+        ShutGives d worker (moved d (shut_act result) place.now) result }
 {
     if word % 4 == 2 {
         Shut::Won(Coordinator {
@@ -78,7 +80,8 @@ pub fn shut_in(word: u64, worker: u32, place: &Place, shape: &Shape) -> Shut
 pub fn leave_in(word: u64, worker: u32, place: &Place) -> Leave
     requires { IsSmall (step.leave_answer word) }
     ensures act { leave_act result ≡ step.leave_answer word }
-    ensures gives { (d : Shape) → LeaveGives d worker (moved d (leave_act result) place.now) result }
+    ensures gives { (d : Shape)
+        → LeaveGives d worker (moved d (leave_act result) place.now) result }
 {
     if word < 512 {
         Leave::Left
@@ -106,7 +109,8 @@ pub fn mark_in(word: u64, slot: u32) -> Mark
 pub fn sweep_in(word: u64, marked: u32, worker: u32, place: &Place) -> Sweep
     requires { IsSmall (step.sweep_answer marked word) }
     ensures act { sweep_act result ≡ step.sweep_answer marked word }
-    ensures gives { (d : Shape) → SweepGives d worker (moved d (sweep_act result) place.now) result }
+    ensures gives { (d : Shape)
+        → SweepGives d worker (moved d (sweep_act result) place.now) result }
 {
     let count = word.wrapping_add(u64::from(marked));
     if count == ZERO {
@@ -119,7 +123,8 @@ pub fn sweep_in(word: u64, marked: u32, worker: u32, place: &Place) -> Sweep
 /// What a payment finds in the counter of its slot.
 pub fn pay_in(word: u64, worker: u32, place: &Place) -> Pay
     ensures act { pay_act result ≡ step.pay_answer word }
-    ensures gives { (d : Shape) → PayGives d worker (moved d (pay_act result) place.now) result }
+    ensures gives { (d : Shape)
+        → PayGives d worker (moved d (pay_act result) place.now) result }
 {
     if word == ZERO + 1 {
         Pay::Last(finaliser(worker, place))
@@ -131,7 +136,8 @@ pub fn pay_in(word: u64, worker: u32, place: &Place) -> Pay
 /// What a reservation of slot s finds in its state.
 pub fn reserve_in(word: u64, worker: u32, s: u32) -> Reserve
     ensures act { reserve_act s result ≡ step.reserve_answer s word }
-    ensures gives { (d : Shape) → (p : Place) → ReserveGives d worker (moved d (reserve_act s result) p) result }
+    ensures gives { (d : Shape) → (p : Place)
+        → ReserveGives d worker (moved d (reserve_act s result) p) result }
 {
     if word == 0 {
         Reserve::Got(Holder {

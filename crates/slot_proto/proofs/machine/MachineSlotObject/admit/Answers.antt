@@ -19,8 +19,7 @@ admit_in-admit-requires c =
 
 pub step-requires : goal.step-requires
 step-requires c =
-    let (s, h, at, none) = c.requires.place in
-    (
+    let (s, h, at, none) = c.requires.place in (
       Admitting c.args.q,
       record {
         call = record { below = c.requires.worker; may = (s, h, at, none, c.requires.query); on = refl };

@@ -16,12 +16,11 @@ overflow_cast-admitted c =
     let low : c.found-found.result < 2 ^ 32 = c.found-found.ensures.small AskingArrivals on in search rules
 
 pub step-requires : goal.step-requires
-step-requires c =
-    (
-      AskingArrivals,
-      record {
-        call = record { below = c.requires.worker; may = tt; on = refl };
-        changes = c.found-found.ensures.word;
-        reads = ap Arrivals c.found-found.ensures.word;
-      },
-    )
+step-requires c = (
+  AskingArrivals,
+  record {
+    call = record { below = c.requires.worker; may = tt; on = refl };
+    changes = c.found-found.ensures.word;
+    reads = ap Arrivals c.found-found.ensures.word;
+  },
+)

@@ -1,4 +1,4 @@
-use Rattle.std.proofs.Common.{◌+◌, ◌%◌, ◌^◌, ap, ap₂, ◌∙◌}
+use Rattle.std.proofs.Common.{ap, ap₂, ◌∙◌}
 use Rattle.slot_history.specs.Calls.{Claiming}
 use Rattle.slot_history.specs.States.{slot_of}
 use Rattle.slot_words.specs.declared.address.Address.TheVariants.{CursorOf}
@@ -17,8 +17,7 @@ found-found-requires c =
 pub step-requires : goal.step-requires
 step-requires c =
     let at_slot = c.slot_at.ensures ∙ ap slot_of c.worker_place-place.ensures.place in
-    let (s, id, at) = c.requires.place in
-    (
+    let (s, id, at) = c.requires.place in (
       Claiming c.args.n,
       record {
         call = record { below = c.requires.worker; may = (s, id, at, c.requires.number.0, c.requires.number.1); on = ap CursorOf at_slot };
@@ -30,5 +29,6 @@ step-requires c =
 pub returns-clause-spent : goal.returns-clause-spent
 returns-clause-spent c =
     let r = c.args.self.now in
-    brings r c.step.new.self c.args.worker (claim_act c.args.n c.claim_in-claim.result) c.act.result (λ q. ClaimGives r.shape c.args.worker q c.claim_in-claim.result)
+    let act = claim_act c.args.n c.claim_in-claim.result in
+    brings r c.step.new.self c.args.worker act c.act.result (λ q. ClaimGives r.shape c.args.worker q c.claim_in-claim.result)
     c.step.ensures c.act.ensures c.worker_place-place.result c.worker_place-place.ensures.place (c.claim_in-claim.ensures.gives r.shape)

@@ -16,12 +16,11 @@ overflow_cast-finished c =
     let low : c.found-found.result < 2 ^ 32 = c.found-found.ensures.small AskingFinished on in search rules
 
 pub step-requires : goal.step-requires
-step-requires c =
-    (
-      AskingFinished,
-      record {
-        call = record { below = c.requires.worker; may = tt; on = refl };
-        changes = c.found-found.ensures.word;
-        reads = ap Finished c.found-found.ensures.word;
-      },
-    )
+step-requires c = (
+  AskingFinished,
+  record {
+    call = record { below = c.requires.worker; may = tt; on = refl };
+    changes = c.found-found.ensures.word;
+    reads = ap Finished c.found-found.ensures.word;
+  },
+)

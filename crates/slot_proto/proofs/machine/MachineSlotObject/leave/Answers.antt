@@ -19,18 +19,18 @@ leave_in-leave-requires c =
     c.found.ensures.small Leaving on
 
 pub step-requires : goal.step-requires
-step-requires c =
-    (
-      Leaving,
-      record {
-        call = record { below = c.requires.worker; may = c.requires.place; on = refl };
-        changes = refl;
-        reads = c.act.ensures ∙ c.leave_in-leave.ensures.act ∙ ap leave_answer c.found.ensures.word;
-      },
-    )
+step-requires c = (
+  Leaving,
+  record {
+    call = record { below = c.requires.worker; may = c.requires.place; on = refl };
+    changes = refl;
+    reads = c.act.ensures ∙ c.leave_in-leave.ensures.act ∙ ap leave_answer c.found.ensures.word;
+  },
+)
 
 pub returns-clause-debt : goal.returns-clause-debt
 returns-clause-debt c =
     let r = c.args.self.now in
-    brings r c.step.new.self c.args.worker (leave_act c.leave_in-leave.result) c.act.result (λ q. LeaveGives r.shape c.args.worker q c.leave_in-leave.result)
+    let act = leave_act c.leave_in-leave.result in
+    brings r c.step.new.self c.args.worker act c.act.result (λ q. LeaveGives r.shape c.args.worker q c.leave_in-leave.result)
     c.step.ensures c.act.ensures c.worker_place-place.result c.worker_place-place.ensures.place (c.leave_in-leave.ensures.gives r.shape)

@@ -20,8 +20,7 @@ look_in-look-requires c =
 
 pub step-requires : goal.step-requires
 step-requires c =
-    let at_slot = c.slot_at.ensures ∙ ap slot_of c.worker_place.ensures.place in
-    (
+    let at_slot = c.slot_at.ensures ∙ ap slot_of c.worker_place.ensures.place in (
       Looking,
       record {
         call = record { below = c.requires.worker; may = c.requires.place; on = ap StateOf at_slot };

@@ -1,4 +1,4 @@
-use Rattle.std.proofs.Common.{refl, ap, ap₂, ◌∙◌}
+use Rattle.std.proofs.Common.{refl, ap₂}
 use Rattle.slot_history.specs.Calls.{Noting}
 use Rattle.slot_words.specs.Steps.{added}
 use Rattle.slot_proto.proofs.machine.MachineSlotObject.note_done.Goals as goal
@@ -10,8 +10,7 @@ found-found-requires c =
 
 pub step-requires : goal.step-requires
 step-requires c =
-    let (s, h, at, query, once, few) = c.requires.place in
-    (
+    let (s, h, at, query, once, few) = c.requires.place in (
       Noting c.args.k,
       record {
         call = record { below = c.requires.worker; may = (s, h, at, query, once, c.requires.number, few); on = refl };

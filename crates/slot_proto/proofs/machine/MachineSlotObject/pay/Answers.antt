@@ -1,4 +1,4 @@
-use Rattle.std.proofs.Common.{◌+◌, ◌%◌, ◌^◌, ap, ◌∙◌}
+use Rattle.std.proofs.Common.{ap, ◌∙◌}
 use Rattle.slot_history.specs.Calls.{Paying}
 use Rattle.slot_history.specs.States.{slot_of}
 use Rattle.slot_words.specs.declared.address.Address.TheVariants.{CounterOf}
@@ -15,8 +15,7 @@ found-found-requires c =
 
 pub step-requires : goal.step-requires
 step-requires c =
-    let at_slot = c.slot_at.ensures ∙ ap slot_of c.worker_place-place.ensures.place in
-    (
+    let at_slot = c.slot_at.ensures ∙ ap slot_of c.worker_place-place.ensures.place in (
       Paying,
       record {
         call = record { below = c.requires.worker; may = c.requires.place; on = ap CounterOf at_slot };
@@ -28,5 +27,6 @@ step-requires c =
 pub returns-clause-holder : goal.returns-clause-holder
 returns-clause-holder c =
     let r = c.args.self.now in
-    brings r c.step.new.self c.args.worker (pay_act c.pay_in-pay.result) c.act.result (λ q. PayGives r.shape c.args.worker q c.pay_in-pay.result)
+    let act = pay_act c.pay_in-pay.result in
+    brings r c.step.new.self c.args.worker act c.act.result (λ q. PayGives r.shape c.args.worker q c.pay_in-pay.result)
     c.step.ensures c.act.ensures c.worker_place-place.result c.worker_place-place.ensures.place (c.pay_in-pay.ensures.gives r.shape)

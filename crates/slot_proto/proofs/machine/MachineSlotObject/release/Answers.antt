@@ -6,8 +6,7 @@ use Rattle.slot_proto.proofs.machine.MachineSlotObject.release.Goals as goal
 
 pub step-requires : goal.step-requires
 step-requires c =
-    let at_slot = c.slot_at.ensures ∙ ap slot_of c.worker_place.ensures.place in
-    (
+    let at_slot = c.slot_at.ensures ∙ ap slot_of c.worker_place.ensures.place in (
       Releasing,
       record {
         call = record { below = c.requires.worker; may = c.requires.place; on = ap StateOf at_slot };

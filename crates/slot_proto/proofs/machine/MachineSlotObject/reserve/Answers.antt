@@ -12,18 +12,19 @@ found-found-requires c =
     (Reserving c.args.s, record { below = c.requires.worker; may = (c.requires.place, c.requires.slot); on = refl })
 
 pub step-requires : goal.step-requires
-step-requires c =
-    (
-      Reserving c.args.s,
-      record {
-        call = record { below = c.requires.worker; may = (c.requires.place, c.requires.slot); on = refl };
-        changes = c.exchanged.ensures ∙ ap (exchanged 0 1) c.found-found.ensures.word;
-        reads = c.act.ensures ∙ c.reserve_in-reserve.ensures.act ∙ ap (reserve_answer c.args.s) c.found-found.ensures.word;
-      },
-    )
+step-requires c = (
+  Reserving c.args.s,
+  record {
+    call = record { below = c.requires.worker; may = (c.requires.place, c.requires.slot); on = refl };
+    changes = c.exchanged.ensures ∙ ap (exchanged 0 1) c.found-found.ensures.word;
+    reads = c.act.ensures ∙ c.reserve_in-reserve.ensures.act ∙ ap (reserve_answer c.args.s) c.found-found.ensures.word;
+  },
+)
 
 pub returns-clause-holder : goal.returns-clause-holder
 returns-clause-holder c =
     let r = c.args.self.now in
-    brings r c.step.new.self c.args.worker (reserve_act c.args.s c.reserve_in-reserve.result) c.act.result (λ q.
-    ReserveGives r.shape c.args.worker q c.reserve_in-reserve.result) c.step.ensures c.act.ensures (place_now r c.args.worker) refl (c.reserve_in-reserve.ensures.gives r.shape (place_now r c.args.worker))
+    let p = place_now r c.args.worker in
+    let act = reserve_act c.args.s c.reserve_in-reserve.result in
+    brings r c.step.new.self c.args.worker act c.act.result (λ q. ReserveGives r.shape c.args.worker q c.reserve_in-reserve.result)
+    c.step.ensures c.act.ensures p refl (c.reserve_in-reserve.ensures.gives r.shape p)

@@ -7,8 +7,7 @@ use Rattle.slot_proto.proofs.machine.MachineSlotObject.set_total.Goals as goal
 pub step-requires : goal.step-requires
 step-requires c =
     let at_slot = c.slot_at.ensures ∙ ap slot_of c.worker_place.ensures.place in
-    let (s, h, at, query) = c.requires.place in
-    (
+    let (s, h, at, query) = c.requires.place in (
       Totalling c.args.total,
       record {
         call = record { below = c.requires.worker; may = (s, h, at, query, c.requires.number); on = ap CursorOf at_slot };

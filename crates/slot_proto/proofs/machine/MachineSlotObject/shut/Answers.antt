@@ -12,8 +12,7 @@ found-found-requires c =
 
 pub step-requires : goal.step-requires
 step-requires c =
-    let at_slot = c.slot_at.ensures ∙ ap slot_of c.worker_place-place.ensures.place in
-    (
+    let at_slot = c.slot_at.ensures ∙ ap slot_of c.worker_place-place.ensures.place in (
       Shutting,
       record {
         call = record { below = c.requires.worker; may = c.requires.place; on = ap StateOf at_slot };

@@ -26,8 +26,7 @@ sweep_in-sweep-requires c =
 pub step-requires : goal.step-requires
 step-requires c =
     let at_slot = c.slot_at.ensures ∙ ap slot_of c.worker_place-place.ensures.place in
-    let marks = c.marked_at-marked.ensures ∙ ap marked_at c.worker_place-place.ensures.place in
-    (
+    let marks = c.marked_at-marked.ensures ∙ ap marked_at c.worker_place-place.ensures.place in (
       Sweeping,
       record {
         call = record { below = c.requires.worker; may = c.requires.place; on = ap CounterOf at_slot };
@@ -39,5 +38,6 @@ step-requires c =
 pub returns-clause-holder : goal.returns-clause-holder
 returns-clause-holder c =
     let r = c.args.self.now in
-    brings r c.step.new.self c.args.worker (sweep_act c.sweep_in-sweep.result) c.act.result (λ q. SweepGives r.shape c.args.worker q c.sweep_in-sweep.result)
+    let act = sweep_act c.sweep_in-sweep.result in
+    brings r c.step.new.self c.args.worker act c.act.result (λ q. SweepGives r.shape c.args.worker q c.sweep_in-sweep.result)
     c.step.ensures c.act.ensures c.worker_place-place.result c.worker_place-place.ensures.place (c.sweep_in-sweep.ensures.gives r.shape)

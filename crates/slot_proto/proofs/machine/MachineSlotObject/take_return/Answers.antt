@@ -8,12 +8,11 @@ found-bits-requires c =
     (TakingReturn c.args.part, record { below = c.requires.worker; may = c.requires.part; on = refl })
 
 pub step-requires : goal.step-requires
-step-requires c =
-    (
-      TakingReturn c.args.part,
-      record {
-        call = record { below = c.requires.worker; may = c.requires.part; on = refl };
-        changes = refl;
-        reads = ap (TakeReturn c.args.part) c.found-bits.ensures.word;
-      },
-    )
+step-requires c = (
+  TakingReturn c.args.part,
+  record {
+    call = record { below = c.requires.worker; may = c.requires.part; on = refl };
+    changes = refl;
+    reads = ap (TakeReturn c.args.part) c.found-bits.ensures.word;
+  },
+)

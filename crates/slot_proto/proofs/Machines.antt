@@ -13,7 +13,7 @@ use Rattle.slot_history.specs.Sets.{upd}
 use Rattle.slot_history.specs.States.{ObjectState, slot_of}
 use Rattle.slot_history.specs.Steps.{moved}
 use Rattle.slot_history.specs.Table.{Duty, Meets, duty_of}
-use Rattle.slot_history.specs.Bounds.{IsPlaceWithin}
+use Rattle.slot_history.specs.Bounds.{IsShape, IsPlaceWithin}
 use Rattle.slot_history.specs.Histories.{IsLegal, entry}
 use Rattle.slot_history.specs.Calls.{Call}
 use Rattle.slot_history.proofs.Duties.{asking-leads}
@@ -28,7 +28,7 @@ use Rattle.slot_station.proofs.Lists.{get-set_same, get-set_other}
 use Rattle.slot_words.specs.declared.address.Address.{Address}
 use Rattle.slot_words.specs.Addresses.{index}
 use Rattle.slot_words.specs.Steps.{change_of, answer_of}
-use Rattle.slot_words.specs.Words.{IsShape, StandsFor, AreFirst, word_at}
+use Rattle.slot_words.specs.Words.{StandsFor, AreFirst, word_at}
 use Rattle.slot_words.specs.Numbers.{IsSmall}
 use Rattle.slot_words.specs.Laws.{IsLawful, stepped}
 use Rattle.slot_proto.specs.declared.machine.Machine.TheInside.{Inside}

@@ -1,6 +1,7 @@
 -- The counter of a shut slot, as numbers.
 use Rattle.std.proofs.Common.{◌≡◌, ℕ, ◌+◌, ◌-◌, ◌^◌, Bool, true, false, cond, refl, sym, ap, ◌∙◌, subst, arith}
 use mathlib.Core.Bool.{true≢false}
+use Rattle.slot_history.specs.Bounds.{IsShape}
 use Rattle.slot_history.specs.declared.shape.Shape.{Shape}
 use Rattle.slot_history.specs.States.{TaskSet, Ending, SlotState, Empty, Shut, ObjectState}
 use Rattle.slot_history.specs.Steps.{state_after}
@@ -9,7 +10,7 @@ use Rattle.slot_history.specs.Table.{IsTable}
 use Rattle.slot_history.proofs.Payments.{Counted, counted}
 use Rattle.slot_history.proofs.Table.{table}
 use Rattle.slot_words.specs.declared.address.Address.TheVariants.{CounterOf}
-use Rattle.slot_words.specs.Words.{IsShape, IsCounter, counter_of}
+use Rattle.slot_words.specs.Words.{IsCounter, counter_of}
 use Rattle.slot_words.specs.Laws.{CountersSay}
 
 pub unswept-counter : (d : Shape) (t : TaskSet) (e : Ending) (c : Counted d t e) → e.swept ≡ false → counter_of d (Shut t e) ≡ 2 ^ 32 - c.paid

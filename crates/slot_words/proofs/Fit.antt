@@ -6,14 +6,13 @@ use Rattle.slot_history.specs.declared.act.Entry.{Entry}
 use Rattle.slot_history.specs.States.{ObjectState}
 use Rattle.slot_history.specs.Steps.{state_after}
 use Rattle.slot_history.specs.Histories.{IsLegal}
-use Rattle.slot_history.specs.Bounds.{IsWithin, AreSlotsSound, IsCursorLimit}
+use Rattle.slot_history.specs.Bounds.{IsShape, IsWithin, AreSlotsSound, IsCursorLimit}
 use Rattle.slot_history.specs.Table.{IsTable}
 use Rattle.slot_history.proofs.Table.{table}
 use Rattle.slot_history.proofs.Within.{within}
 use Rattle.slot_history.proofs.Holdings.{slots-sound}
 use Rattle.slot_history.proofs.Cursors.{cursors, cursor-limit}
 use Rattle.slot_history.proofs.NotedSets.{finished-bound}
-use Rattle.slot_words.specs.Words.{IsShape}
 
 pub record IsFit (d : Shape) (S : ObjectState) : Type 0 where
   pub shape : IsShape d

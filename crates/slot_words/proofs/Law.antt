@@ -11,15 +11,15 @@ use Rattle.slot_history.specs.States.{ObjectState, slot_of}
 use Rattle.slot_history.specs.Steps.{state_after, next}
 use Rattle.slot_history.specs.Allowed.{IsAllowed}
 use Rattle.slot_history.specs.Histories.{IsLegal, entry}
-use Rattle.slot_history.specs.Bounds.{IsPlaceWithin}
-use Rattle.slot_history.specs.Calls.{Call, Entering, Looking, Claiming, Shutting, Leaving, Paying, Marking, Sweeping, Reserving, Admitting, AskingArrivals, AskingFinished, Noting, Totalling, Installing, Releasing, Telling, TakingReturn, TakingChange, call_of, MayCall, reply_of}
+use Rattle.slot_history.specs.Bounds.{IsShape, IsPlaceWithin}
+use Rattle.slot_history.specs.Calls.{Call, Entering, Looking, Claiming, Shutting, Leaving, Paying, Marking, Sweeping, Reserving, Admitting, AskingArrivals, AskingFinished, NotingDone, SettingTotal, Installing, Releasing, AnnouncingNext, TakingReturn, TakingChange, call_of, MayCall, reply_of}
 use Rattle.slot_history.proofs.Table.{table}
 use Rattle.slot_history.proofs.Within.{within-slots}
 use Rattle.slot_history.proofs.Others.{nth-other-within}
 use Rattle.slot_history.proofs.OneAnswer.{is-answered}
 use Rattle.slot_words.specs.declared.address.Address.{Address}
 use Rattle.slot_words.specs.Addresses.{IsThere}
-use Rattle.slot_words.specs.Words.{Holds, StandsFor, IsShape, word_at}
+use Rattle.slot_words.specs.Words.{Holds, StandsFor, word_at}
 use Rattle.slot_words.specs.Steps.{mask_told, address_of, change_of, answer_of}
 use Rattle.slot_words.specs.Laws.{IsStep, stepped, IsLaw}
 use Rattle.slot_words.proofs.Addresses.{index-low, stands-set}
@@ -98,11 +98,11 @@ module _ (d : Shape) (S : ObjectState) (w : ℕ) (low : w < d.workers) (fit : Is
   there (Admitting q) ok = tt
   there AskingArrivals ok = tt
   there AskingFinished ok = tt
-  there (Noting k) ok = tt
-  there (Totalling t) ok = subst (There (Totalling t)) (sym ok.2) (slot-there (Holding ok.0 ok.1) ok.2 (λ e. cc))
+  there (NotingDone k) ok = tt
+  there (SettingTotal t) ok = subst (There (SettingTotal t)) (sym ok.2) (slot-there (Holding ok.0 ok.1) ok.2 (λ e. cc))
   there (Installing id) ok = subst (There (Installing id)) (sym ok.2) (slot-there (Holding ok.0 ok.1) ok.2 (λ e. cc))
   there Releasing ok = subst (There Releasing) (sym ok.2) (slot-there (Holding ok.0 ok.1) ok.2 (λ e. cc))
-  there Telling ok = subst (There Telling) (sym ok.3) (tells-there ok.0 ok.2 ok.1 ok.3)
+  there AnnouncingNext ok = subst (There AnnouncingNext) (sym ok.3) (tells-there ok.0 ok.2 ok.1 ok.3)
   there (TakingReturn part) ok = (low, ok)
   there (TakingChange part) ok = (low, ok)
 

@@ -9,10 +9,9 @@ use Rattle.slot_history.specs.States.{SlotState, Empty, Open, Shut, task_of}
 use Rattle.slot_history.specs.Steps.{state_after}
 use Rattle.slot_history.specs.States as states
 use Rattle.slot_history.specs.Histories.{IsLegal, entry}
-use Rattle.slot_history.specs.Bounds.{IsSlotSound}
+use Rattle.slot_history.specs.Bounds.{IsShape, IsSlotSound}
 use Rattle.slot_history.proofs.Sets.{count-most}
 use Rattle.slot_history.proofs.Numbers.{named-low}
-use Rattle.slot_words.specs.Words.{IsShape}
 use Rattle.slot_words.specs.Numbers.{IsSmall}
 use Rattle.slot_words.proofs.Fit.{fit-of}
 

@@ -1,5 +1,6 @@
 -- The law of a call.
 use Rattle.std.specs.Prelude.{◌≡◌, ◌≢◌, ℕ, ◌<◌, List, [], ◌∷◌, length, slice_set}
+use Rattle.slot_history.specs.Bounds.{IsShape}
 use Rattle.slot_history.specs.declared.shape.Shape.{Shape}
 use Rattle.slot_history.specs.declared.act.Act.{Act}
 use Rattle.slot_history.specs.declared.act.Entry.{Entry}
@@ -12,7 +13,7 @@ use Rattle.slot_words.specs.declared.address.Address.{Address}
 use Rattle.slot_words.specs.declared.address.Address.TheVariants.{CounterOf}
 use Rattle.slot_words.specs.Addresses.{IsThere, index}
 use Rattle.slot_words.specs.Numbers.{IsSmall}
-use Rattle.slot_words.specs.Words.{Holds, IsShape, IsCounter, StandsFor, AreFirst, word_at}
+use Rattle.slot_words.specs.Words.{Holds, IsCounter, StandsFor, AreFirst, word_at}
 use Rattle.slot_words.specs.Steps.{address_of, change_of, answer_of}
 
 -- The step of a call of w in this state: it is on a word that is there. Whatever this word holds

@@ -7,7 +7,7 @@ use Rattle.slot_history.specs.declared.act.Act.TheVariants.{Enter, LookOpen, Loo
 use Rattle.slot_history.specs.declared.place.Place.{Place}
 use Rattle.slot_history.specs.declared.place.Place.TheVariants.{Asking, Announcing}
 use Rattle.slot_history.specs.States.{slot_of, id_at}
-use Rattle.slot_history.specs.Calls.{Call, Entering, Looking, Claiming, Shutting, Leaving, Paying, Marking, Sweeping, Reserving, Admitting, AskingArrivals, AskingFinished, Noting, Totalling, Installing, Releasing, Telling, TakingReturn, TakingChange}
+use Rattle.slot_history.specs.Calls.{Call, Entering, Looking, Claiming, Shutting, Leaving, Paying, Marking, Sweeping, Reserving, Admitting, AskingArrivals, AskingFinished, NotingDone, SettingTotal, Installing, Releasing, AnnouncingNext, TakingReturn, TakingChange}
 use Rattle.slot_history.specs.Table.{nth_other}
 use Rattle.slot_words.specs.declared.address.Address.{Address}
 use Rattle.slot_words.specs.declared.address.Address.TheVariants.{ArrivalsAt, FinishedAt, StateOf, CursorOf, CounterOf, WorkerOf, ReturnOf, ChangeOf}
@@ -98,11 +98,11 @@ address_of w (Reserving s) p = StateOf s
 address_of w (Admitting q) p = ArrivalsAt
 address_of w AskingArrivals p = ArrivalsAt
 address_of w AskingFinished p = FinishedAt
-address_of w (Noting k) p = FinishedAt
-address_of w (Totalling t) p = CursorOf (slot_of p)
+address_of w (NotingDone k) p = FinishedAt
+address_of w (SettingTotal t) p = CursorOf (slot_of p)
 address_of w (Installing id) p = StateOf (slot_of p)
 address_of w Releasing p = StateOf (slot_of p)
-address_of w Telling p = mask_told p
+address_of w AnnouncingNext p = mask_told p
 address_of w (TakingReturn part) p = ReturnOf w part
 address_of w (TakingChange part) p = ChangeOf w part
 
@@ -121,11 +121,11 @@ change_of (Reserving s) p n = exchanged 0 1 n
 change_of (Admitting q) p n = exchanged q (q + 1) n
 change_of AskingArrivals p n = n
 change_of AskingFinished p n = n
-change_of (Noting k) p n = added k n
-change_of (Totalling t) p n = cursor_word t 0
+change_of (NotingDone k) p n = added k n
+change_of (SettingTotal t) p n = cursor_word t 0
 change_of (Installing id) p n = open_word id
 change_of Releasing p n = 0
-change_of Telling p n = bit_or n (bit_of (slot_of p))
+change_of AnnouncingNext p n = bit_or n (bit_of (slot_of p))
 change_of (TakingReturn part) p n = 0
 change_of (TakingChange part) p n = 0
 
@@ -143,10 +143,10 @@ answer_of (Reserving s) p n = reserve_answer s n
 answer_of (Admitting q) p n = admit_answer q n
 answer_of AskingArrivals p n = Arrivals n
 answer_of AskingFinished p n = Finished n
-answer_of (Noting k) p n = Note k
-answer_of (Totalling t) p n = Total t
+answer_of (NotingDone k) p n = Note k
+answer_of (SettingTotal t) p n = Total t
 answer_of (Installing id) p n = Install id
 answer_of Releasing p n = Release
-answer_of Telling p n = Tell
+answer_of AnnouncingNext p n = Tell
 answer_of (TakingReturn part) p n = TakeReturn part n
 answer_of (TakingChange part) p n = TakeChange part n

@@ -1,7 +1,7 @@
 -- What each word holds in a state.
-use Rattle.std.specs.Prelude.{◌≡◌, ℕ, ◌+◌, ◌-◌, ◌<◌, ◌≤◌, true, false, cond, List, length, slice_index, IfSome}
+use Rattle.std.specs.Prelude.{◌≡◌, ℕ, ◌+◌, ◌-◌, ◌≤◌, true, false, cond, List, length, slice_index, IfSome}
 use Rattle.slot_history.specs.declared.shape.Shape.{Shape}
-use Rattle.slot_history.specs.declared.shape.TheConstants.{MOST_SLOTS, MOST_WORKERS, MOST_QUERIES}
+use Rattle.slot_history.specs.declared.shape.TheConstants.{MOST_WORKERS}
 use Rattle.slot_history.specs.declared.place.Place.{Place}
 use Rattle.slot_history.specs.States.{SlotState, Empty, Reserved, Open, Shut, Finishing, ObjectState, slot_of, id_of, slot_word, is_swept, is_at, owes}
 use Rattle.slot_history.specs.Allowed.{IsMask, debts}
@@ -51,12 +51,6 @@ word_at d words a = slice_index words (index d a)
 pub record StandsFor (d : Shape) (words : List ℕ) (S : ObjectState) : Type 0 where
   pub count : length words ≡ count_of_words d
   pub each : (a : Address) → IsThere d a → Holds d S a (word_at d words a)
-
--- the numbers of an object are within their limits
-pub record IsShape (d : Shape) : Type 0 where
-  pub slots : (0 < d.slots) × (d.slots ≤ MOST_SLOTS)
-  pub workers : (0 < d.workers) × (d.workers ≤ MOST_WORKERS)
-  pub queries : d.queries ≤ MOST_QUERIES
 
 -- the counter of a slot: before the sweep it is minus the number of workers that paid, and after it
 -- the number of workers that still have to pay; it is never further from 0 than there can be

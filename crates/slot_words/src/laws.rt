@@ -8,7 +8,7 @@
 ghost use Rattle.std.specs.Prelude.{ℕ, ◌+◌, bit_or};
 ghost use Rattle.slot_history.specs.declared.act.Act.TheVariants.{Enter, Arrivals, Finished, Note, Total, Install, Release, Tell, TakeReturn, TakeChange};
 ghost use Rattle.slot_history.specs.States.{slot_of, id_at};
-ghost use Rattle.slot_history.specs.Calls.{Entering, Looking, Claiming, Shutting, Leaving, Paying, Marking, Sweeping, Reserving, Admitting, AskingArrivals, AskingFinished, Noting, Totalling, Installing, Releasing, Telling, TakingReturn, TakingChange};
+ghost use Rattle.slot_history.specs.Calls.{Entering, Looking, Claiming, Shutting, Leaving, Paying, Marking, Sweeping, Reserving, Admitting, AskingArrivals, AskingFinished, NotingDone, SettingTotal, Installing, Releasing, AnnouncingNext, TakingReturn, TakingChange};
 ghost use Rattle.slot_history.specs.Table.{nth_other};
 ghost use Rattle.slot_words.specs.declared.address.Address.TheVariants.{ArrivalsAt, FinishedAt, StateOf, CursorOf, CounterOf, WorkerOf, ReturnOf, ChangeOf};
 ghost use Rattle.slot_words.specs.Encodings.{open_word, at_word, marked, cursor_word};
@@ -117,14 +117,14 @@ pub fn finished()
 ///
 /// No lock: two additions both count, in either order.
 pub fn note_done()
-    ensures { (k : ℕ) → IsLaw (Noting k) (λ w p. FinishedAt) (λ p n. added k n) (λ p n. Note k) }
+    ensures { (k : ℕ) → IsLaw (NotingDone k) (λ w p. FinishedAt) (λ p n. added k n) (λ p n. Note k) }
 {}
 
 /// A store of the total and the cursor 0 in the slot's cursor word.
 ///
 /// No lock: nobody but its holder uses the cursor of a slot that is reserved or being finalised.
 pub fn set_total()
-    ensures { (t : ℕ) → IsLaw (Totalling t) (λ w p. CursorOf (slot_of p))
+    ensures { (t : ℕ) → IsLaw (SettingTotal t) (λ w p. CursorOf (slot_of p))
         (λ p n. cursor_word t 0) (λ p n. Total t) }
 {}
 
@@ -149,7 +149,7 @@ pub fn release()
 ///
 /// No lock: bits of other slots stay, and a bit that is set twice is set.
 pub fn announce()
-    ensures { IsLaw Telling (λ w p. mask_told p)
+    ensures { IsLaw AnnouncingNext (λ w p. mask_told p)
         (λ p n. bit_or n (bit_of (slot_of p))) (λ p n. Tell) }
 {}
 

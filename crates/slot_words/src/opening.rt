@@ -1,7 +1,8 @@
 //! The words at the start.
 
 ghost use Rattle.std.specs.Prelude.{◌≡◌, IfOk};
-ghost use Rattle.slot_words.specs.Words.{IsShape, AreFirst};
+ghost use Rattle.slot_history.specs.Bounds.{IsShape};
+ghost use Rattle.slot_words.specs.Words.{AreFirst};
 
 use crate::address::{Address, index, words_in};
 use crate::encoding::counter_word;

@@ -1,6 +1,6 @@
-use Rattle.slot_history.specs.Calls.{Telling}
+use Rattle.slot_history.specs.Calls.{AnnouncingNext}
 use Rattle.slot_words.proofs.Law.{law}
 use Rattle.slot_words.proofs.laws.announce.Goals as goal
 
 pub returns : goal.returns
-returns c = law Telling
+returns c = law AnnouncingNext

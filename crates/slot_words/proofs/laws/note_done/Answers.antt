@@ -1,6 +1,6 @@
-use Rattle.slot_history.specs.Calls.{Noting}
+use Rattle.slot_history.specs.Calls.{NotingDone}
 use Rattle.slot_words.proofs.Law.{law}
 use Rattle.slot_words.proofs.laws.note_done.Goals as goal
 
 pub returns : goal.returns
-returns c k = law (Noting k)
+returns c k = law (NotingDone k)

@@ -21,7 +21,7 @@ use Rattle.slot_words.specs.declared.address.Address.{Address}
 use Rattle.slot_words.specs.Addresses.{IsThere}
 use Rattle.slot_words.specs.Words.{Holds, StandsFor, word_at}
 use Rattle.slot_words.specs.Steps.{mask_told, address_of, change_of, answer_of}
-use Rattle.slot_words.specs.Laws.{IsStep, stepped, IsLaw}
+use Rattle.slot_words.specs.Laws.{stepped, IsLaw}
 use Rattle.slot_words.proofs.Addresses.{index-low, stands-set}
 use Rattle.slot_words.proofs.Elsewhere.{elsewhere}
 use Rattle.slot_words.proofs.Numbers.{small}
@@ -31,6 +31,19 @@ use Rattle.slot_words.proofs.Readings.{Reads}
 use Rattle.slot_words.proofs.Visits.{enters, looks-open, looks-invalid, looks-vacant, claims, uses, leaves, owes-it}
 use Rattle.slot_words.proofs.Endings.{wins, loses, pays-last, pays-one, sweeps-last, sweeps-on, marks-it, misses}
 use Rattle.slot_words.proofs.Holdings.{gets, finds, admits, comes-late, asks-arrivals, asks-finished, notes, totals, installs, releases, tells, takes-return, takes-change}
+
+-- The step of a call of w in this state: it is on a word that is there. Whatever this word holds
+-- for the state, the call answers what the definition does, and the word then holds for the next
+-- state. So does each other word as it was.
+pub record IsStep (d : Shape) (S : ObjectState) (w : ℕ) (c : Call) : Type 0 where
+  pub there : IsThere d (address_of w c (S.places w))
+  pub answer : (n : ℕ) → Holds d S (address_of w c (S.places w)) n
+      → answer_of c (S.places w) n ≡ reply_of d S w c
+  pub here : (n : ℕ) → Holds d S (address_of w c (S.places w)) n
+      → let p = S.places w in
+      Holds d (next d S w (reply_of d S w c)) (address_of w c p) (change_of c p n)
+  pub elsewhere : (b : Address) → IsThere d b → b ≢ address_of w c (S.places w)
+      → (n : ℕ) → Holds d S b n → Holds d (next d S w (reply_of d S w c)) b n
 
 module _ (d : Shape) (S : ObjectState) (w : ℕ) (low : w < d.workers) (fit : IsFit d S) where
   abbrev p : Place

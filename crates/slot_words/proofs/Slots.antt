@@ -1,5 +1,5 @@
 -- What a call leaves of what the words say of a slot.
-use Rattle.std.proofs.Common.{◌≡◌, ◌≢◌, ℕ, ◌+◌, ◌-◌, Bool, true, false, cond, not, ◌&&◌, Option, Some, None, refl, sym, ap, ◌∙◌, subst, inl, inr, arith}
+use Rattle.std.proofs.Common.{◌*◌, ◌≡◌, ◌≢◌, ℕ, ◌+◌, ◌-◌, Bool, true, false, cond, not, ◌&&◌, Option, Some, None, refl, sym, ap, ◌∙◌, subst, inl, inr, arith}
 use Rattle.std.specs.Prelude.{IfSome, IsSome, unwrap_or}
 use Rattle.slot_history.specs.declared.shape.Shape.{Shape}
 use Rattle.slot_history.specs.declared.act.Act.{Act}
@@ -10,8 +10,21 @@ use Rattle.slot_history.specs.States.{TaskSet, Ending, SlotState, Empty, Reserve
 use Rattle.slot_history.specs.Steps.{claimed, shut_by, next_asked, ended, held_after, held_on, opened, finalised_by}
 use Rattle.slot_history.proofs.Sets.{upd-else, count-none}
 use Rattle.slot_history.proofs.Duties.{IsHeldBy, owing-else}
-use Rattle.slot_words.specs.Encodings.{mark_for, cursor_word, zero_count}
+use Rattle.slot_words.specs.Encodings.{open_word, tagged, mark_for, cursor_word, zero_count}
+use Rattle.slot_words.specs.Laws.{StatesArePacked}
 use Rattle.slot_words.specs.Words.{IsCursor, counter_of, mark_at}
+
+-- ---- its state
+
+next-tag : (id : ℕ) → (id + 1) * 4 + 3 ≡ tagged (open_word id)
+next-tag id = omega arith
+
+pub states-are-packed : StatesArePacked
+states-are-packed (Shut t e) = next-tag t.id
+states-are-packed (Finishing id w h) = next-tag id
+states-are-packed Empty = refl
+states-are-packed (Reserved w h) = refl
+states-are-packed (Open t) = refl
 
 -- ---- its cursor
 

@@ -1,33 +1,20 @@
 -- The law of a call.
-use Rattle.std.specs.Prelude.{◌≡◌, ◌≢◌, ℕ, ◌<◌, List, [], ◌∷◌, length, slice_set}
+use Rattle.std.specs.Prelude.{◌≡◌, ℕ, ◌<◌, List, [], ◌∷◌, length, slice_set}
 use Rattle.slot_history.specs.Bounds.{IsShape}
 use Rattle.slot_history.specs.declared.shape.Shape.{Shape}
 use Rattle.slot_history.specs.declared.act.Act.{Act}
 use Rattle.slot_history.specs.declared.act.Entry.{Entry}
 use Rattle.slot_history.specs.declared.place.Place.{Place}
-use Rattle.slot_history.specs.States.{ObjectState}
-use Rattle.slot_history.specs.Steps.{next, state_after}
+use Rattle.slot_history.specs.States.{SlotState, Empty, Reserved, Open, Shut, Finishing, slot_word}
+use Rattle.slot_history.specs.Steps.{state_after}
 use Rattle.slot_history.specs.Calls.{Call, MayCall, reply_of}
 use Rattle.slot_history.specs.Histories.{IsLegal, place_of, entry}
 use Rattle.slot_words.specs.declared.address.Address.{Address}
 use Rattle.slot_words.specs.declared.address.Address.TheVariants.{CounterOf}
-use Rattle.slot_words.specs.Addresses.{IsThere, index}
+use Rattle.slot_words.specs.Addresses.{index}
+use Rattle.slot_words.specs.Encodings.{open_word, tagged}
 use Rattle.slot_words.specs.Numbers.{IsSmall}
-use Rattle.slot_words.specs.Words.{Holds, IsCounter, StandsFor, AreFirst, word_at}
-use Rattle.slot_words.specs.Steps.{address_of, change_of, answer_of}
-
--- The step of a call of w in this state: it is on a word that is there. Whatever this word holds
--- for the state, the call answers what the definition does, and the word then holds for the next
--- state. So does each other word as it was.
-pub record IsStep (d : Shape) (S : ObjectState) (w : ℕ) (c : Call) : Type 0 where
-  pub there : IsThere d (address_of w c (S.places w))
-  pub answer : (n : ℕ) → Holds d S (address_of w c (S.places w)) n
-      → answer_of c (S.places w) n ≡ reply_of d S w c
-  pub here : (n : ℕ) → Holds d S (address_of w c (S.places w)) n
-      → let p = S.places w in
-      Holds d (next d S w (reply_of d S w c)) (address_of w c p) (change_of c p n)
-  pub elsewhere : (b : Address) → IsThere d b → b ≢ address_of w c (S.places w)
-      → (n : ℕ) → Holds d S b n → Holds d (next d S w (reply_of d S w c)) b n
+use Rattle.slot_words.specs.Words.{IsCounter, StandsFor, AreFirst, word_at}
 
 -- the words after one step on one of them
 abbrev pub stepped : Shape → List ℕ → Address → (ℕ → ℕ) → List ℕ
@@ -73,3 +60,14 @@ CountersSay = (d : Shape) (h : List Entry) (words : List ℕ) → AreWordsOf d h
 abbrev pub FirstWordsStand : Type 0
 FirstWordsStand = (d : Shape) (words : List ℕ)
     → IsShape d → AreFirst d words → AreWordsOf d [] words
+
+-- the word of a slot's state is packed of its id
+abbrev pub packed : SlotState → ℕ
+packed Empty = 0
+packed (Reserved w h) = 1
+packed (Open t) = open_word t.id
+packed (Shut t e) = tagged (open_word t.id)
+packed (Finishing id w h) = tagged (open_word id)
+
+abbrev pub StatesArePacked : Type 0
+StatesArePacked = (x : SlotState) → slot_word x ≡ packed x

@@ -2,7 +2,7 @@
 //!
 //! Each function has a clause that the numbers can be read back from its word.
 
-ghost use Rattle.std.specs.Prelude.{◌≡◌, ◌<◌, ◌≤◌, ◌^◌, pos, negsuc, ◌+ℤ◌, ◌≤ℤ◌};
+ghost use Rattle.std.specs.Prelude.{◌≡◌, ◌<◌, ◌≤◌, ◌^◌, pos, negsuc, ◌+ℤ◌, ◌-ℤ◌, ◌≤ℤ◌};
 ghost use Rattle.slot_history.specs.declared.shape.TheConstants.{MOST_SLOTS};
 ghost use Rattle.slot_words.specs.Encodings as words;
 
@@ -57,7 +57,8 @@ pub fn cursor_word(total: u32, cursor: u32) -> u64
 /// the sweep, and after it the number that still have to pay.
 pub fn counter_word(count: i64) -> u64
     requires { (negsuc 63 ≤ℤ count) × (count ≤ℤ pos 64) }
-    ensures { pos result ≡ pos words.zero_count +ℤ count }
+    ensures word { pos result ≡ pos words.zero_count +ℤ count }
+    ensures count { count ≡ pos result -ℤ pos words.zero_count }
 {
     ((1 << 32) + count) as u64
 }

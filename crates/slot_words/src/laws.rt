@@ -13,7 +13,7 @@ ghost use Rattle.slot_history.specs.Table.{nth_other};
 ghost use Rattle.slot_words.specs.declared.address.Address.TheVariants.{ArrivalsAt, FinishedAt, StateOf, CursorOf, CounterOf, WorkerOf, ReturnOf, ChangeOf};
 ghost use Rattle.slot_words.specs.Encodings.{open_word, at_word, marked, cursor_word};
 ghost use Rattle.slot_words.specs.Steps.{added, one_less, exchanged, bit_of, look_answer, claim_answer, shut_answer, leave_answer, pay_answer, mark_answer, sweep_answer, reserve_answer, admit_answer, asked_at, marked_at, mask_told};
-ghost use Rattle.slot_words.specs.Laws.{IsLaw, CountersSay, FirstWordsStand};
+ghost use Rattle.slot_words.specs.Laws.{IsLaw, CountersSay, FirstWordsStand, StatesArePacked};
 
 /// A store on the own state word.
 ///
@@ -178,4 +178,10 @@ pub fn counters()
 /// The words at the start stand for the opening state.
 pub fn first_words_stand()
     ensures { FirstWordsStand }
+{}
+
+/// The state word of a slot is 0 if it is empty and 1 if it is reserved. Else it is the open word of
+/// its id, with the tag once the task set is shut.
+pub fn states_are_packed()
+    ensures { StatesArePacked }
 {}

@@ -3,5 +3,7 @@ pub mod Growth
 pub mod Headers
 pub mod Loading
 pub mod Outcomes
+pub mod Reaching
 pub mod ReaderFacts
 pub mod Records
+pub mod Refused

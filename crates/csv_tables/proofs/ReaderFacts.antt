@@ -1,10 +1,10 @@
 -- What a read of a record leaves of a reader.
-use Rattle.std.proofs.Common.{◌≡◌, ℕ, Bool, true, false, IsTrue, if◌then◌else◌, List, [], ◌∷◌, Option, Some, None, IsSome, refl, ◌∙◌, inl}
+use Rattle.std.proofs.Common.{◌≡◌, ◌<◌, ℕ, Bool, true, false, IsTrue, if◌then◌else◌, List, [], ◌∷◌, Option, Some, None, IsSome, length, refl, ◌∙◌, inl}
 use Rattle.csv.specs.Machine.{Read, next_record}
 use Rattle.csv.specs.Reading.{NextIs, ReadRecord, ReadsNext, default_config, pending_of, took_first}
 use Rattle.csv.specs.declared.parser.State.{State}
 use Rattle.csv_tables.specs.Reading.{IsReading, SliceReader, bytes_left, records_left}
-use Rattle.csv_tables.proofs.Records.{between-more, records-more, records-none}
+use Rattle.csv_tables.proofs.Records.{between-more, record-some, records-more, records-none}
 
 -- what is there
 some_is : {A : Type 0} (o : Option A) → IsSome o → (x : A) × (o ≡ Some x)
@@ -32,13 +32,14 @@ reads_none s s2 xs (Some ys) fields h = next_none (next_record default_config s 
 
 -- a reader that gave a record reads on, and had that record first
 read_more : (old new : SliceReader) (fields : List (List ℕ)) → IsReading old → ReadRecord (λ slice. Some slice.now) old new true fields → took_first new ≡ true
-    → IsReading new × (records_left old ≡ fields ∷ records_left new)
+    → IsReading new × (records_left old ≡ fields ∷ records_left new) × (0 < length fields)
 read_more old new fields reading r first =
     let (xs, at) = some_is (bytes_left old) reading.going in
     let (ys, left, next) = reads_found old.state new.state xs (pending_of (Some new.rdr.now) new) fields (rw (reading.config, at) at r.0) in
     let rest : bytes_left new ≡ Some ys = rw r.1 left in (
       record { config = r.2 ∙ reading.config; trim = r.3 ∙ reading.trim; ready = inl first; between = between-more old.state xs (fields, new.state, ys) next; going = rw rest refl },
       rw (at, rest) (records-more old.state xs (fields, new.state, ys) reading.between next),
+      record-some old.state [] [] xs (fields, new.state, ys) next,
     )
 
 -- a reader that gave no record has none left
@@ -49,8 +50,8 @@ read_none old new fields reading r =
 
 -- what a read says, whether it found a record or not
 pub read_either : (old new : SliceReader) (found : Bool) (fields : List (List ℕ)) → IsReading old → ReadRecord (λ slice. Some slice.now) old new found fields → took_first new ≡ true
-    → (IsTrue found → IsReading new) × (records_left old ≡ (if found then fields ∷ records_left new else []))
+    → (IsTrue found → IsReading new) × (records_left old ≡ (if found then fields ∷ records_left new else [])) × (IsTrue found → 0 < length fields)
 read_either old new true fields reading r first =
     let more = read_more old new fields reading r first in
-    (λ h. more.0, more.1)
-read_either old new false fields reading r first = (λ h. absurd (cc), read_none old new fields reading r)
+    (λ h. more.0, more.1, λ h. more.2)
+read_either old new false fields reading r first = (λ h. absurd (cc), read_none old new fields reading r, λ h. absurd (cc))

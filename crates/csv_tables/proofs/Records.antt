@@ -1,5 +1,6 @@
 -- The records of a text, one after another.
 use Rattle.std.proofs.Common.{◌≡◌, ◌⊎◌, ℕ, zero, suc, ◌+◌, ◌<◌, ◌≤◌, Bool, true, false, List, [], ◌∷◌, Option, Some, None, length, refl, ap, inl, inr, arith, add-one, if◌then◌else◌, ◌==◌}
+use Rattle.std.proofs.lemmas.List.{length_push}
 use Rattle.csv.specs.Machine.{Read, carriage_return, ends_at_end, ends_with, field_after, fields_after, in_field, is_end, line_feed, next_record, start_field, start_record, step}
 use Rattle.csv.specs.Reading.{default_config, records_from, records_next}
 use Rattle.csv.specs.declared.parser.Action.{Action}
@@ -44,6 +45,27 @@ between_step st.AfterCr c = between_if (c == line_feed) (st.StartRecord, act.Ski
 read_if : (test : Bool) (r p : Read) (more : Option Read) → (if test then Some r else more) ≡ Some p → ((test ≡ true) × (p ≡ r)) ⊎ ((test ≡ false) × (more ≡ Some p))
 read_if true r p more h = inl (refl, (cc))
 read_if false r p more h = inr (refl, h)
+
+-- the action that ends a record gives it a field
+ended_some : (action : Action) (fields : List (List ℕ)) (field : List ℕ) → is_end action ≡ true → 0 < length (fields_after action fields field)
+ended_some act.EndRecord fields field h = omega (arith, length_push fields field)
+ended_some act.Skip fields field h = cc
+ended_some act.Copy fields field h = cc
+ended_some act.EndField fields field h = cc
+
+-- a record has a field at least
+pub record-some : (s : State) (fields : List (List ℕ)) (field xs : List ℕ) (p : Read) → next_record default_config s fields field xs ≡ Some p → 0 < length p.0
+unfolding next_record
+record-some s fields field [] p h =
+    elim (read_if (ends_at_end s) _ p None h) [
+      | inl w ↦ rw w.1 (omega (arith, length_push fields field))
+      | inr w ↦ absurd (cc)
+    ]
+record-some s fields field (c ∷ rest) p h =
+    elim (read_if (is_end (step default_config s c).1) _ p _ h) [
+      | inl w ↦ rw w.1 (ended_some (step default_config s c).1 fields field w.0)
+      | inr w ↦ record-some (step default_config s c).0 (fields_after (step default_config s c).1 fields field) (field_after (step default_config s c).1 c field) rest p w.1
+    ]
 
 -- a record leaves no more bytes than there were, and the machine between two records
 rest_between : (s : State) (fields : List (List ℕ)) (field xs : List ℕ) (p : Read) → next_record default_config s fields field xs ≡ Some p → (length p.2 ≤ length xs) × (ends_at_end p.1 ≡ false)

@@ -2,6 +2,8 @@
 use Rattle.std.specs.Prelude.{ℕ, ℤ, pos, neg_ℤ, List, drop, if◌then◌else◌, FitsSigned}
 use Rattle.std.specs.Int.{w64}
 use Rattle.std.specs.Str.Parse.{IsNumeral, digits_value, starts_with_minus}
+use Rattle.csv_tables.specs.declared.number.FieldFault.{FieldFault}
+use Rattle.csv_tables.specs.declared.number.FieldFault.TheVariants.{NotANumber, OutOfRange}
 
 -- the digits of a field: what is left without a minus sign
 abbrev pub digits_of : List ℕ → List ℕ
@@ -18,3 +20,8 @@ number_of field = if starts_with_minus field then neg_ℤ (pos (digits_value 10 
 -- a field is a number that an `i64` holds
 abbrev pub IsValue : List ℕ → Type 0
 IsValue field = IsNumber field × FitsSigned w64 (number_of field)
+
+-- what is wrong with a field of a row
+abbrev pub HasFault : List ℕ → FieldFault → Type 0
+HasFault field NotANumber = ¬ (IsNumber field)
+HasFault field OutOfRange = IsNumber field × ¬ (FitsSigned w64 (number_of field))

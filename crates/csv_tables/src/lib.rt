@@ -3,13 +3,15 @@
 //! This layer stands on the tables of `col_table`, and reads records by the kit's `csv` with its default
 //! quoting: the first record gives the names, and each other record is a row.
 //!
-//! The one fact that the layers above may use: `load` gives a table exactly where the text stands for one
-//! (`LoadsTable`), and then gives that table.
+//! The one fact that the layers above may use: `load` gives the table that the text stands for
+//! (`LoadsTable`), or its first refusal (`RefusesTable`), and each text has exactly one of them.
 #![tactic(auto)]
 
+mod header;
 mod number;
 mod reading;
 mod refusal;
+mod rows;
 
 pub use crate::reading::load;
 pub use crate::refusal::TableRefusal;

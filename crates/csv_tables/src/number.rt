@@ -1,16 +1,31 @@
 // Numbers of fields.
-ghost use Rattle.std.specs.Prelude.{◌≡◌, ◌-◌, ◌^◌, IfNone, IfSome, MatchOption, min};
+ghost use Rattle.std.specs.Prelude.{◌≡◌, ◌-◌, ◌^◌, IfErr, IfOk, MatchOption, min};
 ghost use Rattle.std.specs.Str.Parse.{IsNumeral, digits_value};
-ghost use Rattle.csv_tables.specs.Numbers.{IsValue, number_of};
+ghost use Rattle.csv_tables.specs.Numbers.{HasFault, IsValue, number_of};
 
-// The number that a field writes, read in one pass, or `None` where it writes none that an `i64` holds.
-pub(crate) fn parse_value(field: &[u8]) -> Option<i64>
-    ensures value { IfSome result (λ value. IsValue field.now × (value ≡ number_of field.now)) }
-    ensures none { IfNone result (¬ (IsValue field.now)) }
+// What is wrong with a field of a row.
+#[derive(Clone, Copy)]
+pub(crate) enum FieldFault {
+    NotANumber,
+    OutOfRange,
+}
+
+// The number that a field writes, where an `i64` holds it.
+pub(crate) fn parse_value(field: &[u8]) -> Result<i64, FieldFault>
+    ensures value { IfOk result (λ value. IsValue field.now × (value ≡ number_of field.now)) }
+    ensures fault { IfErr result (HasFault field.now) }
 {
     match field {
-        [b'-', digits @ ..] => 0i64.checked_sub_unsigned(parse_digits(digits)?),
-        digits => 0i64.checked_add_unsigned(parse_digits(digits)?),
+        [b'-', digits @ ..] => {
+            let size = parse_digits(digits).ok_or(FieldFault::NotANumber)?;
+            0i64.checked_sub_unsigned(size)
+                .ok_or(FieldFault::OutOfRange)
+        }
+        digits => {
+            let size = parse_digits(digits).ok_or(FieldFault::NotANumber)?;
+            0i64.checked_add_unsigned(size)
+                .ok_or(FieldFault::OutOfRange)
+        }
     }
 }
 

@@ -1,13 +1,26 @@
 // Why a text is refused.
-use col_table::{RowRefusal, ShapeRefusal};
 use std::alloc::{AllocError, AllocFailed};
 
-/// Why a text gives no table.
+/// Why a text gives no table. Records and fields are counted from 1, and the header is not counted.
 #[derive(Clone, Copy, Debug, PartialEq, Eq)]
 pub enum TableRefusal {
-    /// The text stands for no table.
-    NotThisForm,
-    /// Memory was wanting.
+    /// The text has no record.
+    NoHeader,
+    /// The header has more than 32 fields.
+    TooManyColumns,
+    /// This field of the header is no column name.
+    BadName(u32),
+    /// This field of the header has the name of an earlier one.
+    TwiceNamed(u32),
+    /// This record has another number of fields than the header.
+    Ragged(u32),
+    /// In this record, this field is no decimal number.
+    NotANumber(u32, u32),
+    /// In this record, this field is a number that an `i64` does not hold.
+    OutOfRange(u32, u32),
+    /// There are more than 1,048,576 records under the header.
+    TooManyRows,
+    /// Memory ran out.
     OutOfMemory,
 }
 
@@ -30,34 +43,5 @@ impl<T: Drop> From<AllocFailed<T>> for TableRefusal {
 
     fn from(_: AllocFailed<T>) -> TableRefusal {
         TableRefusal::OutOfMemory
-    }
-}
-
-impl From<ShapeRefusal> for TableRefusal {
-    ghost use Rattle.std.specs.Prelude.{◌≡◌};
-    ghost use Rattle.csv_tables.specs.Refusals.{refusal_of_names};
-
-    ghost from_gives = { λ cause refusal. refusal ≡ refusal_of_names cause };
-
-    fn from(cause: ShapeRefusal) -> TableRefusal {
-        match cause {
-            ShapeRefusal::NoColumns | ShapeRefusal::TooManyColumns | ShapeRefusal::TwiceNamed(_) =>
-                TableRefusal::NotThisForm,
-            ShapeRefusal::OutOfMemory => TableRefusal::OutOfMemory,
-        }
-    }
-}
-
-impl From<RowRefusal> for TableRefusal {
-    ghost use Rattle.std.specs.Prelude.{◌≡◌};
-    ghost use Rattle.csv_tables.specs.Refusals.{refusal_of_row};
-
-    ghost from_gives = { λ cause refusal. refusal ≡ refusal_of_row cause };
-
-    fn from(cause: RowRefusal) -> TableRefusal {
-        match cause {
-            RowRefusal::Full => TableRefusal::NotThisForm,
-            RowRefusal::OutOfMemory => TableRefusal::OutOfMemory,
-        }
     }
 }

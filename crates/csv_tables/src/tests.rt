@@ -30,6 +30,7 @@ fn loads_each_form(rt: HostRuntime) -> Result<(), Fail> {
         (b"v\n\"1", 1, &[1]),
         (b"\"\"\n5\n", 1, &[5]),
         (b"\xef\xbb\xbfv\n1\n", 1, &[1]),
+        (b"\xef\xbb\xbf\xef\xbb\xbfv\n1\n", 1, &[1]),
         (b"a,\n1,2", 2, &[1, 2]),
         (
             b"v\n-0\n000000000000000000000000001\n-0009\n",
@@ -49,37 +50,59 @@ fn loads_each_form(rt: HostRuntime) -> Result<(), Fail> {
     Ok(())
 }
 
-// Texts that stand for no table.
+// The refusal of a text, if it has one.
+fn refused(rt: &HostRuntime, text: &[u8]) -> Option<TableRefusal> {
+    match load(rt.alloc(), text) {
+        Ok(_) => None,
+        Err(refusal) => Some(refusal),
+    }
+}
+
+// Texts that stand for no table, each with its first refusal.
 #[test]
-fn refuses_each_fault(rt: HostRuntime) {
-    for text in [
-        b"".as_slice(),
-        b"\xef\xbb\xbf",
-        b"\n\r\n",
-        b",",
-        b"a,b,a\n",
-        b"\xff\n",
-        b"a\x7f\n",
-        b"a,b,c\n1,2\n",
-        b"a\n1,2\n",
-        b"v\n9223372036854775808\n",
-        b"v\n-9223372036854775809\n",
-        b"v\n99999999999999999999999999\n",
-        b"v\n\"\"\n",
-        b"v\n-\n",
-        b"v\n--1\n",
-        b"v\n+1\n",
-        b"v\n1 \n",
-        b"v\n \n",
-        b"v\n1\"\n",
-        b"v\n\"1\n",
-        b"v\n1.0\n",
-        b"v\n\xff\n",
+fn tells_the_first_refusal(rt: HostRuntime) {
+    for (text, want) in [
+        (b"".as_slice(), TableRefusal::NoHeader),
+        (b"\xef\xbb\xbf", TableRefusal::NoHeader),
+        (b"\n\r\n", TableRefusal::NoHeader),
+        (b",", TableRefusal::TwiceNamed(2)),
+        (b"a,b,a\n", TableRefusal::TwiceNamed(3)),
+        (b"a,a,\x7f\n", TableRefusal::TwiceNamed(2)),
+        (b"a,\x7f,a\n", TableRefusal::BadName(2)),
+        (b"\xff\n1\n", TableRefusal::BadName(1)),
+        (b"a,b\nx\n1,2\n", TableRefusal::Ragged(1)),
+        (b"a,b,c\n1,2,3\n1,2\n", TableRefusal::Ragged(2)),
+        (b"a\n1,x\n", TableRefusal::Ragged(1)),
+        (
+            b"v\n1\n9223372036854775808\n",
+            TableRefusal::OutOfRange(2, 1),
+        ),
+        (b"v\n-9223372036854775809\n", TableRefusal::OutOfRange(1, 1)),
+        (
+            b"v\n99999999999999999999999999\n",
+            TableRefusal::OutOfRange(1, 1),
+        ),
+        (
+            b"a,b\n9223372036854775808,x\n",
+            TableRefusal::OutOfRange(1, 1),
+        ),
+        (
+            b"a,b\nx,9223372036854775808\n",
+            TableRefusal::NotANumber(1, 1),
+        ),
+        (b"a,b\n1,\n", TableRefusal::NotANumber(1, 2)),
+        (b"v\n\"\"\n", TableRefusal::NotANumber(1, 1)),
+        (b"v\n-\n", TableRefusal::NotANumber(1, 1)),
+        (b"v\n--1\n", TableRefusal::NotANumber(1, 1)),
+        (b"v\n+1\n", TableRefusal::NotANumber(1, 1)),
+        (b"v\n1 \n", TableRefusal::NotANumber(1, 1)),
+        (b"v\n \n", TableRefusal::NotANumber(1, 1)),
+        (b"v\n1\"\n", TableRefusal::NotANumber(1, 1)),
+        (b"v\n\"1\n", TableRefusal::NotANumber(1, 1)),
+        (b"v\n1.0\n", TableRefusal::NotANumber(1, 1)),
+        (b"v\n1\n\xff\n", TableRefusal::NotANumber(2, 1)),
+        (b"v\n\xef\xbb\xbf1\n", TableRefusal::NotANumber(1, 1)),
     ] {
-        let refused = match load(rt.alloc(), text) {
-            Ok(_) => None,
-            Err(refusal) => Some(refusal),
-        };
-        assert_eq!(rt; refused, Some(TableRefusal::NotThisForm), "at {text:?}");
+        assert_eq!(rt; refused(&rt, text), Some(want), "at {text:?}");
     }
 }

@@ -1,4 +1,4 @@
-use Rattle.std.proofs.Common.{◌≡◌, ◌∷◌, [], Bool, IfOk, IsTrue, if◌then◌else◌, true}
+use Rattle.std.proofs.Common.{◌≡◌, ◌<◌, ◌∷◌, [], Bool, IfOk, IsTrue, if◌then◌else◌, length, true}
 use Rattle.std.proofs.lemmas.Result.{IfOk-weaker}
 use Rattle.csv.specs.Records.{fields_of}
 use Rattle.csv.specs.Reading.{took_first}
@@ -10,6 +10,7 @@ use Rattle.csv_tables.proofs.reading.read_record.Goals as goal
 abbrev Said : goal.After-map_err → Bool → Type 0
 Said c found = (IsTrue found → IsReading c.read_byte_record.new.self)
     × (records_left c.args.reader.now ≡ (if found then fields_of c.read_byte_record.new.row ∷ records_left c.read_byte_record.new.self else []))
+    × (IsTrue found → 0 < length (fields_of c.read_byte_record.new.row))
 
 said : (c : goal.After-map_err) → IfOk c.map_err.result (Said c)
 said c =
@@ -22,3 +23,6 @@ returns-clause-reading c = IfOk-weaker c.map_err.result (Said c) _ (λ found h. 
 
 pub returns-clause-found : goal.returns-clause-found
 returns-clause-found c = IfOk-weaker c.map_err.result (Said c) _ (λ found h. h.1) (said c)
+
+pub returns-clause-some : goal.returns-clause-some
+returns-clause-some c = IfOk-weaker c.map_err.result (Said c) _ (λ found h. h.2) (said c)

@@ -2,34 +2,33 @@ use Rattle.std.proofs.Common.{◌<◌, ◌∙◌, ◌++◌, ◌∷◌, [], All, 
 use Rattle.std.proofs.lemmas.Int.{to_z-of_z}
 use Rattle.std.proofs.lemmas.List.{length-set, map-append, take_more, take_more_set}
 use Rattle.std.proofs.lemmas.List.Elements.{All-push}
-use Rattle.std.proofs.lemmas.Result.{err_from_is_err_and}
 use Rattle.csv.specs.Records.{fields_of}
 use Rattle.csv.proofs.RecordFacts.{field-get, field-there}
 use Rattle.csv_tables.specs.Numbers.{IsValue, number_of}
-use Rattle.csv_tables.proofs.reading.parse_row.Goals as goal
+use Rattle.csv_tables.proofs.Refused.{field_refused}
+use Rattle.csv_tables.proofs.rows.parse_row.Goals as goal
 
 pub returns-in_err-field-clause-refused : goal.returns-in_err-field-clause-refused
 returns-in_err-field-clause-refused c =
     absurd (field-there (fields_of c.args.fields.now) c.loop-place.place (omega (arith, c.loop-place.invariant.width)) (sym c.get.ensures.value ∙ ap (option_map (λ s. s.now)) c.in_err-field.ensures.ok_part))
 
-pub returns-in_err-value-clause-refused : goal.returns-in_err-value-clause-refused
-returns-in_err-value-clause-refused c =
-    let p = err_from_is_err_and c.from_residual-in_err-value.result c.from_residual-in_err-value.ensures.1 in
+pub returns-in-Err-clause-refused : goal.returns-in-Err-clause-refused
+returns-in-Err-clause-refused c =
     let fields = fields_of c.args.fields.now in
-    let here = field-get fields c.loop-place.place c.in_ok-field.field.now (sym c.get.ensures.value ∙ ap (option_map (λ s. s.now)) c.in_ok-field.ensures.ok_part) in
-    let refused = rw c.in_err-value.ensures.ok_part at c.in_err-value.ensures.value in
-    let none = rw c.in_err-value.ensures.ok_part at c.parse_value.ensures.none in
-    rw (p.1, p.2) (cc, λ row. none (subst IsValue here (row.values c.loop-place.place [] (omega (arith, c.loop-place.invariant.width)))))
+    let place = c.loop-place.place in
+    let within : place < length fields = omega (arith, c.loop-place.invariant.width) in
+    let here = field-get fields place c.in_ok-field.field.now (sym c.get.ensures.value ∙ ap (option_map (λ s. s.now)) c.in_ok-field.ensures.ok_part) in
+    rw c.refusal_at.ensures (field_refused (length c.args.row.now) c.args.number fields place c.in_ok-field.field.now c.in-Err.fault c.requires.within (omega arith) within here c.loop-place.invariant.values c.in-Err.ensures.fault)
 
 pub loop-place-preserved : goal.loop-place-preserved
 loop-place-preserved c =
     let fields = fields_of c.args.fields.now in
     let place = c.loop-place.place in
     let row = c.loop-place.row in
-    let read = c.in_ok-value.field-0 in
     let within : place < length fields = omega (arith, c.loop-place.invariant.width) in
     let here = field-get fields place c.in_ok-field.field.now (sym c.get.ensures.value ∙ ap (option_map (λ s. s.now)) c.in_ok-field.ensures.ok_part) in
-    let value = rw c.in_ok-value.ensures.ok_part at c.parse_value.ensures.value in
+    let value = c.in-Ok.ensures.value in
+    let read = c.in-Ok.read in
     let fits = subst (FitsSigned w64) (sym value.1) value.0.1 in
     let stored = to_z-of_z w64 read fits ∙ value.1 ∙ ap number_of (sym here) in
     let more = take_more fields place [] within in

@@ -1,7 +1,7 @@
 use Rattle.std.proofs.Common.{◌≡◌, All, length, map, take}
 use Rattle.csv.specs.Records.{fields_of}
 use Rattle.csv_tables.specs.Numbers.{IsValue, number_of}
-use Rattle.csv_tables.proofs.reading.parse_row.Given as goal
+use Rattle.csv_tables.proofs.rows.parse_row.Given as goal
 
 abbrev pub invariant-loop-place : goal.invariant-loop-place
 invariant-loop-place l = record {

@@ -7,3 +7,5 @@ pub mod Reaching
 pub mod ReaderFacts
 pub mod Records
 pub mod Refused
+pub mod Splits
+pub mod Verdicts

@@ -2,3 +2,4 @@ pub mod Loading
 pub mod Numbers
 pub mod Reading
 pub mod Refusals
+pub mod Verdicts

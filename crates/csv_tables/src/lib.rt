@@ -8,6 +8,7 @@
 #![tactic(auto)]
 
 mod header;
+pub mod laws;
 mod number;
 mod reading;
 mod refusal;

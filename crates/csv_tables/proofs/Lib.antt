@@ -8,4 +8,5 @@ pub mod ReaderFacts
 pub mod Records
 pub mod Refused
 pub mod Splits
+pub mod Texts
 pub mod Verdicts

@@ -3,3 +3,4 @@ pub mod Numbers
 pub mod Reading
 pub mod Refusals
 pub mod Verdicts
+pub mod Writing

@@ -13,9 +13,11 @@ mod number;
 mod reading;
 mod refusal;
 mod rows;
+mod writing;
 
 pub use crate::reading::load;
 pub use crate::refusal::TableRefusal;
+pub use crate::writing::write_table;
 
 #[cfg(test)]
 mod tests;

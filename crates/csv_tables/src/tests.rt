@@ -106,3 +106,33 @@ fn tells_the_first_refusal(rt: HostRuntime) {
         assert_eq!(rt; refused(&rt, text), Some(want), "at {text:?}");
     }
 }
+
+// Texts that stand for tables, and the text that their tables are written as.
+#[test]
+fn writes_what_it_loads(rt: HostRuntime) -> Result<(), Fail> {
+    for (text, want) in [
+        (
+            b"k,v\r\n01,-0\r\n-9223372036854775808,9223372036854775807".as_slice(),
+            b"k,v\n1,0\n-9223372036854775808,9223372036854775807\n".as_slice(),
+        ),
+        (b"\"\"", b"\"\"\n"),
+        (b"\"\"\n5\n", b"\"\"\n5\n"),
+        (b"a,\n1,2\n", b"a,\n1,2\n"),
+        (b",a\n", b",a\n"),
+        (
+            b"\"a,b\",\"c\"\"d\",e\"f\n",
+            b"\"a,b\",\"c\"\"d\",\"e\"\"f\"\n",
+        ),
+        (
+            b"\xc2\x80\xe2\x82\xac\xf0\x9f\x98\x80\n",
+            b"\xc2\x80\xe2\x82\xac\xf0\x9f\x98\x80\n",
+        ),
+        (b"\xef\xbb\xbf\xef\xbb\xbfk\n", b"\xef\xbb\xbfk\n"),
+        (b"k,\xef\xbb\xbfk\n", b"k,\xef\xbb\xbfk\n"),
+    ] {
+        let table = load(rt.alloc(), text)?;
+        let written = write_table(rt.alloc(), &table)?;
+        assert_eq!(rt; written.as_slice(), want, "at {text:?}");
+    }
+    Ok(())
+}

@@ -1,10 +1,11 @@
+pub mod Bytes
 pub mod Digits
+pub mod Fields
 pub mod Growth
 pub mod Headers
 pub mod Loading
 pub mod Outcomes
 pub mod Reaching
-pub mod ReaderFacts
 pub mod Records
 pub mod Refused
 pub mod Splits

@@ -1,5 +1,6 @@
 -- The records of a text, one after another.
-use Rattle.std.proofs.Common.{◌≡◌, ◌⊎◌, ℕ, zero, suc, ◌+◌, ◌<◌, ◌≤◌, Bool, true, false, List, [], ◌∷◌, Option, Some, None, length, refl, ap, inl, inr, arith, add-one, if◌then◌else◌, ◌==◌}
+use Rattle.std.proofs.Common.{◌≡◌, ◌⊎◌, ℕ, zero, suc, ◌+◌, ◌<◌, ◌≤◌, Bool, true, false, List, [], ◌∷◌, Option, Some, None, length, refl, ap, inl, inr, arith, add-one, if◌then◌else◌, ◌==◌, drop, subst, sym, ◌∙◌}
+use Rattle.std.proofs.lemmas.Bool.{cases_Bool, eqb-true}
 use Rattle.std.proofs.lemmas.List.{length_push}
 use Rattle.csv.specs.Machine.{Read, carriage_return, ends_at_end, ends_with, field_after, fields_after, in_field, is_end, line_feed, next_record, start_field, start_record, step}
 use Rattle.csv.specs.Reading.{default_config, records_from, records_next}
@@ -8,6 +9,7 @@ use Rattle.csv.specs.declared.parser.Action.TheVariants as act
 use Rattle.csv.specs.declared.parser.State.{State}
 use Rattle.csv.specs.declared.parser.State.TheVariants as st
 use Rattle.csv.specs.declared.parser.Terminator.TheVariants as term
+use Rattle.csv_tables.specs.Reading.{IsRecordAt, records_at}
 
 -- a step that ends a record leaves the machine between two records
 abbrev Between : State × Action → Type 0
@@ -129,3 +131,40 @@ records-none s xs h = rw (add-one (length xs)) (rw h refl)
 -- after a record the machine is between two records
 pub between-more : (s : State) (xs : List ℕ) (p : Read) → next_record default_config s [] [] xs ≡ Some p → ends_at_end p.1 ≡ false
 between-more s xs p h = (rest_between s [] [] xs p h).1
+
+-- after a carriage return a record begins as after a line feed
+start_same : (s : State) (xs : List ℕ) → ends_at_end s ≡ false → next_record default_config s [] [] xs ≡ next_record default_config st.StartRecord [] [] xs
+unfolding next_record
+start_same st.StartRecord xs h = refl
+start_same st.AfterCr [] h = refl
+start_same st.AfterCr (c ∷ rest) h =
+    elim (cases_Bool (c == 10)) [
+      | inl feed ↦ subst (λ (c : ℕ). next_record default_config st.AfterCr [] [] (c ∷ rest) ≡ next_record default_config st.StartRecord [] [] (c ∷ rest)) (sym (eqb-true c 10 feed)) refl
+      | inr other ↦ rw other refl
+    ]
+start_same st.StartField xs h = cc
+start_same st.InField xs h = cc
+start_same st.InQuoted xs h = cc
+start_same st.AfterQuote xs h = cc
+start_same st.InEscape xs h = cc
+start_same st.InComment xs h = cc
+
+records_same : (n : ℕ) (s : State) (xs : List ℕ) → ends_at_end s ≡ false → records_from default_config n s xs ≡ records_from default_config n st.StartRecord xs
+unfolding records_from
+records_same zero s xs h = refl
+records_same (suc n) s xs h = ap (records_next (records_from default_config n)) (start_same s xs h)
+
+-- a text whose machine gives a record has it, and then those after it
+pub record_at : (bytes : List ℕ) (at next : ℕ) (fields : List (List ℕ)) (after : State) → next ≤ length bytes → next_record default_config st.StartRecord [] [] (drop at bytes) ≡ Some (fields, after, drop next bytes)
+    → IsRecordAt bytes at next fields
+record_at bytes at next fields after within h = record {
+  within = within;
+  some = record-some st.StartRecord [] [] (drop at bytes) (fields, after, drop next bytes) h;
+  records =
+      records-more st.StartRecord (drop at bytes) (fields, after, drop next bytes) refl h
+      ∙ ap (λ rest. fields ∷ rest) (records_same (length (drop next bytes) + 1) after (drop next bytes) (between-more st.StartRecord (drop at bytes) (fields, after, drop next bytes) h));
+}
+
+-- and one whose machine gives none has none
+pub no_record_at : (bytes : List ℕ) (at : ℕ) → next_record default_config st.StartRecord [] [] (drop at bytes) ≡ None → records_at bytes at ≡ []
+no_record_at bytes at h = records-none st.StartRecord (drop at bytes) h

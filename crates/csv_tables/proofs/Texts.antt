@@ -1,12 +1,14 @@
 -- What the text of a table reads as.
-use Rattle.std.proofs.Common.{◌≡◌, ◌==◌, ◌&&◌, ℕ, suc, ℤ, pos, negsuc, neg_ℤ, ◌<◌, ◌++◌, ◌∷◌, Bool, true, false, List, [], All, length, map, get_or, if◌then◌else◌, ap, arith, inl, inr, refl, subst, sym, ◌∙◌, append_assoc, FitsSigned}
+use Rattle.std.proofs.Common.{◌≡◌, ◌==◌, ◌&&◌, ℕ, suc, ℤ, pos, negsuc, neg_ℤ, ◌<◌, ◌++◌, ◌∷◌, Bool, true, false, List, [], All, length, map, get_or, if◌then◌else◌, ap, arith, inl, inr, refl, subst, sym, ◌∙◌, append_assoc, FitsSigned, nat_eq, take, drop}
+use Rattle.std.specs.Cmp.Lexicographic.{pointwise}
 use Rattle.std.specs.Fmt.{decimal, signed_decimal}
 use Rattle.std.specs.Int.{w64}
 use Rattle.std.specs.List.{flat_map, list_any}
 use Rattle.std.specs.Str.Parse.{AllDigits, IsNumeral, digits_value, starts_with_minus}
-use Rattle.std.proofs.lemmas.Bool.{cases_Bool, eqb-true, ne_eqb}
+use Rattle.std.proofs.lemmas.Bool.{cases_Bool, eqb-true, false≢true, ne_eqb}
 use Rattle.std.proofs.lemmas.Int.{ints}
-use Rattle.std.proofs.lemmas.List.{length-map}
+use Rattle.std.proofs.lemmas.List.{length-map, take-append-drop}
+use Rattle.std.proofs.lemmas.Slice.Eq.{bytes_eq-Decides}
 use Rattle.std.proofs.lemmas.Fmt.{decimal_is_IsNumeral}
 use Rattle.std.proofs.lemmas.List.Elements.{All-cons, All-head, All-map, All-tail, All-weaker}
 use Rattle.col_table.specs.Name.{IsName}
@@ -104,7 +106,7 @@ all_three false false true h = cc
 all_three false false false h = cc
 
 -- a text that begins with no mark is read whole
-kept : (text : List ℕ) → ¬ (BeginsWithMark text) → strip_bom text ≡ text
+pub kept : (text : List ℕ) → ¬ (BeginsWithMark text) → strip_bom text ≡ text
 unfolding strip_bom
 kept [] none = refl
 kept (a ∷ []) none = refl
@@ -119,6 +121,20 @@ kept (a ∷ b ∷ c ∷ rest) none =
           absurd (none (rest, (cc)))
       | inr other ↦ rw other refl
     ]
+
+-- and one that begins with a mark is read after it
+stripped : (rest : List ℕ) → strip_bom (0xEF ∷ 0xBB ∷ 0xBF ∷ rest) ≡ rest
+unfolding strip_bom
+stripped rest = refl
+
+pub mark_stripped : (text : List ℕ) → pointwise nat_eq (take 3 text) (0xEF ∷ 0xBB ∷ 0xBF ∷ []) ≡ true → drop 3 text ≡ strip_bom text
+mark_stripped text found =
+    let mark = (bytes_eq-Decides (take 3 text) (0xEF ∷ 0xBB ∷ 0xBF ∷ [])).0 found in
+    sym (ap strip_bom (sym (take-append-drop 3 text) ∙ ap (λ front. front ++ drop 3 text) mark) ∙ stripped (drop 3 text))
+
+pub no_mark_stripped : (text : List ℕ) → pointwise nat_eq (take 3 text) (0xEF ∷ 0xBB ∷ 0xBF ∷ []) ≡ false → text ≡ strip_bom text
+no_mark_stripped text missing =
+    sym (kept text (λ (rest, begins). absurd (false≢true (sym missing ∙ (bytes_eq-Decides (take 3 text) (0xEF ∷ 0xBB ∷ 0xBF ∷ [])).1 (ap (take 3) begins)))))
 
 -- the text of a table reads as its records, if its first name begins with no mark
 pub records_kept : (name : List ℕ) (fields : List (List ℕ)) (rows : List (List (List ℕ))) → All (λ fields. 0 < length fields) rows → ¬ (BeginsWithMark name)

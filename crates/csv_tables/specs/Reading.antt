@@ -1,33 +1,69 @@
--- What a reader of records has left.
-use Rattle.std.specs.Prelude.{ℕ, ◌≡◌, ◌+◌, false, List, [], length, Option, Some, None, IsSome}
-use Rattle.std.specs.Borrow.{Bor}
-use Rattle.csv.specs.Machine.{ends_at_end}
-use Rattle.csv.specs.Reading.{Ready, default_config, reader_config, reader_state, reader_trim, records_from, source_of}
-use Rattle.csv.specs.declared.parser.State.{State}
-use Rattle.csv.specs.declared.reader.Reader.{Reader}
-use Rattle.csv.specs.declared.reader.Trim.TheVariants as trim
+-- Reading a text record by record, by the machine of `csv`.
+use Rattle.std.specs.Prelude.{ℕ, ◌≡◌, ◌<◌, ◌≤◌, ◌⊎◌, Bool, true, false, List, [], ◌∷◌, length, drop, slice_range, Option, Some, None}
+use Rattle.std.specs.List.{list_any}
+use Rattle.csv.specs.Machine.{next_record, step as machine_step}
+use Rattle.csv.specs.Reading.{default_config, records}
+use Rattle.csv.specs.Writing.{default_writer, needs_byte}
+use Rattle.csv.specs.declared.parser.Action.TheVariants as act
+use Rattle.csv.specs.declared.parser.State.{State as MachineState}
+use Rattle.csv.specs.declared.parser.State.TheVariants as st
+use Rattle.csv_tables.specs.declared.scan.State.{State}
+use Rattle.csv_tables.specs.declared.scan.State.TheVariants as state
+use Rattle.csv_tables.specs.declared.scan.Step.{Step}
+use Rattle.csv_tables.specs.declared.scan.Step.TheVariants as step
 
--- a reader over a slice
-abbrev pub SliceReader : Type 0
-SliceReader = Reader (Bor (List ℕ))
+-- the records of a text from a place between two records on
+abbrev pub records_at : List ℕ → ℕ → List (List (List ℕ))
+records_at bytes at = records default_config (drop at bytes)
 
--- the bytes that a reader has left, if it has not failed
-abbrev pub bytes_left : SliceReader → Option (List ℕ)
-bytes_left reader = source_of (λ slice. Some slice.now) reader
+-- a text has a record with these fields at one place, and its other records at the next
+pub record IsRecordAt (bytes : List ℕ) (at next : ℕ) (fields : List (List ℕ)) : Type 0 where
+  pub within : next ≤ length bytes
+  pub some : 0 < length fields
+  pub records : records_at bytes at ≡ fields ∷ records_at bytes next
 
--- a reader that gives each record as it stands, and is between two records
-pub record IsReading (reader : SliceReader) : Type 0 where
-  pub config : reader_config reader ≡ default_config
-  pub trim : reader_trim reader ≡ trim.None
-  pub ready : Ready reader
-  pub between : ends_at_end (reader_state reader) ≡ false
-  pub going : IsSome (bytes_left reader)
+-- the machine's name for a state within a record
+abbrev pub state_of : State → MachineState
+state_of state.StartRecord = st.StartRecord
+state_of state.StartField = st.StartField
+state_of state.InField = st.InField
+state_of state.InQuoted = st.InQuoted
+state_of state.AfterQuote = st.AfterQuote
 
--- the records of these bytes, from a state
-abbrev pub records_after : State → Option (List ℕ) → List (List (List ℕ))
-records_after state None = []
-records_after state (Some bytes) = records_from default_config (length bytes + 1) state bytes
+-- what the machine does at a byte
+abbrev pub IsStep : MachineState → ℕ → Step → Type 0
+IsStep from byte (step.Skip next) = machine_step default_config from byte ≡ (state_of next, act.Skip)
+IsStep from byte (step.Copy next) = machine_step default_config from byte ≡ (state_of next, act.Copy)
+IsStep from byte step.EndField = machine_step default_config from byte ≡ (st.StartField, act.EndField)
+IsStep from byte step.EndRecord = (after : MachineState) × (machine_step default_config from byte ≡ (after, act.EndRecord))
 
--- the records that a reader has left
-abbrev pub records_left : SliceReader → List (List (List ℕ))
-records_left reader = records_after (reader_state reader) (bytes_left reader)
+-- the record under way: its whole fields, and the bytes of the field at hand
+pub record Underway : Type 0 where
+  pub fields : List (List ℕ)
+  pub field : List ℕ
+
+-- what the machine gives from a state on, with a record under way
+abbrev pub reads_from : MachineState → Underway → List ℕ → Option (List (List ℕ) × MachineState × List ℕ)
+reads_from from underway bytes = next_record default_config from underway.fields underway.field bytes
+
+-- a byte makes the record under way another, read on from a state, or it ends the record
+abbrev pub TakesByte : MachineState → ℕ → Underway → Option State → Underway → Type 0
+TakesByte from byte old None new =
+    (rest : List ℕ) → (after : MachineState) × (reads_from from old (byte ∷ rest) ≡ Some (new.fields, after, rest))
+TakesByte from byte old (Some next) new =
+    (rest : List ℕ) → reads_from from old (byte ∷ rest) ≡ reads_from (state_of next) new rest
+
+-- no byte from one place to another is a mark of the format
+pub record IsPlain (bytes : List ℕ) (start end : ℕ) : Type 0 where
+  pub order : start ≤ end
+  pub within : end ≤ length bytes
+  pub plain : list_any (needs_byte default_writer) (slice_range bytes start end) ≡ false
+
+-- what ends a record at its last field: the end of the text, or a byte that ends a line
+abbrev pub EndsRecord : List ℕ → List ℕ → Type 0
+EndsRecord bytes rest = ((bytes ≡ []) × (rest ≡ [])) ⊎ ((byte : ℕ) × ((byte ≡ 13) ⊎ (byte ≡ 10)) × (bytes ≡ byte ∷ rest))
+
+-- what stands after a field: a comma, or after the last one what ends the record
+abbrev pub EndsField : Bool → List ℕ → List ℕ → Type 0
+EndsField true bytes rest = EndsRecord bytes rest
+EndsField false bytes rest = bytes ≡ 44 ∷ rest

@@ -10,9 +10,11 @@
 mod header;
 pub mod laws;
 mod number;
+mod plain;
 mod reading;
 mod refusal;
 mod rows;
+mod scan;
 mod writing;
 
 pub use crate::reading::load;

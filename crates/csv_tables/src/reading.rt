@@ -1,16 +1,15 @@
 // Reading a table record by record.
-ghost use Rattle.std.specs.Prelude.{◌≡◌, ◌∷◌, ◌<◌, [], if◌then◌else◌, IfErr, IfOk, IsTrue, length};
+ghost use Rattle.std.specs.Prelude.{◌≡◌, IfErr, IfOk};
 ghost use Rattle.col_table.specs.NamedRows.{NamedRows};
-ghost use Rattle.csv.specs.Records.{fields_of};
 ghost use Rattle.csv_tables.specs.Loading.{LoadsTable};
-ghost use Rattle.csv_tables.specs.Reading.{IsReading, records_left};
 ghost use Rattle.csv_tables.specs.Refusals.{RefusesTable};
 
 use crate::header::table_under;
 use crate::refusal::TableRefusal;
 use crate::rows::read_rows;
+use crate::scan::{read_record, without_mark};
 use col_table::Table;
-use csv::{ByteRecord, Reader, ReaderBuilder};
+use csv::ByteRecord;
 use std::alloc::Global;
 
 /// The table that a CSV text stands for, or its first refusal.
@@ -34,33 +33,13 @@ pub fn load(alloc: Global, bytes: &[u8]) -> Result<Table, TableRefusal>
     ensures unique { IfOk result (λ table. (other : NamedRows) → LoadsTable bytes.now other → other ≡ table) }
     ensures refused { IfErr result (RefusesTable bytes.now) }
 {
-    let mut reader = ReaderBuilder::new()
-        .has_headers(false)
-        .flexible(true)
-        .from_reader(alloc, bytes);
+    let bytes = without_mark(bytes);
     let mut fields = ByteRecord::new(alloc);
-    if !read_record(&mut reader, &mut fields)? {
+    let mut field = Vec::new(alloc);
+    let Some(at) = read_record(bytes, 0, &mut fields, &mut field)? else {
         return Err(TableRefusal::NoHeader);
-    }
+    };
     let mut table = table_under(alloc, &fields)?;
-    read_rows(&mut reader, &mut fields, &mut table)?;
+    read_rows(bytes, at, &mut fields, &mut field, &mut table)?;
     Ok(table)
-}
-
-// Reads the next record, if there is one.
-//
-// A slice never fails to be read, and a record may have any length, so what fails is memory.
-pub(crate) fn read_record(
-    reader: &mut Reader<&[u8]>,
-    fields: &mut ByteRecord,
-) -> Result<bool, TableRefusal>
-    requires { IsReading reader.old }
-    ensures reading { IfOk result (λ found. IsTrue found → IsReading reader.new) }
-    ensures found { IfOk result (λ found. records_left reader.old ≡ (if found then fields_of fields.new ∷ records_left reader.new else [])) }
-    ensures some { IfOk result (λ found. IsTrue found → 0 < length (fields_of fields.new)) }
-    ensures refused { IfErr result (λ refusal. refusal ≡ TableRefusal.OutOfMemory) }
-{
-    reader
-        .read_byte_record(fields)
-        .map_err(|_| TableRefusal::OutOfMemory)
 }

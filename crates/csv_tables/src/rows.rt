@@ -1,38 +1,72 @@
 // The rows of a table.
-ghost use Rattle.std.specs.Prelude.{◌≡◌, ◌≤◌, ◌+◌, IfErr, OnOk, length, map};
+ghost use Rattle.std.specs.Prelude.{◌≡◌, ◌<◌, ◌≤◌, ◌+◌, ℕ, List, IfErr, IfOk, MatchOption, OnOk, length, map, []};
 ghost use Rattle.csv.specs.Records.{fields_of};
 ghost use Rattle.csv_tables.specs.Loading.{GrowsBy, IsRow};
 ghost use Rattle.csv_tables.specs.Numbers.{number_of};
-ghost use Rattle.csv_tables.specs.Reading.{IsReading, records_left};
+ghost use Rattle.csv_tables.specs.Reading.{IsRecordAt, records_at};
 ghost use Rattle.csv_tables.specs.Refusals.{OrMemory, RefusesLines, RefusesRecord, refusal_of};
 
 use crate::number::{FieldFault, parse_value};
-use crate::reading::read_record;
+use crate::plain::read_plain_row;
 use crate::refusal::TableRefusal;
+use crate::scan::read_record;
 use col_table::{MAX_COLUMNS, MAX_ROWS, Table};
-use csv::{ByteRecord, Reader};
+use csv::ByteRecord;
 
-// Adds the rows that the records left in a reader write, to a table without rows.
+// Adds the rows that the records from a place on write, to a table without rows.
 pub(crate) fn read_rows(
-    reader: &mut Reader<&[u8]>,
+    bytes: &[u8],
+    at: usize,
     fields: &mut ByteRecord,
+    field: &mut Vec<u8>,
     table: &mut Table,
 ) -> Result<(), TableRefusal>
-    requires reading { IsReading reader.old }
+    requires within { at ≤ length bytes.now }
     requires empty { length table.old.rows ≡ 0 }
-    ensures grown { OnOk result (GrowsBy table.old (records_left reader.old) table.new) }
-    ensures refused { IfErr result (OrMemory (RefusesLines (length table.old.names) (records_left reader.old))) }
+    ensures grown { OnOk result (GrowsBy table.old (records_at bytes.now at) table.new) }
+    ensures refused { IfErr result (OrMemory (RefusesLines (length table.old.names) (records_at bytes.now at))) }
 {
     let mut values = [0; MAX_COLUMNS];
     let row = &mut values[..table.cols() as usize];
-    while read_record(reader, fields)? {
-        if table.rows() == MAX_ROWS {
-            return Err(TableRefusal::TooManyRows);
-        }
-        parse_row(fields, table.rows() + 1, row)?;
+    let mut start = at;
+    while let Some(next) = read_row(bytes, start, table.rows() + 1, fields, field, row)? {
         table.push_row(row).map_err(|_| TableRefusal::OutOfMemory)?;
+        start = next;
     }
     Ok(())
+}
+
+// Fills a row with the values of the record with this number that begins at a place, and answers the place after
+// it, if there is a record.
+fn read_row(
+    bytes: &[u8],
+    at: usize,
+    number: u32,
+    fields: &mut ByteRecord,
+    field: &mut Vec<u8>,
+    row: &mut [i64],
+) -> Result<Option<usize>, TableRefusal>
+    requires within { at ≤ length bytes.now }
+    requires some { 0 < length row.old }
+    requires few { length row.old ≤ MAX_COLUMNS }
+    ensures read { IfOk result (λ next. MatchOption next (records_at bytes.now at ≡ []) (λ next. (line : List (List ℕ))
+        × IsRecordAt bytes.now at next line × IsRow (length row.old) line × (row.new ≡ map number_of line) × (number ≤ MAX_ROWS))) }
+    ensures refused { IfErr result (OrMemory (λ refusal. (next : ℕ) × (line : List (List ℕ))
+        × IsRecordAt bytes.now at next line × RefusesRecord (length row.old) number line refusal)) }
+{
+    if number <= MAX_ROWS {
+        if let Some(next) = read_plain_row(bytes, at, row) {
+            return Ok(Some(next));
+        }
+    }
+    let Some(next) = read_record(bytes, at, fields, field)? else {
+        return Ok(None);
+    };
+    if number > MAX_ROWS {
+        return Err(TableRefusal::TooManyRows);
+    }
+    parse_row(fields, number, row)?;
+    Ok(Some(next))
 }
 
 // Fills a row with the values of the record with this number, which is to have as many.

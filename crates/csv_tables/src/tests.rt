@@ -32,6 +32,8 @@ fn loads_each_form(rt: HostRuntime) -> Result<(), Fail> {
         (b"\xef\xbb\xbfv\n1\n", 1, &[1]),
         (b"\xef\xbb\xbf\xef\xbb\xbfv\n1\n", 1, &[1]),
         (b"a,\n1,2", 2, &[1, 2]),
+        (b"a,b\n\"1\",2\n3,\"4\"\n5,6\n", 2, &[1, 2, 3, 4, 5, 6]),
+        (b"\xc2\x80,\xe2\x82\xac\n1,2\n", 2, &[1, 2]),
         (
             b"v\n-0\n000000000000000000000000001\n-0009\n",
             1,
@@ -134,5 +136,93 @@ fn writes_what_it_loads(rt: HostRuntime) -> Result<(), Fail> {
         let written = write_table(rt.alloc(), &table)?;
         assert_eq!(rt; written.as_slice(), want, "at {text:?}");
     }
+    Ok(())
+}
+
+// Every prefix of a text of 18 bytes: its rows, or its refusal.
+#[test]
+fn reads_each_prefix(rt: HostRuntime) -> Result<(), Fail> {
+    let text = b"k,v\n1,10\n1,20\n2,5\n".as_slice();
+    for (lengths, want) in [
+        ([0, 0], Err(TableRefusal::NoHeader)),
+        ([1, 2], Ok([].as_slice())),
+        ([3, 4], Ok(&[])),
+        ([5, 5], Err(TableRefusal::Ragged(1))),
+        ([6, 6], Err(TableRefusal::NotANumber(1, 2))),
+        ([7, 7], Ok(&[1, 1])),
+        ([8, 9], Ok(&[1, 10])),
+        ([10, 10], Err(TableRefusal::Ragged(2))),
+        ([11, 11], Err(TableRefusal::NotANumber(2, 2))),
+        ([12, 12], Ok(&[1, 10, 1, 2])),
+        ([13, 14], Ok(&[1, 10, 1, 20])),
+        ([15, 15], Err(TableRefusal::Ragged(3))),
+        ([16, 16], Err(TableRefusal::NotANumber(3, 2))),
+        ([17, 18], Ok(&[1, 10, 1, 20, 2, 5])),
+    ] {
+        for length in lengths {
+            let prefix = &text[..length];
+            match want {
+                Ok(rows) => {
+                    let table = load(rt.alloc(), prefix)?;
+                    assert_eq!(rt; values(&rt, &table)?.as_slice(), rows, "at {length}");
+                }
+                Err(refusal) => {
+                    assert_eq!(rt; refused(&rt, prefix), Some(refusal), "at {length}")
+                }
+            }
+        }
+    }
+    Ok(())
+}
+
+// A table holds 1,048,576 rows, and a record more is too many whatever it holds.
+#[test]
+fn holds_so_many_rows(rt: HostRuntime) -> Result<(), Fail> {
+    let mut text = Vec::from_slice(rt.alloc(), b"v\n")?;
+    for _ in 0..1_048_576 {
+        text.extend_from_slice(b"1\n")?;
+    }
+    let table = load(rt.alloc(), text.as_slice())?;
+    assert_eq!(rt; table.rows(), 1_048_576);
+    text.extend_from_slice(b"x,")?;
+    assert_eq!(rt;
+        refused(&rt, text.as_slice()),
+        Some(TableRefusal::TooManyRows)
+    );
+    Ok(())
+}
+
+// A header holds 32 names, whatever the fields past them are.
+#[test]
+fn holds_so_many_columns(rt: HostRuntime) -> Result<(), Fail> {
+    let mut text = Vec::from_slice(rt.alloc(), b"0")?;
+    for number in 1..32 {
+        let name = format!(in rt.alloc(); ",{number}")?;
+        text.extend_from_slice(name.as_bytes())?;
+    }
+    let table = load(rt.alloc(), text.as_slice())?;
+    assert_eq!(rt; table.cols(), 32);
+    text.extend_from_slice(b",0")?;
+    assert_eq!(rt;
+        refused(&rt, text.as_slice()),
+        Some(TableRefusal::TooManyColumns)
+    );
+    Ok(())
+}
+
+// A name has 64 bytes at most.
+#[test]
+fn takes_names_of_64_bytes(rt: HostRuntime) -> Result<(), Fail> {
+    let mut text = Vec::from_slice(rt.alloc(), b"k,")?;
+    for _ in 0..32 {
+        text.extend_from_slice(b"\xc2\x80")?;
+    }
+    let table = load(rt.alloc(), text.as_slice())?;
+    assert_eq!(rt; table.name(1).as_str().len(), 64);
+    text.push(b'v')?;
+    assert_eq!(rt;
+        refused(&rt, text.as_slice()),
+        Some(TableRefusal::BadName(2))
+    );
     Ok(())
 }

@@ -1,5 +1,5 @@
 // Numbers of fields.
-ghost use Rattle.std.specs.Prelude.{◌≡◌, ◌-◌, ◌^◌, IfErr, IfOk, MatchOption, min};
+ghost use Rattle.std.specs.Prelude.{◌≡◌, ◌<◌, ◌≤◌, ◌-◌, ◌^◌, IfErr, IfOk, MatchOption, length, min};
 ghost use Rattle.std.specs.Str.Parse.{IsNumeral, digits_value};
 ghost use Rattle.csv_tables.specs.Numbers.{HasFault, IsValue, number_of};
 
@@ -29,6 +29,9 @@ pub(crate) fn parse_value(field: &[u8]) -> Result<i64, FieldFault>
     }
 }
 
+// So many decimal digits write a number that a `u64` holds.
+const SHORT: usize = 19;
+
 // The number that decimal digits write, where there is one digit or more and nothing else.
 //
 // A number past 64 bits stands at the greatest `u64`, which no `i64` holds with either sign.
@@ -38,6 +41,35 @@ fn parse_digits(digits: &[u8]) -> Option<u64>
     if digits.is_empty() {
         return None;
     }
+    if digits.len() <= SHORT {
+        parse_short(digits)
+    } else {
+        parse_long(digits)
+    }
+}
+
+// The same for so few digits that no step overflows.
+fn parse_short(digits: &[u8]) -> Option<u64>
+    requires some { 0 < length digits.now }
+    requires short { length digits.now ≤ SHORT }
+    ensures { MatchOption result (¬ (IsNumeral 10 digits.now)) (λ size. IsNumeral 10 digits.now × (size ≡ min (digits_value 10 digits.now) (2 ^ 64 - 1))) }
+{
+    let mut size: u64 = 0;
+    for byte in digits {
+        if !byte.is_ascii_digit() {
+            return None;
+        }
+        size = size * 10 + u64::from(*byte - b'0');
+    }
+    Some(size)
+}
+
+// The same for any digits.
+#[inline(never)]
+fn parse_long(digits: &[u8]) -> Option<u64>
+    requires { 0 < length digits.now }
+    ensures { MatchOption result (¬ (IsNumeral 10 digits.now)) (λ size. IsNumeral 10 digits.now × (size ≡ min (digits_value 10 digits.now) (2 ^ 64 - 1))) }
+{
     let mut size: u64 = 0;
     for byte in digits {
         if !byte.is_ascii_digit() {

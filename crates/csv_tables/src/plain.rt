@@ -12,6 +12,7 @@ use crate::number::parse_value;
 
 // Fills a row with the values of the next record, and answers the place after it, where that record is a row of
 // numbers without quotes. Where it answers nothing, the record may be any, or there may be none.
+#[inline(never)]
 pub(crate) fn read_plain_row(bytes: &[u8], at: usize, row: &mut [i64]) -> Option<usize>
     requires within { at ≤ length bytes.now }
     requires some { 0 < length row.old }

@@ -3,7 +3,7 @@ use Rattle.std.proofs.lemmas.Int.Digits.{digits_more, digits_value_more}
 use Rattle.std.proofs.lemmas.Str.{digit_value_digit}
 use Rattle.std.proofs.lemmas.Str.Parse.{digit_at}
 use Rattle.csv_tables.proofs.Digits.{digit_range, not_digit_range}
-use Rattle.csv_tables.proofs.number.parse_digits.Goals as goal
+use Rattle.csv_tables.proofs.number.parse_long.Goals as goal
 
 pub returns-then-not-is_ascii_digit : goal.returns-then-not-is_ascii_digit
 returns-then-not-is_ascii_digit c = λ numeral.

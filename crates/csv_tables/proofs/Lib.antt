@@ -1,4 +1,5 @@
 pub mod Bytes
+pub mod Deciding
 pub mod Digits
 pub mod Fields
 pub mod Growth

@@ -1,17 +1,19 @@
 -- A list of records stands for one table, or has one first refusal.
-use Rattle.std.proofs.Common.{◌≡◌, ◌≢◌, ◌⊎◌, ℕ, ◌<◌, ◌≤◌, ◌++◌, ◌∷◌, List, [], All, length, map, ap, arith, inl, inr, refl, subst, sym, ◌∙◌, Ok, Err, FitsSigned}
+use Rattle.std.proofs.Common.{◌≡◌, ◌≢◌, ◌⊎◌, ℕ, ◌<◌, ◌≤◌, ◌++◌, ◌∷◌, List, [], All, length, map, ap, arith, inl, inr, refl, subst, sym, ◌∙◌, Result, Ok, Err, FitsSigned}
 use Rattle.std.specs.Int.{w64}
 use Rattle.std.specs.List.{Contains}
 use Rattle.std.proofs.lemmas.List.{get_or_append_left, get_or_at, get_or_default, length-append, length-map}
 use Rattle.col_table.specs.Name.{IsName}
 use Rattle.col_table.specs.NamedRows.{NamedRows}
 use Rattle.col_table.specs.declared.table.TheConstants.{MAX_COLUMNS, MAX_ROWS}
+use Rattle.csv.specs.Reading.{strip_bom}
 use Rattle.csv_tables.specs.Loading.{GrowsBy, IsHeader, IsRow, RecordsStandFor, records_of}
 use Rattle.csv_tables.specs.Numbers.{IsNumber, IsValue, number_of}
 use Rattle.csv_tables.specs.Refusals.{AreNames, IsWide, Reaches, RefusesHeader, RefusesLines, RefusesRecord, RefusesRecords}
 use Rattle.csv_tables.specs.declared.refusal.TableRefusal.{TableRefusal}
 use Rattle.csv_tables.specs.declared.refusal.TableRefusal.TheVariants.{NoHeader, TooManyColumns, BadName, TwiceNamed, Ragged, NotANumber, OutOfRange, TooManyRows, OutOfMemory}
-use Rattle.csv_tables.specs.Verdicts.{HasOneVerdict}
+use Rattle.csv_tables.specs.Verdicts.{HasOneVerdict, IsVerdict}
+use Rattle.csv_tables.proofs.Deciding.{verdict_of}
 use Rattle.csv_tables.proofs.Loading.{one_table}
 use Rattle.csv_tables.proofs.Splits.{compared, good_at, one_reach}
 
@@ -208,9 +210,16 @@ not_both [] table refusal stands x = stands
 not_both (header ∷ lines) table refusal stands (inl x) = refused_header header refusal x stands.0
 not_both (header ∷ lines) table refusal stands (inr x) = refused_lines _ table lines refusal x.1 stands.1
 
--- a text has one verdict at most
+-- a text has one verdict at most, and one at least
+at_most_one : (bytes : List ℕ) (one other : Result NamedRows TableRefusal) → IsVerdict bytes one → IsVerdict bytes other → other ≡ one
+at_most_one bytes (Ok a) (Ok b) x y = ap (λ table. Ok table) (one_table (records_of bytes) b a y x)
+at_most_one bytes (Ok a) (Err b) x y = absurd (not_both (records_of bytes) a b x y)
+at_most_one bytes (Err a) (Ok b) x y = absurd (not_both (records_of bytes) b a y x)
+at_most_one bytes (Err a) (Err b) x y = ap (λ refusal. Err refusal) (one_refusal (records_of bytes) b a y x)
+
 pub one_verdict : (bytes : List ℕ) → HasOneVerdict bytes
-one_verdict bytes (Ok a) (Ok b) x y = ap (λ table. Ok table) (one_table (records_of bytes) a b x y)
-one_verdict bytes (Ok a) (Err b) x y = absurd (not_both (records_of bytes) a b x y)
-one_verdict bytes (Err a) (Ok b) x y = absurd (not_both (records_of bytes) b a y x)
-one_verdict bytes (Err a) (Err b) x y = ap (λ refusal. Err refusal) (one_refusal (records_of bytes) a b x y)
+one_verdict bytes =
+    elim (verdict_of (strip_bom bytes)) [
+      | inl (table, stands) ↦ record { verdict = Ok table; is = stands; only = λ other h. at_most_one bytes (Ok table) other stands h }
+      | inr (refusal, refused) ↦ record { verdict = Err refusal; is = refused; only = λ other h. at_most_one bytes (Err refusal) other refused h }
+    ]

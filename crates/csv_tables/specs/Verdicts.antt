@@ -10,6 +10,8 @@ abbrev pub IsVerdict : List ℕ → Result NamedRows TableRefusal → Type 0
 IsVerdict bytes (Ok table) = LoadsTable bytes table
 IsVerdict bytes (Err refusal) = RefusesRecords (records_of bytes) refusal
 
--- a text has one verdict at most
-abbrev pub HasOneVerdict : List ℕ → Type 0
-HasOneVerdict bytes = (one other : Result NamedRows TableRefusal) → IsVerdict bytes one → IsVerdict bytes other → one ≡ other
+-- a text has exactly one verdict
+pub record HasOneVerdict (bytes : List ℕ) : Type 0 where
+  pub verdict : Result NamedRows TableRefusal
+  pub is : IsVerdict bytes verdict
+  pub only : (other : Result NamedRows TableRefusal) → IsVerdict bytes other → other ≡ verdict

@@ -1,0 +1,76 @@
+#!/bin/sh
+# Times `sched_tool check`, which here mostly loads a table, against the plain loader of load.cpp: every program runs once on
+# every input in each round. It prints the medians of the CPU seconds, user and system, with their ratio, and the greatest
+# memory. It is no test. It needs a C++ compiler and /usr/bin/time, and a machine that is otherwise idle.
+#
+#   bench/run.sh [ROUNDS]        15 rounds by default
+
+set -eu
+export LC_ALL=C
+rounds=${1:-15}
+here=$(CDPATH='' cd -- "$(dirname -- "$0")" && pwd)
+program=$here/../crates/sched_tool/out/sched_tool
+work=$(mktemp -d)
+trap 'rm -rf "$work"' EXIT
+
+# ROWS COLUMNS BOUND: a table of numbers below BOUND, each drawn from the one before it; the first draw is fixed.
+table() {
+    awk -v rows="$1" -v columns="$2" -v bound="$3" 'BEGIN {
+        draw = 20211
+        for (column = 0; column < columns; column++) printf "%sc%d", column ? "," : "", column
+        print ""
+        for (row = 0; row < rows; row++) {
+            for (column = 0; column < columns; column++) {
+                draw = (draw * 16807) % 2147483647
+                printf "%s%d", column ? "," : "", draw % bound
+            }
+            print ""
+        }
+    }'
+}
+
+# The script that sums the first column of a table in this file.
+script() {
+    printf '{"version":1,"tables":[{"name":"t","file":"%s"}],"queries":[{"scan":"t","output":{"totals":[{"fn":"sum","col":"c0"}]}}]}\n' "$1"
+}
+
+# FILE WORD..: runs a command, and adds its CPU seconds and its memory in KiB to a file.
+timed() {
+    log=$1
+    shift
+    /usr/bin/time -o "$work/time" -f '%U %S %M' "$@" >"$work/said"
+    awk '{ print $1 + $2, $3 }' "$work/time" >>"$log"
+}
+
+# FILE COLUMN: the median of a column.
+median() {
+    sort -n -k "$2,$2" "$1" | awk -v column="$2" '{ all[NR] = $column }
+        END { print NR % 2 ? all[(NR + 1) / 2] : (all[NR / 2] + all[NR / 2 + 1]) / 2 }'
+}
+
+"${CXX:-c++}" -O2 -std=c++17 -o "$work/load" "$here/load.cpp"
+"$here/../sched_tool" >/dev/null || [ -x "$program" ]
+
+inputs='1048576x3 1048576x8'
+for input in $inputs; do
+    table "${input%x*}" "${input#*x}" 100000 >"$work/$input.csv"
+    script "$input.csv" >"$work/$input.json"
+done
+
+cd "$work"
+round=0
+while [ "$round" -lt "$rounds" ]; do
+    for input in $inputs; do
+        timed "$input.ours" "$program" check "$input.json"
+        timed "$input.plain" ./load "$input.csv"
+    done
+    round=$((round + 1))
+done
+
+printf '%-12s %10s %10s %6s %12s %12s\n' 'rows x cols' 'check s' 'plain s' ratio 'check KiB' 'plain KiB'
+for input in $inputs; do
+    ours=$(median "$input.ours" 1)
+    plain=$(median "$input.plain" 1)
+    ratio=$(awk -v a="$ours" -v b="$plain" 'BEGIN { printf "%.2f", b ? a / b : 0 }')
+    printf '%-12s %10s %10s %6s %12s %12s\n' "$input" "$ours" "$plain" "$ratio" "$(median "$input.ours" 2)" "$(median "$input.plain" 2)"
+done

@@ -20,12 +20,14 @@ pub copies : (s next : MachineState) (fields : List (List ℕ)) (field : List �
 unfolding next_record
 copies s next fields field byte rest e = rw e refl
 
-pub ends_field : (s next : MachineState) (fields : List (List ℕ)) (field : List ℕ) (byte : ℕ) (rest : List ℕ) → step default_config s byte ≡ (next, act.EndField)
+pub ends_field : (s next : MachineState) (fields : List (List ℕ)) (field : List ℕ) (byte : ℕ) (rest : List ℕ) → step default_config s byte
+    ≡ (next, act.EndField)
     → next_record default_config s fields field (byte ∷ rest) ≡ next_record default_config next (fields ++ field ∷ []) [] rest
 unfolding next_record
 ends_field s next fields field byte rest e = rw e refl
 
-pub ends_record : (s after : MachineState) (fields : List (List ℕ)) (field : List ℕ) (byte : ℕ) (rest : List ℕ) → step default_config s byte ≡ (after, act.EndRecord)
+pub ends_record : (s after : MachineState) (fields : List (List ℕ)) (field : List ℕ) (byte : ℕ) (rest : List ℕ) → step default_config s byte
+    ≡ (after, act.EndRecord)
     → next_record default_config s fields field (byte ∷ rest) ≡ Some (fields ++ field ∷ [], after, rest)
 unfolding next_record
 ends_record s after fields field byte rest e = rw e refl
@@ -35,7 +37,8 @@ pub none_left : (fields : List (List ℕ)) (field : List ℕ) → next_record de
 unfolding next_record
 none_left fields field = refl
 
-pub last_left : (s : State) (fields : List (List ℕ)) (field : List ℕ) → ¬ (s ≡ state.StartRecord) → next_record default_config (state_of s) fields field [] ≡ Some (fields ++ field ∷ [], st.StartRecord, [])
+pub last_left : (s : State) (fields : List (List ℕ)) (field : List ℕ) → ¬ (s ≡ state.StartRecord) → next_record default_config (state_of s) fields field []
+    ≡ Some (fields ++ field ∷ [], st.StartRecord, [])
 unfolding next_record
 last_left state.StartRecord fields field not = absurd (not refl)
 last_left state.StartField fields field not = refl
@@ -44,10 +47,12 @@ last_left state.InQuoted fields field not = refl
 last_left state.AfterQuote fields field not = refl
 
 -- a byte that ends a line is skipped between two records, and any other begins a field there
-pub skips_line : (byte : ℕ) (rest : List ℕ) → ends_with term.CRLF byte ≡ true → next_record default_config st.StartRecord [] [] (byte ∷ rest) ≡ next_record default_config st.StartRecord [] [] rest
+pub skips_line : (byte : ℕ) (rest : List ℕ) → ends_with term.CRLF byte ≡ true → next_record default_config st.StartRecord [] [] (byte ∷ rest)
+    ≡ next_record default_config st.StartRecord [] [] rest
 unfolding next_record
 skips_line byte rest ends = rw ends refl
 
-pub begins_field : (byte : ℕ) (rest : List ℕ) → ends_with term.CRLF byte ≡ false → next_record default_config st.StartRecord [] [] (byte ∷ rest) ≡ next_record default_config st.StartField [] [] (byte ∷ rest)
+pub begins_field : (byte : ℕ) (rest : List ℕ) → ends_with term.CRLF byte ≡ false → next_record default_config st.StartRecord [] [] (byte ∷ rest)
+    ≡ next_record default_config st.StartField [] [] (byte ∷ rest)
 unfolding next_record
 begins_field byte rest ends = rw ends refl

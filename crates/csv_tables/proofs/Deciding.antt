@@ -99,7 +99,8 @@ fits_or_not : (z : ℤ) → OrNot (FitsSigned w64 z)
 fits_or_not z =
     elim (cases_lt (mag z) (2 ^ 63)) [ inl small ↦ inl (record { sfits = small }) | inr large ↦ inr (λ fits. omega (arith, large, fits.sfits)) ]
 
-names_walk : (header before after : List (List ℕ)) → header ≡ before ++ after → AreNames before → length header ≤ MAX_COLUMNS → AreNames header ⊎ ((refusal : TableRefusal) × RefusesHeader header refusal)
+names_walk : (header before after : List (List ℕ)) → header ≡ before ++ after → AreNames before → length header ≤ MAX_COLUMNS → AreNames header
+    ⊎ ((refusal : TableRefusal) × RefusesHeader header refusal)
 names_walk header before [] parts are few = inl (subst AreNames (sym (parts ∙ append-nil before)) are)
 names_walk header before (field ∷ after) parts are few =
     let reached : Reaches AreNames header (length before + 1) field = record { before = before; after = after; parts = parts; good = are; counted = refl } in
@@ -107,7 +108,8 @@ names_walk header before (field ∷ after) parts are few =
       | inr illegal ↦ inr (BadName (length before + 1), (few, field, reached, illegal))
       | inl legal ↦ elim (twice_or_not before field) [
         | inl twice ↦ inr (TwiceNamed (length before + 1), (few, field, reached, legal, twice))
-        | inr new ↦ names_walk header (before ++ field ∷ []) after (parts ∙ sym (append_assoc before (field ∷ []) after)) (names_push before field are legal new) few
+        | inr new ↦ names_walk header (before ++ field ∷ []) after (parts ∙ sym (append_assoc before (field ∷ []) after))
+            (names_push before field are legal new) few
       ]
     ]
 
@@ -122,16 +124,19 @@ values_walk : (count number : ℕ) (fields before after : List (List ℕ)) → f
     → All IsValue fields ⊎ ((refusal : TableRefusal) × RefusesRecord count number fields refusal)
 values_walk count number fields before [] parts are wide = inl (subst (All IsValue) (sym (parts ∙ append-nil before)) are)
 values_walk count number fields before (field ∷ after) parts are wide =
-    let reached : Reaches (All IsValue) fields (length before + 1) field = record { before = before; after = after; parts = parts; good = are; counted = refl } in
+    let reached : Reaches (All IsValue) fields
+    (length before + 1) field = record { before = before; after = after; parts = parts; good = are; counted = refl } in
     elim (number_or_not field) [
       | inr not ↦ inr (NotANumber number (length before + 1), (refl, wide, field, reached, not))
       | inl is ↦ elim (fits_or_not (number_of field)) [
         | inr large ↦ inr (OutOfRange number (length before + 1), (refl, wide, field, reached, is, large))
-        | inl fits ↦ values_walk count number fields (before ++ field ∷ []) after (parts ∙ sym (append_assoc before (field ∷ []) after)) (All-push IsValue before field are (is, fits)) wide
+        | inl fits ↦ values_walk count number fields (before ++ field ∷ []) after (parts ∙ sym (append_assoc before (field ∷ []) after))
+            (All-push IsValue before field are (is, fits)) wide
       ]
     ]
 
-record_walk : (count number : ℕ) (fields : List (List ℕ)) → ((number ≤ MAX_ROWS) × IsRow count fields) ⊎ ((refusal : TableRefusal) × RefusesRecord count number fields refusal)
+record_walk : (count number : ℕ) (fields : List (List ℕ)) → ((number ≤ MAX_ROWS) × IsRow count fields)
+    ⊎ ((refusal : TableRefusal) × RefusesRecord count number fields refusal)
 record_walk count number fields =
     elim (cases_lt MAX_ROWS number) [
       | inl many ↦ inr (TooManyRows, many)
@@ -154,7 +159,8 @@ lines_walk count lines before (fields ∷ after) parts are few =
       | inr (refusal, refused) ↦
           inr (refusal, (length before + 1, fields, record { before = before; after = after; parts = parts; good = are; counted = refl }, refused))
       | inl (room, row) ↦
-          lines_walk count lines (before ++ fields ∷ []) after (parts ∙ sym (append_assoc before (fields ∷ []) after)) (All-push (IsRow count) before fields are row) (omega (arith, room, length_push before fields))
+          lines_walk count lines (before ++ fields ∷ []) after (parts ∙ sym (append_assoc before (fields ∷ []) after))
+          (All-push (IsRow count) before fields are row) (omega (arith, room, length_push before fields))
     ]
 
 -- good lines under a good header make a table
@@ -166,7 +172,9 @@ table_of header lines head are few = record {
   rows = refl;
   shape = record {
     heading = head.heading;
-    widths = All-map (λ row. length row ≡ length header) (map number_of) lines (All-weaker (IsRow (length header)) (λ fields. length (map number_of fields) ≡ length header) (λ fields row. length-map fields number_of ∙ row.width) lines are);
+    widths = All-map (λ row. length row ≡ length header) (map number_of) lines
+        (All-weaker (IsRow (length header)) (λ fields. length (map number_of fields) ≡ length header)
+        (λ fields row. length-map fields number_of ∙ row.width) lines are);
     few = omega (arith, few, length-map lines (map number_of));
   };
 }
@@ -194,4 +202,5 @@ pub verdict_of : (bytes : List ℕ) → Verdict (records default_config bytes)
 unfolding records_from
 verdict_of bytes =
     subst (λ (n : ℕ). Verdict (records_from default_config n st.StartRecord bytes)) (sym (add-one (length bytes)))
-    (verdict_next (records_from default_config (length bytes)) (next_record default_config st.StartRecord [] [] bytes) (λ p h. record-some st.StartRecord [] [] bytes p h))
+    (verdict_next (records_from default_config (length bytes)) (next_record default_config st.StartRecord [] [] bytes)
+    (λ p h. record-some st.StartRecord [] [] bytes p h))

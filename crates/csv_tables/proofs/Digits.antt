@@ -19,7 +19,12 @@ not_digit_range c h range = grind (arith, nat_tests)
 -- fewer than 19 digits write a number below 10 ^ 18
 pub short_value : (digits : List ℕ) (count : ℕ) → count ≤ 18 → AllDigits 10 (take count digits) → digits_value 10 (take count digits) < 10 ^ 18
 short_value digits count few all =
-    omega (arith, digits_value-lt 10 (take count digits) all, pow-le-pow_right {n = 10} (omega arith) {i = length (take count digits)} {j = 18} (omega (arith, length-take count digits)))
+    omega (
+      arith,
+      digits_value-lt 10 (take count digits) all,
+      pow-le-pow_right {n = 10} (omega arith) {i = length (take count digits)} {j = 18}
+          (omega (arith, length-take count digits)),
+    )
 
 -- 19 digits or fewer write a number that 64 bits hold
 pub short_fits : (digits : List ℕ) → length digits ≤ 19 → AllDigits 10 digits → digits_value 10 digits < 2 ^ 64

@@ -14,7 +14,8 @@ use Rattle.csv_tables.specs.Reading.{EndsField, EndsRecord, IsPlain}
 use Rattle.csv_tables.proofs.Texts.{plain_text}
 
 -- a range with one element more
-range_more : (xs : List ℕ) (start place : ℕ) → start ≤ place → place < length xs → slice_range xs start (place + 1) ≡ slice_range xs start place ++ get_or xs place 0 ∷ []
+range_more : (xs : List ℕ) (start place : ℕ) → start ≤ place → place < length xs → slice_range xs start (place + 1)
+    ≡ slice_range xs start place ++ get_or xs place 0 ∷ []
 range_more xs start place order within =
     let count : place + 1 - start ≡ (place - start) + 1 = omega arith in
     let here : start + (place - start) ≡ place = omega arith in
@@ -27,9 +28,15 @@ both_false a b ha hb = rw (ha, hb) refl
 
 -- no byte is in an empty range, and one more byte that is no mark
 pub plain_none : (bytes : List ℕ) (start : ℕ) → start ≤ length bytes → IsPlain bytes start start
-plain_none bytes start within = let none : start - start ≡ 0 = omega arith in record { order = omega arith; within = within; plain = ap (λ n. list_any (needs_byte default_writer) (take n (drop start bytes))) none }
+plain_none bytes start within = let none : start - start ≡ 0 = omega arith in record {
+  order = omega arith;
+  within = within;
+  plain = ap
+      (λ n. list_any (needs_byte default_writer) (take n (drop start bytes))) none;
+}
 
-pub plain_more : (bytes : List ℕ) (start place : ℕ) → IsPlain bytes start place → place < length bytes → needs_byte default_writer (get_or bytes place 0) ≡ false → IsPlain bytes start (place + 1)
+pub plain_more : (bytes : List ℕ) (start place : ℕ) → IsPlain bytes start place → place < length bytes → needs_byte default_writer (get_or bytes place 0)
+    ≡ false → IsPlain bytes start (place + 1)
 plain_more bytes start place plain within other = record {
   order = omega (arith, plain.order);
   within = omega arith;
@@ -42,25 +49,32 @@ plain_more bytes start place plain within other = record {
 -- a byte that is no mark is no quote
 no_quote : (byte : ℕ) → needs_byte default_writer byte ≡ false → (byte == 34) ≡ false
 no_quote byte plain =
-    elim (cases_Bool (byte == 34)) [ inl quote ↦ absurd (let e = subst (λ (b : ℕ). needs_byte default_writer b ≡ false) (eqb-true byte 34 quote) plain in cc) | inr other ↦ other ]
+    elim (cases_Bool (byte == 34)) [
+      | inl quote ↦ absurd (let e = subst (λ (b : ℕ). needs_byte default_writer b ≡ false)
+          (eqb-true byte 34 quote) plain in cc)
+      | inr other ↦ other
+    ]
 
 first_false : (a b : Bool) → (a || b) ≡ false → a ≡ false
 first_false true b h = h
 first_false false b h = refl
 
 -- a field without marks at the end of a text
-ends_text : (fields : List (List ℕ)) (x : List ℕ) → list_any (needs_byte default_writer) x ≡ false → next_record default_config st.StartField fields [] x ≡ Some (fields ++ x ∷ [], st.StartRecord, [])
+ends_text : (fields : List (List ℕ)) (x : List ℕ) → list_any (needs_byte default_writer) x ≡ false → next_record default_config st.StartField fields [] x
+    ≡ Some (fields ++ x ∷ [], st.StartRecord, [])
 unfolding next_record
 ends_text fields [] plain = refl
 ends_text fields (byte ∷ rest) plain =
     start-same fields [] byte rest (no_quote byte (first_false _ _ plain))
-    ∙ subst (λ (text : List ℕ). next_record default_config st.InField fields [] text ≡ Some (fields ++ (byte ∷ rest) ∷ [], st.StartRecord, [])) (append-nil (byte ∷ rest)) (plain-run fields [] (byte ∷ rest) [] plain)
+    ∙ subst (λ (text : List ℕ). next_record default_config st.InField fields [] text ≡ Some (fields ++ (byte ∷ rest) ∷ [], st.StartRecord, []))
+    (append-nil (byte ∷ rest)) (plain-run fields [] (byte ∷ rest) [] plain)
 
 -- and one before another byte
 runs_to : (fields : List (List ℕ)) (x : List ℕ) (byte : ℕ) (rest : List ℕ) → list_any (needs_byte default_writer) x ≡ false → (byte == 34) ≡ false
     → next_record default_config st.StartField fields [] (x ++ byte ∷ rest) ≡ next_record default_config st.InField fields x (byte ∷ rest)
 runs_to fields x byte rest plain other =
-    subst (λ (text : List ℕ). next_record default_config st.StartField fields [] (text ++ byte ∷ rest) ≡ next_record default_config st.InField fields x (byte ∷ rest)) (plain_text x plain) (field-run fields x byte rest other)
+    subst (λ (text : List ℕ). next_record default_config st.StartField fields [] (text ++ byte ∷ rest)
+    ≡ next_record default_config st.InField fields x (byte ∷ rest)) (plain_text x plain) (field-run fields x byte rest other)
 
 comma_after : (fields : List (List ℕ)) (x rest : List ℕ) → list_any (needs_byte default_writer) x ≡ false
     → next_record default_config st.StartField fields [] (x ++ 44 ∷ rest) ≡ next_record default_config st.StartField (fields ++ x ∷ []) [] rest
@@ -70,23 +84,36 @@ comma_after fields x rest plain = runs_to fields x 44 rest plain refl
 record_ends : (fields : List (List ℕ)) (x bytes rest : List ℕ) → list_any (needs_byte default_writer) x ≡ false → EndsRecord bytes rest
     → (after : State) × (next_record default_config st.StartField fields [] (x ++ bytes) ≡ Some (fields ++ x ∷ [], after, rest))
 unfolding next_record
-record_ends fields x bytes rest plain (inl (none, end)) =
-    (st.StartRecord, ap (λ bytes. next_record default_config st.StartField fields [] (x ++ bytes)) none ∙ ap (next_record default_config st.StartField fields []) (append-nil x) ∙ ends_text fields x plain ∙ ap (λ rest. Some (fields ++ x ∷ [], st.StartRecord, rest)) (sym end))
-record_ends fields x bytes rest plain (inr (byte, inl back, text)) =
-    (st.AfterCr, ap (λ bytes. next_record default_config st.StartField fields [] (x ++ bytes)) (text ∙ ap (λ byte. byte ∷ rest) back) ∙ runs_to fields x 13 rest plain refl)
-record_ends fields x bytes rest plain (inr (byte, inr feed, text)) =
-    (st.StartRecord, ap (λ bytes. next_record default_config st.StartField fields [] (x ++ bytes)) (text ∙ ap (λ byte. byte ∷ rest) feed) ∙ runs_to fields x 10 rest plain refl)
+record_ends fields x bytes rest plain (inl (none, end)) = (
+  st.StartRecord,
+  ap (λ bytes. next_record default_config st.StartField fields [] (x ++ bytes)) none
+      ∙ ap (next_record default_config st.StartField fields []) (append-nil x) ∙ ends_text fields x plain
+      ∙ ap (λ rest. Some (fields ++ x ∷ [], st.StartRecord, rest)) (sym end),
+)
+record_ends fields x bytes rest plain (inr (byte, inl back, text)) = (
+  st.AfterCr,
+  ap (λ bytes. next_record default_config st.StartField fields [] (x ++ bytes)) (text ∙ ap (λ byte. byte ∷ rest) back)
+      ∙ runs_to fields x 13 rest plain refl,
+)
+record_ends fields x bytes rest plain (inr (byte, inr feed, text)) = (
+  st.StartRecord,
+  ap (λ bytes. next_record default_config st.StartField fields [] (x ++ bytes)) (text ∙ ap (λ byte. byte ∷ rest) feed)
+      ∙ runs_to fields x 10 rest plain refl,
+)
 
 -- a field without marks, and a comma: the record goes on after it
-pub field_more : (bytes : List ℕ) (start end next : ℕ) (fields : List (List ℕ)) (reads : Option Read) → IsPlain bytes start end → reads ≡ next_record default_config st.StartField fields [] (drop start bytes)
-    → EndsField false (drop end bytes) (drop next bytes) → reads ≡ next_record default_config st.StartField (fields ++ slice_range bytes start end ∷ []) [] (drop next bytes)
+pub field_more : (bytes : List ℕ) (start end next : ℕ) (fields : List (List ℕ)) (reads : Option Read) → IsPlain bytes start end → reads
+    ≡ next_record default_config st.StartField fields [] (drop start bytes)
+    → EndsField false (drop end bytes) (drop next bytes) → reads
+    ≡ next_record default_config st.StartField (fields ++ slice_range bytes start end ∷ []) [] (drop next bytes)
 field_more bytes start end next fields reads plain so ends =
     so
     ∙ ap (next_record default_config st.StartField fields []) (drop_split bytes start end plain.order ∙ ap (λ rest. slice_range bytes start end ++ rest) ends)
     ∙ comma_after fields (slice_range bytes start end) (drop next bytes) plain.plain
 
 -- and the last one: the record has ended
-pub field_last : (bytes : List ℕ) (start end next : ℕ) (fields : List (List ℕ)) (reads : Option Read) → IsPlain bytes start end → reads ≡ next_record default_config st.StartField fields [] (drop start bytes)
+pub field_last : (bytes : List ℕ) (start end next : ℕ) (fields : List (List ℕ)) (reads : Option Read) → IsPlain bytes start end → reads
+    ≡ next_record default_config st.StartField fields [] (drop start bytes)
     → EndsField true (drop end bytes) (drop next bytes) → (after : State) × (reads ≡ Some (fields ++ slice_range bytes start end ∷ [], after, drop next bytes))
 field_last bytes start end next fields reads plain so ends =
     let (after, ended) = record_ends fields (slice_range bytes start end) (drop end bytes) (drop next bytes) plain.plain ends in

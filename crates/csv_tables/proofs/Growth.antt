@@ -12,7 +12,8 @@ pub grows_none : (table : NamedRows) → IsTable table → GrowsBy table [] tabl
 grows_none table shape = record { names = refl; lines = λ k d h. absurd (omega arith); rows = sym (append-nil table.rows); shape = shape }
 
 -- and by one record more to the table with one row more
-pub grows_more : (old table : NamedRows) (records : List (List (List ℕ))) (fields : List (List ℕ)) → GrowsBy old records table → IsRow (length old.names) fields → length table.rows ≢ MAX_ROWS
+pub grows_more : (old table : NamedRows) (records : List (List (List ℕ))) (fields : List (List ℕ)) → GrowsBy old records table → IsRow (length old.names) fields
+    → length table.rows ≢ MAX_ROWS
     → GrowsBy old (records ++ fields ∷ []) (with_row table (map number_of fields))
 grows_more old table records fields grows row room = record {
   names = grows.names;
@@ -23,7 +24,8 @@ grows_more old table records fields grows row room = record {
       ∙ ap (λ rows. old.rows ++ rows) (sym (map-append (map number_of) records (fields ∷ [])));
   shape = record {
     heading = grows.shape.heading;
-    widths = All-push (λ values. length values ≡ length table.names) table.rows (map number_of fields) grows.shape.widths (length-map fields number_of ∙ row.width ∙ sym (ap length grows.names));
+    widths = All-push (λ values. length values ≡ length table.names) table.rows (map number_of fields) grows.shape.widths
+        (length-map fields number_of ∙ row.width ∙ sym (ap length grows.names));
     few = omega (arith, grows.shape.few, length_push table.rows (map number_of fields));
   };
 }

@@ -23,7 +23,8 @@ field_within fields place field h =
     elim (cases_lt place (length fields)) [ inl within ↦ within | inr past ↦ absurd (let none = field-none fields place past in cc) ]
 
 -- whether a name is among others
-pub name_decides : (names : List (List ℕ)) (name : List ℕ) (found : Bool) → IsAnyAnswer (λ other answer. pointwise nat_eq other name ≡ answer) names found → Decides found (Contains names name)
+pub name_decides : (names : List (List ℕ)) (name : List ℕ) (found : Bool) → IsAnyAnswer (λ other answer. pointwise nat_eq other name ≡ answer) names found
+    → Decides found (Contains names name)
 name_decides names name found answer = Decides-contains names name found (contains_decides (pointwise nat_eq) bytes_eq-Decides names name found answer)
 
 -- a last name that differs from the others stood not before, and the others did not either
@@ -31,7 +32,12 @@ differ_push : (names : List (List ℕ)) (name : List ℕ) → AllDiffer names �
 differ_push names name differ new place within (earlier, before, same) =
     elim (cases_lt place (length names)) [
       | inl inside ↦
-          differ place inside (earlier, before, sym (get_or_append_left names (name ∷ []) [] earlier (omega arith)) ∙ same ∙ get_or_append_left names (name ∷ []) [] place inside)
+          differ place inside (
+            earlier,
+            before,
+            sym (get_or_append_left names (name ∷ []) [] earlier (omega arith)) ∙ same
+                ∙ get_or_append_left names (name ∷ []) [] place inside,
+          )
       | inr last ↦
           let here : earlier < length names = omega (arith, within, length_push names name) in
           let at : get_or (names ++ name ∷ []) place [] ≡ name = get_or_push names name [] place (omega (arith, within, length_push names name)) in
@@ -50,18 +56,22 @@ pub header_from_names : (fields : List (List ℕ)) → AreNames fields → 0 < l
 header_from_names fields are some few = record { legal = are.legal; heading = record { some = some; few = few; differ = are.differ } }
 
 -- the refusals of a field after names
-pub bad_name : (header : List (List ℕ)) (index place : ℕ) (field : List ℕ) → length header ≤ MAX_COLUMNS → index < length header → get_or header index [] ≡ field → AreNames (take index header)
+pub bad_name : (header : List (List ℕ)) (index place : ℕ) (field : List ℕ) → length header ≤ MAX_COLUMNS → index < length header → get_or header index []
+    ≡ field → AreNames (take index header)
     → place ≡ index + 1 → ¬ (IsName field) → RefusesHeader header (BadName place)
 bad_name header index place field few within here are counted illegal =
     (few, field, subst (λ place. Reaches AreNames header place field) (sym counted) (reaches_at AreNames header index field [] within here are), illegal)
 
-pub twice_named : (header : List (List ℕ)) (index place : ℕ) (field : List ℕ) → length header ≤ MAX_COLUMNS → index < length header → get_or header index [] ≡ field → AreNames (take index header)
+pub twice_named : (header : List (List ℕ)) (index place : ℕ) (field : List ℕ) → length header ≤ MAX_COLUMNS → index < length header → get_or header index []
+    ≡ field → AreNames (take index header)
     → place ≡ index + 1 → IsName field → Contains (take index header) field → RefusesHeader header (TwiceNamed place)
 twice_named header index place field few within here are counted legal twice =
     subst (λ place. RefusesHeader header (TwiceNamed place)) (sym counted) (few, field, reaches_at AreNames header index field [] within here are, legal, twice)
 
-pub name_refused : (header : List (List ℕ)) (index place : ℕ) (field : List ℕ) → length header ≤ MAX_COLUMNS → index < length header → get_or header index [] ≡ field → AreNames (take index header)
-    → place ≡ index + 1 → (refusal : TableRefusal) → OrMemory (λ refusal. (refusal ≡ BadName place) × ¬ (IsName field)) refusal → OrMemory (RefusesHeader header) refusal
+pub name_refused : (header : List (List ℕ)) (index place : ℕ) (field : List ℕ) → length header ≤ MAX_COLUMNS → index < length header → get_or header index []
+    ≡ field → AreNames (take index header)
+    → place ≡ index + 1 → (refusal : TableRefusal) → OrMemory (λ refusal. (refusal ≡ BadName place) × ¬ (IsName field)) refusal
+    → OrMemory (RefusesHeader header) refusal
 name_refused header index place field few within here are counted refusal (inl memory) = inl memory
 name_refused header index place field few within here are counted refusal (inr (same, illegal)) =
     inr (subst (RefusesHeader header) (sym same) (bad_name header index place field few within here are counted illegal))

@@ -4,7 +4,8 @@ use Rattle.std.proofs.lemmas.List.{drop_more, length-take-le, take-append-drop}
 use Rattle.csv_tables.specs.Refusals.{Reaches}
 
 -- where the items before one are good, it is reached at its place, counted from 1
-abbrev pub reaches_at : {A : Type 0} (AreGood : List A → Type 0) (items : List A) (index : ℕ) (item other : A) → index < length items → get_or items index other ≡ item → AreGood (take index items)
+abbrev pub reaches_at : {A : Type 0} (AreGood : List A → Type 0) (items : List A) (index : ℕ) (item other : A) → index < length items → get_or items index other
+    ≡ item → AreGood (take index items)
     → Reaches AreGood items (index + 1) item
 reaches_at AreGood items index item other within here good = record {
   before = take index items;

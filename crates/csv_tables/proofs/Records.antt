@@ -25,7 +25,8 @@ between_end c false h = refl
 
 between_in_field : (c : ℕ) → Between (in_field default_config c)
 between_in_field c =
-    between_if (c == 44) (st.StartField, act.EndField) _ (λ h. cc) (between_if (ends_with term.CRLF c) _ (st.InField, act.Copy) (between_end c (c == carriage_return)) (λ h. cc))
+    between_if (c == 44) (st.StartField, act.EndField) _ (λ h. cc)
+    (between_if (ends_with term.CRLF c) _ (st.InField, act.Copy) (between_end c (c == carriage_return)) (λ h. cc))
 
 between_start_field : (c : ℕ) → Between (start_field default_config c)
 between_start_field c = between_if (c == 34) (st.InQuoted, act.Skip) (in_field default_config c) (λ h. cc) (between_in_field c)
@@ -44,7 +45,8 @@ between_step st.InComment c = between_if (c == line_feed) (st.StartRecord, act.S
 between_step st.AfterCr c = between_if (c == line_feed) (st.StartRecord, act.Skip) (start_record default_config c) (λ h. cc) (between_start_record c)
 
 -- what a test that gives a record says
-read_if : (test : Bool) (r p : Read) (more : Option Read) → (if test then Some r else more) ≡ Some p → ((test ≡ true) × (p ≡ r)) ⊎ ((test ≡ false) × (more ≡ Some p))
+read_if : (test : Bool) (r p : Read) (more : Option Read) → (if test then Some r else more) ≡ Some p → ((test ≡ true) × (p ≡ r))
+    ⊎ ((test ≡ false) × (more ≡ Some p))
 read_if true r p more h = inl (refl, (cc))
 read_if false r p more h = inr (refl, h)
 
@@ -66,11 +68,13 @@ record-some s fields field [] p h =
 record-some s fields field (c ∷ rest) p h =
     elim (read_if (is_end (step default_config s c).1) _ p _ h) [
       | inl w ↦ rw w.1 (ended_some (step default_config s c).1 fields field w.0)
-      | inr w ↦ record-some (step default_config s c).0 (fields_after (step default_config s c).1 fields field) (field_after (step default_config s c).1 c field) rest p w.1
+      | inr w ↦ record-some (step default_config s c).0 (fields_after (step default_config s c).1 fields field)
+          (field_after (step default_config s c).1 c field) rest p w.1
     ]
 
 -- a record leaves no more bytes than there were, and the machine between two records
-rest_between : (s : State) (fields : List (List ℕ)) (field xs : List ℕ) (p : Read) → next_record default_config s fields field xs ≡ Some p → (length p.2 ≤ length xs) × (ends_at_end p.1 ≡ false)
+rest_between : (s : State) (fields : List (List ℕ)) (field xs : List ℕ) (p : Read) → next_record default_config s fields field xs ≡ Some p
+    → (length p.2 ≤ length xs) × (ends_at_end p.1 ≡ false)
 unfolding next_record
 rest_between s fields field [] p h =
     elim (read_if (ends_at_end s) _ p None h) [
@@ -81,7 +85,8 @@ rest_between s fields field (c ∷ rest) p h =
     elim (read_if (is_end (step default_config s c).1) _ p _ h) [
       | inl w ↦ rw w.1 (omega arith, between_step s c w.0)
       | inr w ↦
-          let more = rest_between (step default_config s c).0 (fields_after (step default_config s c).1 fields field) (field_after (step default_config s c).1 c field) rest p w.1 in
+          let more = rest_between (step default_config s c).0 (fields_after (step default_config s c).1 fields field)
+          (field_after (step default_config s c).1 c field) rest p w.1 in
           (omega (arith, more.0), more.1)
     ]
 
@@ -96,7 +101,11 @@ rest_shorter s [] p between h =
 rest_shorter s (c ∷ rest) p between h =
     elim (read_if (is_end (step default_config s c).1) _ p _ h) [
       | inl w ↦ rw w.1 (omega arith)
-      | inr w ↦ omega (arith, (rest_between (step default_config s c).0 (fields_after (step default_config s c).1 [] []) (field_after (step default_config s c).1 c []) rest p w.1).0)
+      | inr w ↦ omega (
+        arith,
+        (rest_between (step default_config s c).0 (fields_after (step default_config s c).1 [] [])
+            (field_after (step default_config s c).1 c []) rest p w.1).0,
+      )
     ]
 
 -- the records after a first one, at two counts
@@ -106,7 +115,8 @@ next_same n m None h = refl
 next_same n m (Some p) h = ap (λ records. p.0 ∷ records) (h p refl)
 
 -- a count past the bytes gives all records
-count_same : (n m : ℕ) (s : State) (xs : List ℕ) → ends_at_end s ≡ false → length xs < n → length xs < m → records_from default_config n s xs ≡ records_from default_config m s xs
+count_same : (n m : ℕ) (s : State) (xs : List ℕ) → ends_at_end s ≡ false → length xs < n → length xs < m → records_from default_config n s xs
+    ≡ records_from default_config m s xs
 unfolding records_from
 count_same zero m s xs between hn hm = absurd (omega arith)
 count_same (suc n) zero s xs between hn hm = absurd (omega arith)
@@ -121,7 +131,8 @@ pub records-more : (s : State) (xs : List ℕ) (p : Read) → ends_at_end s ≡ 
 unfolding records_from
 records-more s xs p between h =
     let shorter = rest_shorter s xs p between h in
-    rw (add-one (length xs)) (rw h (ap (λ records. p.0 ∷ records) (count_same (length xs) (length p.2 + 1) p.1 p.2 (rest_between s [] [] xs p h).1 (omega arith) (omega arith))))
+    rw (add-one (length xs)) (rw h (ap (λ records. p.0 ∷ records)
+    (count_same (length xs) (length p.2 + 1) p.1 p.2 (rest_between s [] [] xs p h).1 (omega arith) (omega arith))))
 
 -- the records of some bytes, where none is read
 pub records-none : (s : State) (xs : List ℕ) → next_record default_config s [] [] xs ≡ None → records_from default_config (length xs + 1) s xs ≡ []
@@ -139,7 +150,8 @@ start_same st.StartRecord xs h = refl
 start_same st.AfterCr [] h = refl
 start_same st.AfterCr (c ∷ rest) h =
     elim (cases_Bool (c == 10)) [
-      | inl feed ↦ subst (λ (c : ℕ). next_record default_config st.AfterCr [] [] (c ∷ rest) ≡ next_record default_config st.StartRecord [] [] (c ∷ rest)) (sym (eqb-true c 10 feed)) refl
+      | inl feed ↦ subst (λ (c : ℕ). next_record default_config st.AfterCr [] [] (c ∷ rest) ≡ next_record default_config st.StartRecord [] [] (c ∷ rest))
+          (sym (eqb-true c 10 feed)) refl
       | inr other ↦ rw other refl
     ]
 start_same st.StartField xs h = cc
@@ -155,14 +167,16 @@ records_same zero s xs h = refl
 records_same (suc n) s xs h = ap (records_next (records_from default_config n)) (start_same s xs h)
 
 -- a text whose machine gives a record has it, and then those after it
-pub record_at : (bytes : List ℕ) (at next : ℕ) (fields : List (List ℕ)) (after : State) → next ≤ length bytes → next_record default_config st.StartRecord [] [] (drop at bytes) ≡ Some (fields, after, drop next bytes)
+pub record_at : (bytes : List ℕ) (at next : ℕ) (fields : List (List ℕ)) (after : State) → next ≤ length bytes
+    → next_record default_config st.StartRecord [] [] (drop at bytes) ≡ Some (fields, after, drop next bytes)
     → IsRecordAt bytes at next fields
 record_at bytes at next fields after within h = record {
   within = within;
   some = record-some st.StartRecord [] [] (drop at bytes) (fields, after, drop next bytes) h;
   records =
       records-more st.StartRecord (drop at bytes) (fields, after, drop next bytes) refl h
-      ∙ ap (λ rest. fields ∷ rest) (records_same (length (drop next bytes) + 1) after (drop next bytes) (between-more st.StartRecord (drop at bytes) (fields, after, drop next bytes) h));
+      ∙ ap (λ rest. fields ∷ rest) (records_same (length (drop next bytes) + 1) after (drop next bytes)
+      (between-more st.StartRecord (drop at bytes) (fields, after, drop next bytes) h));
 }
 
 -- and one whose machine gives none has none

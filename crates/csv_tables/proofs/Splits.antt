@@ -8,12 +8,14 @@ abbrev Compared : {A : Type 0} → List A → List A → A → A → Type 0
 Compared {A} before other item next =
     ((before ≡ other) × (item ≡ next)) ⊎ ((rest : List A) × (other ≡ before ++ item ∷ rest)) ⊎ ((rest : List A) × (before ≡ other ++ next ∷ rest))
 
-compared_more : {A : Type 0} (first last : A) (before other : List A) (item next : A) → first ≡ last → Compared before other item next → Compared (first ∷ before) (last ∷ other) item next
+compared_more : {A : Type 0} (first last : A) (before other : List A) (item next : A) → first ≡ last → Compared before other item next
+    → Compared (first ∷ before) (last ∷ other) item next
 compared_more first last before other item next same (inl (parts, items)) = inl (cc, items)
 compared_more first last before other item next same (inr (inl (rest, parts))) = inr (inl (rest, (cc)))
 compared_more first last before other item next same (inr (inr (rest, parts))) = inr (inr (rest, (cc)))
 
-pub compared : {A : Type 0} (before other after behind : List A) (item next : A) → before ++ item ∷ after ≡ other ++ next ∷ behind → Compared before other item next
+pub compared : {A : Type 0} (before other after behind : List A) (item next : A) → before ++ item ∷ after ≡ other ++ next ∷ behind
+    → Compared before other item next
 compared [] [] after behind item next same = inl (refl, (cc))
 compared [] (last ∷ other) after behind item next same = inr (inl (other, (cc)))
 compared (first ∷ before) [] after behind item next same = inr (inr (before, (cc)))
@@ -26,7 +28,8 @@ good_at P before after item all =
     subst P (get_or_at before item after item (length before) refl) (all (length before) item (omega (arith, length-append before (item ∷ after))))
 
 -- an item after which nothing is good is reached once
-pub one_reach : {A : Type 0} (AreGood : List A → Type 0) (items : List A) (place spot : ℕ) (item next : A) (one : Reaches AreGood items place item) (two : Reaches AreGood items spot next)
+pub one_reach : {A : Type 0} (AreGood : List A → Type 0) (items : List A) (place spot : ℕ) (item next : A) (one : Reaches AreGood items place item)
+    (two : Reaches AreGood items spot next)
     → ((rest : List A) → ¬ (AreGood (one.before ++ item ∷ rest))) → ((rest : List A) → ¬ (AreGood (two.before ++ next ∷ rest))) → (place ≡ spot) × (item ≡ next)
 one_reach {A} AreGood items place spot item next one two bad worse =
     elim (compared one.before two.before one.after two.after item next (sym one.parts ∙ two.parts)) [

@@ -44,13 +44,15 @@ same_fields [] some = absurd (omega arith)
 same_fields (field ∷ rest) some = refl
 
 -- the records of many texts of records, one after the other
-pub records-text : (rows : List (List (List ℕ))) → All (λ fields. 0 < length fields) rows → records default_config (flat_map (row_text default_writer) rows) ≡ rows
+pub records-text : (rows : List (List (List ℕ))) → All (λ fields. 0 < length fields) rows → records default_config (flat_map (row_text default_writer) rows)
+    ≡ rows
 unfolding next_record
 records-text [] some = records-none st.StartRecord [] refl
 records-text (fields ∷ rows) some =
     let tail = flat_map (row_text default_writer) rows in
     let more = records-more st.StartRecord (row_text default_writer fields ++ tail) (read_back fields, st.StartRecord, tail) refl (read-write fields tail) in
-    more ∙ ap (λ first. first ∷ records default_config tail) (same_fields fields (All-head (λ fields. 0 < length fields) fields rows some)) ∙ ap (λ rest. fields ∷ rest) (records-text rows (All-tail (λ fields. 0 < length fields) fields rows some))
+    more ∙ ap (λ first. first ∷ records default_config tail) (same_fields fields (All-head (λ fields. 0 < length fields) fields rows some))
+    ∙ ap (λ rest. fields ∷ rest) (records-text rows (All-tail (λ fields. 0 < length fields) fields rows some))
 
 -- bytes that begin with a mark within the first part, as an ASCII byte comes after it
 mark_in : (x : List ℕ) (c : ℕ) (rest : List ℕ) → c < 0x80 → BeginsWithMark (x ++ c ∷ rest) → BeginsWithMark x
@@ -67,7 +69,8 @@ blank_first : (blank : Bool) (tail : List ℕ) → AsciiFirst (((if blank then 3
 blank_first true tail = (34, 34 ∷ 10 ∷ tail, omega arith, refl)
 blank_first false tail = (10, tail, omega arith, refl)
 
-after_first : (fields : List (List ℕ)) (blank : Bool) (tail : List ℕ) → AsciiFirst (fields_text default_writer fields ++ (((if blank then 34 ∷ 34 ∷ [] else []) ++ 10 ∷ []) ++ tail))
+after_first : (fields : List (List ℕ)) (blank : Bool) (tail : List ℕ)
+    → AsciiFirst (fields_text default_writer fields ++ (((if blank then 34 ∷ 34 ∷ [] else []) ++ 10 ∷ []) ++ tail))
 unfolding fields_text
 after_first [] blank tail = blank_first blank tail
 after_first (y ∷ ys) blank tail = (44, _, omega arith, refl)
@@ -165,14 +168,17 @@ row_texts count row width fits = record {
 }
 
 -- the text of a table stands for it, if its first name begins with no mark
-pub text_loads : (names : List (List ℕ)) (rows : List (List ℤ)) → IsTable (record { names = names; rows = rows }) → All IsName names → All (All (FitsSigned w64)) rows → ¬ (BeginsWithMark (name_at names 0))
+pub text_loads : (names : List (List ℕ)) (rows : List (List ℤ)) → IsTable (record { names = names; rows = rows }) → All IsName names
+    → All (All (FitsSigned w64)) rows → ¬ (BeginsWithMark (name_at names 0))
     → LoadsTable (table_text (record { names = names; rows = rows })) (record { names = names; rows = rows })
 text_loads [] rows shape legal fits none = absurd (omega (arith, shape.heading.some))
 text_loads (name ∷ fields) rows shape legal fits none =
     let names = name ∷ fields in
     let lines = map (map signed_decimal) rows in
     let table : NamedRows = record { names = names; rows = rows } in
-    let are : All (IsRow (length names)) lines = All-map (IsRow (length names)) (map signed_decimal) rows (λ k d h. row_texts (length names) (get_or rows k d) (shape.widths k d h) (fits k d h)) in
-    let some : All (λ line. 0 < length line) lines = All-weaker (IsRow (length names)) (λ line. 0 < length line) (λ line row. omega (arith, row.width)) lines are in
+    let are : All (IsRow (length names)) lines = All-map (IsRow (length names)) (map signed_decimal) rows
+    (λ k d h. row_texts (length names) (get_or rows k d) (shape.widths k d h) (fits k d h)) in
+    let some : All (λ line. 0 < length line) lines = All-weaker (IsRow (length names)) (λ line. 0 < length line)
+    (λ line row. omega (arith, row.width)) lines are in
     let grows : GrowsBy (no_rows names) lines table = record { names = refl; lines = are; rows = sym (rows_back rows fits); shape = shape } in
     subst (λ records. RecordsStandFor records table) (sym (records_kept name fields lines some none)) (record { legal = legal; heading = shape.heading }, grows)

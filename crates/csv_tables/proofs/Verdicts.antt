@@ -23,8 +23,12 @@ breaks_bad before rest field illegal are = illegal (good_at IsName before rest f
 
 breaks_twice : (before rest : List (List ℕ)) (field : List ℕ) → Contains before field → ¬ (AreNames (before ++ field ∷ rest))
 breaks_twice before rest field (earlier, within, same) are =
-    are.differ (length before) (omega (arith, length-append before (field ∷ rest)))
-    (earlier, within, get_or_append_left before (field ∷ rest) [] earlier within ∙ get_or_default before earlier [] field within ∙ same ∙ sym (get_or_at before field rest [] (length before) refl))
+    are.differ (length before) (omega (arith, length-append before (field ∷ rest))) (
+      earlier,
+      within,
+      get_or_append_left before (field ∷ rest) [] earlier within ∙ get_or_default before earlier [] field within ∙ same
+          ∙ sym (get_or_at before field rest [] (length before) refl),
+    )
 
 -- the cases of a header's refusal
 abbrev TooLong : List (List ℕ) → TableRefusal → Type 0
@@ -48,7 +52,8 @@ header_cases header (OutOfRange row place) h = absurd h
 header_cases header TooManyRows h = absurd h
 header_cases header OutOfMemory h = absurd h
 
-field_breaks : (header : List (List ℕ)) (refusal : TableRefusal) (at : AtField header refusal) (rest : List (List ℕ)) → ¬ (AreNames (at.reached.before ++ at.field ∷ rest))
+field_breaks : (header : List (List ℕ)) (refusal : TableRefusal) (at : AtField header refusal) (rest : List (List ℕ))
+    → ¬ (AreNames (at.reached.before ++ at.field ∷ rest))
 field_breaks header refusal at rest =
     elim at.why [ inl bad ↦ breaks_bad at.reached.before rest at.field bad.1 | inr twice ↦ breaks_twice at.reached.before rest at.field twice.2 ]
 
@@ -88,7 +93,8 @@ record AtPlace (count number : ℕ) (fields : List (List ℕ)) (refusal : TableR
   place : ℕ
   field : List ℕ
   reached : Reaches (All IsValue) fields place field
-  why : ((refusal ≡ NotANumber number place) × ¬ (IsNumber field)) ⊎ ((refusal ≡ OutOfRange number place) × IsNumber field × ¬ (FitsSigned w64 (number_of field)))
+  why : ((refusal ≡ NotANumber number place) × ¬ (IsNumber field))
+      ⊎ ((refusal ≡ OutOfRange number place) × IsNumber field × ¬ (FitsSigned w64 (number_of field)))
 
 abbrev TooMany : ℕ → TableRefusal → Type 0
 TooMany number refusal = (refusal ≡ TooManyRows) × (MAX_ROWS < number)
@@ -113,12 +119,14 @@ record_cases count number fields OutOfMemory h = absurd h
 no_value : (count number : ℕ) (fields : List (List ℕ)) (refusal : TableRefusal) (at : AtPlace count number fields refusal) → ¬ (IsValue at.field)
 no_value count number fields refusal at value = elim at.why [ inl bad ↦ bad.1 value.0 | inr large ↦ large.2 value.1 ]
 
-place_breaks : (count number : ℕ) (fields : List (List ℕ)) (refusal : TableRefusal) (at : AtPlace count number fields refusal) (rest : List (List ℕ)) → ¬ (All IsValue (at.reached.before ++ at.field ∷ rest))
+place_breaks : (count number : ℕ) (fields : List (List ℕ)) (refusal : TableRefusal) (at : AtPlace count number fields refusal) (rest : List (List ℕ))
+    → ¬ (All IsValue (at.reached.before ++ at.field ∷ rest))
 place_breaks count number fields refusal at rest all = no_value count number fields refusal at (good_at IsValue at.reached.before rest at.field all)
 
 one_place : (count number : ℕ) (fields : List (List ℕ)) (a b : TableRefusal) → AtPlace count number fields a → AtPlace count number fields b → a ≡ b
 one_place count number fields a b x y =
-    let (place, field) = one_reach (All IsValue) fields x.place y.place x.field y.field x.reached y.reached (place_breaks count number fields a x) (place_breaks count number fields b y) in
+    let (place, field) = one_reach (All IsValue) fields x.place y.place x.field y.field x.reached y.reached (place_breaks count number fields a x)
+    (place_breaks count number fields b y) in
     elim x.why [
       | inl bad ↦ elim y.why [
         | inl worse ↦ bad.0 ∙ ap (NotANumber number) place ∙ sym worse.0
@@ -130,7 +138,8 @@ one_place count number fields a b x y =
       ]
     ]
 
-one_record : (count number : ℕ) (fields : List (List ℕ)) (a b : TableRefusal) → RefusesRecord count number fields a → RefusesRecord count number fields b → a ≡ b
+one_record : (count number : ℕ) (fields : List (List ℕ)) (a b : TableRefusal) → RefusesRecord count number fields a → RefusesRecord count number fields b → a
+    ≡ b
 one_record count number fields a b x y =
     elim (record_cases count number fields a x) [
       | inl many ↦ elim (record_cases count number fields b y) [
@@ -151,16 +160,22 @@ one_record count number fields a b x y =
     ]
 
 -- a record that is refused is a row too many, or no row
-no_row : (count number : ℕ) (fields : List (List ℕ)) (refusal : TableRefusal) → RefusesRecord count number fields refusal → TooMany number refusal ⊎ ((number ≤ MAX_ROWS) × ¬ (IsRow count fields))
+no_row : (count number : ℕ) (fields : List (List ℕ)) (refusal : TableRefusal) → RefusesRecord count number fields refusal → TooMany number refusal
+    ⊎ ((number ≤ MAX_ROWS) × ¬ (IsRow count fields))
 no_row count number fields refusal x =
     elim (record_cases count number fields refusal x) [
       | inl many ↦ inl many
       | inr (inl other) ↦ inr (other.1, λ row. other.2 row.width)
-      | inr (inr at) ↦ inr (at.wide.within, λ row. place_breaks count number fields refusal at at.reached.after (subst (All IsValue) at.reached.parts row.values))
+      | inr (inr at) ↦ inr (
+        at.wide.within,
+        λ row. place_breaks count number fields refusal at at.reached.after
+            (subst (All IsValue) at.reached.parts row.values),
+      )
     ]
 
 -- a row too many comes after all rows, so no other record is refused
-row_too_many : (count : ℕ) (lines : List (List (List ℕ))) (number other : ℕ) (fields next : List (List ℕ)) → Reaches (All (IsRow count)) lines number fields → MAX_ROWS < number
+row_too_many : (count : ℕ) (lines : List (List (List ℕ))) (number other : ℕ) (fields next : List (List ℕ)) → Reaches (All (IsRow count)) lines number fields
+    → MAX_ROWS < number
     → Reaches (All (IsRow count)) lines other next → other ≤ MAX_ROWS → ¬ (IsRow count next) → ⊥
 row_too_many count lines number other fields next one many two within bad =
     elim (compared one.before two.before one.after two.after fields next (sym one.parts ∙ two.parts)) [
@@ -179,8 +194,10 @@ one_of_lines count lines a b (number, fields, one, x) (other, next, two, y) =
       | inr bad ↦ elim (no_row count other next b y) [
         | inl more ↦ absurd (row_too_many count lines other number next fields two more.1 one bad.0 bad.1)
         | inr worse ↦
-            let same = one_reach (All (IsRow count)) lines number other fields next one two (λ rest all. bad.1 (good_at (IsRow count) one.before rest fields all)) (λ rest all. worse.1 (good_at (IsRow count) two.before rest next all)) in
-            one_record count number fields a b x (subst (λ n. RefusesRecord count n fields b) (sym same.0) (subst (λ fields. RefusesRecord count other fields b) (sym same.1) y))
+            let same = one_reach (All (IsRow count)) lines number other fields next one two
+            (λ rest all. bad.1 (good_at (IsRow count) one.before rest fields all)) (λ rest all. worse.1 (good_at (IsRow count) two.before rest next all)) in
+            one_record count number fields a b x (subst (λ n. RefusesRecord count n fields b) (sym same.0)
+            (subst (λ fields. RefusesRecord count other fields b) (sym same.1) y))
       ]
     ]
 
@@ -189,10 +206,20 @@ rows_many : (old table : NamedRows) (lines : List (List (List ℕ))) → GrowsBy
 rows_many old table lines grows = omega (arith, ap length grows.rows, length-append old.rows (map (map number_of) lines), length-map lines (map number_of))
 
 -- lines that are refused are no rows of a table
-refused_lines : (old table : NamedRows) (lines : List (List (List ℕ))) (refusal : TableRefusal) → RefusesLines (length old.names) lines refusal → GrowsBy old lines table → ⊥
+refused_lines : (old table : NamedRows) (lines : List (List (List ℕ))) (refusal : TableRefusal) → RefusesLines (length old.names) lines refusal
+    → GrowsBy old lines table → ⊥
 refused_lines old table lines refusal (number, fields, one, x) grows =
     elim (no_row (length old.names) number fields refusal x) [
-      | inl many ↦ omega (arith, many.1, one.counted, ap length one.parts, length-append one.before (fields ∷ one.after), grows.shape.few, rows_many old table lines grows)
+      | inl many ↦ omega (
+        arith,
+        many.1,
+        one.counted,
+        ap length one.parts,
+        length-append one.before
+            (fields ∷ one.after),
+        grows.shape.few,
+        rows_many old table lines grows,
+      )
       | inr bad ↦ bad.1 (good_at (IsRow (length old.names)) one.before one.after fields (subst (All (IsRow (length old.names))) one.parts grows.lines))
     ]
 
@@ -205,7 +232,8 @@ one_refusal (header ∷ lines) a b (inr x) (inl y) = absurd (refused_header head
 one_refusal (header ∷ lines) a b (inr x) (inr y) = one_of_lines (length header) lines a b x.1 y.1
 
 -- and none where it stands for a table
-pub not_both : (records : List (List (List ℕ))) (table : NamedRows) (refusal : TableRefusal) → RecordsStandFor records table → RefusesRecords records refusal → ⊥
+pub not_both : (records : List (List (List ℕ))) (table : NamedRows) (refusal : TableRefusal) → RecordsStandFor records table → RefusesRecords records refusal
+    → ⊥
 not_both [] table refusal stands x = stands
 not_both (header ∷ lines) table refusal stands (inl x) = refused_header header refusal x stands.0
 not_both (header ∷ lines) table refusal stands (inr x) = refused_lines _ table lines refusal x.1 stands.1

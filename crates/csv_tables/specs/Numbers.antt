@@ -15,7 +15,9 @@ IsNumber field = IsNumeral 10 (digits_of field)
 
 -- the number that a field writes
 abbrev pub number_of : List ℕ → ℤ
-number_of field = if starts_with_minus field then neg_ℤ (pos (digits_value 10 (digits_of field))) else pos (digits_value 10 (digits_of field))
+number_of field =
+    if starts_with_minus field then neg_ℤ (pos (digits_value 10 (digits_of field)))
+    else pos (digits_value 10 (digits_of field))
 
 -- a field is a number that an `i64` holds
 abbrev pub IsValue : List ℕ → Type 0

@@ -1,9 +1,10 @@
 -- Reading a text record by record, by the machine of `csv`.
 use Rattle.std.specs.Prelude.{ℕ, ◌≡◌, ◌<◌, ◌≤◌, ◌⊎◌, Bool, true, false, List, [], ◌∷◌, length, drop, slice_range, Option, Some, None}
 use Rattle.std.specs.List.{list_any}
-use Rattle.csv.specs.Machine.{next_record, step as machine_step}
+use Rattle.csv.specs.Machine.{Read, next_record, step as machine_step}
 use Rattle.csv.specs.Reading.{default_config, records}
 use Rattle.csv.specs.Writing.{default_writer, needs_byte}
+use Rattle.csv.specs.declared.parser.Action.{Action}
 use Rattle.csv.specs.declared.parser.Action.TheVariants as act
 use Rattle.csv.specs.declared.parser.State.{State as MachineState}
 use Rattle.csv.specs.declared.parser.State.TheVariants as st
@@ -30,12 +31,16 @@ state_of state.InField = st.InField
 state_of state.InQuoted = st.InQuoted
 state_of state.AfterQuote = st.AfterQuote
 
--- what the machine does at a byte
+-- what the machine does at a byte: its next state and its action
+abbrev pub does : MachineState → ℕ → MachineState × Action
+does from byte = machine_step default_config from byte
+
+-- a step is what the machine does at a byte
 abbrev pub IsStep : MachineState → ℕ → Step → Type 0
-IsStep from byte (step.Skip next) = machine_step default_config from byte ≡ (state_of next, act.Skip)
-IsStep from byte (step.Copy next) = machine_step default_config from byte ≡ (state_of next, act.Copy)
-IsStep from byte step.EndField = machine_step default_config from byte ≡ (st.StartField, act.EndField)
-IsStep from byte step.EndRecord = (after : MachineState) × (machine_step default_config from byte ≡ (after, act.EndRecord))
+IsStep from byte (step.Skip next) = does from byte ≡ (state_of next, act.Skip)
+IsStep from byte (step.Copy next) = does from byte ≡ (state_of next, act.Copy)
+IsStep from byte step.EndField = does from byte ≡ (st.StartField, act.EndField)
+IsStep from byte step.EndRecord = (after : MachineState) × (does from byte ≡ (after, act.EndRecord))
 
 -- the record under way: its whole fields, and the bytes of the field at hand
 pub record Underway : Type 0 where
@@ -43,13 +48,15 @@ pub record Underway : Type 0 where
   pub field : List ℕ
 
 -- what the machine gives from a state on, with a record under way
-abbrev pub reads_from : MachineState → Underway → List ℕ → Option (List (List ℕ) × MachineState × List ℕ)
-reads_from from underway bytes = next_record default_config from underway.fields underway.field bytes
+abbrev pub reads_from : MachineState → Underway → List ℕ → Option Read
+reads_from from underway bytes =
+    next_record default_config from underway.fields underway.field bytes
 
 -- a byte makes the record under way another, read on from a state, or it ends the record
 abbrev pub TakesByte : MachineState → ℕ → Underway → Option State → Underway → Type 0
 TakesByte from byte old None new =
-    (rest : List ℕ) → (after : MachineState) × (reads_from from old (byte ∷ rest) ≡ Some (new.fields, after, rest))
+    (rest : List ℕ)
+    → (after : MachineState) × (reads_from from old (byte ∷ rest) ≡ Some (new.fields, after, rest))
 TakesByte from byte old (Some next) new =
     (rest : List ℕ) → reads_from from old (byte ∷ rest) ≡ reads_from (state_of next) new rest
 
@@ -61,7 +68,9 @@ pub record IsPlain (bytes : List ℕ) (start end : ℕ) : Type 0 where
 
 -- what ends a record at its last field: the end of the text, or a byte that ends a line
 abbrev pub EndsRecord : List ℕ → List ℕ → Type 0
-EndsRecord bytes rest = ((bytes ≡ []) × (rest ≡ [])) ⊎ ((byte : ℕ) × ((byte ≡ 13) ⊎ (byte ≡ 10)) × (bytes ≡ byte ∷ rest))
+EndsRecord bytes rest =
+    ((bytes ≡ []) × (rest ≡ []))
+    ⊎ ((byte : ℕ) × ((byte ≡ 13) ⊎ (byte ≡ 10)) × (bytes ≡ byte ∷ rest))
 
 -- what stands after a field: a comma, or after the last one what ends the record
 abbrev pub EndsField : Bool → List ℕ → List ℕ → Type 0

@@ -1,4 +1,4 @@
--- The first refusal of a text. Records and fields are counted from 1, and the header is not counted.
+-- The first refusal of a text. Records and fields are counted from 1, without the header.
 use Rattle.std.specs.Prelude.{ℕ, ◌≡◌, ◌≢◌, ◌<◌, ◌≤◌, ◌+◌, ◌⊎◌, List, [], ◌∷◌, ◌++◌, length, All, Contains, FitsSigned}
 use Rattle.std.specs.Int.{w64}
 use Rattle.col_table.specs.Name.{IsName}
@@ -12,7 +12,8 @@ use Rattle.csv_tables.specs.declared.refusal.TableRefusal.{TableRefusal}
 use Rattle.csv_tables.specs.declared.refusal.TableRefusal.TheVariants.{NoHeader, TooManyColumns, BadName, TwiceNamed, Ragged, NotANumber, OutOfRange, TooManyRows, OutOfMemory}
 
 -- a list begins with good items, and then has this one at this place, counted from 1
-pub record Reaches {A : Type 0} (AreGood : List A → Type 0) (items : List A) (place : ℕ) (item : A) : Type 0 where
+pub record Reaches {A : Type 0} (AreGood : List A → Type 0) (items : List A) (place : ℕ) (item : A)
+    : Type 0 where
   pub before : List A
   pub after : List A
   pub parts : items ≡ before ++ item ∷ after
@@ -24,17 +25,16 @@ pub record AreNames (fields : List (List ℕ)) : Type 0 where
   pub legal : All IsName fields
   pub differ : AllDiffer fields
 
--- an earlier field of a header is the same
-abbrev pub IsTwice : {header : List (List ℕ)} {place : ℕ} {field : List ℕ} → Reaches AreNames header place field → Type 0
-IsTwice {field = field} reached = Contains reached.before field
-
 -- the first refusal of a header: it is too long, or one of its fields is no name or an earlier name
 abbrev pub RefusesHeader : List (List ℕ) → TableRefusal → Type 0
 RefusesHeader header TooManyColumns = MAX_COLUMNS < length header
 RefusesHeader header (BadName place) =
-    (length header ≤ MAX_COLUMNS) × (field : List ℕ) × Reaches AreNames header place field × ¬ (IsName field)
+    (length header ≤ MAX_COLUMNS)
+    × (field : List ℕ) × Reaches AreNames header place field × ¬ (IsName field)
 RefusesHeader header (TwiceNamed place) =
-    (length header ≤ MAX_COLUMNS) × (field : List ℕ) × (reached : Reaches AreNames header place field) × IsName field × IsTwice reached
+    (length header ≤ MAX_COLUMNS)
+    × (field : List ℕ) × (reached : Reaches AreNames header place field)
+    × IsName field × Contains reached.before field
 RefusesHeader header NoHeader = ⊥
 RefusesHeader header (Ragged row) = ⊥
 RefusesHeader header (NotANumber row place) = ⊥
@@ -47,15 +47,19 @@ pub record IsWide (count number : ℕ) (fields : List (List ℕ)) : Type 0 where
   pub within : number ≤ MAX_ROWS
   pub width : length fields ≡ count
 
--- the first refusal of the record with this number, under so many names: it is a row too many, it has another length, or one
--- of its fields is no number or one that an `i64` does not hold
+-- the first refusal of the record with this number, under so many names: it is a row too many, it
+-- has another length, or one of its fields is no number or one that an `i64` does not hold
 abbrev pub RefusesRecord : ℕ → ℕ → List (List ℕ) → TableRefusal → Type 0
 RefusesRecord count number fields TooManyRows = MAX_ROWS < number
-RefusesRecord count number fields (Ragged row) = (row ≡ number) × (number ≤ MAX_ROWS) × (length fields ≢ count)
+RefusesRecord count number fields (Ragged row) =
+    (row ≡ number) × (number ≤ MAX_ROWS) × (length fields ≢ count)
 RefusesRecord count number fields (NotANumber row place) =
-    (row ≡ number) × IsWide count number fields × (field : List ℕ) × Reaches (All IsValue) fields place field × ¬ (IsNumber field)
+    (row ≡ number) × IsWide count number fields
+    × (field : List ℕ) × Reaches (All IsValue) fields place field
+    × ¬ (IsNumber field)
 RefusesRecord count number fields (OutOfRange row place) =
-    (row ≡ number) × IsWide count number fields × (field : List ℕ) × Reaches (All IsValue) fields place field
+    (row ≡ number) × IsWide count number fields
+    × (field : List ℕ) × Reaches (All IsValue) fields place field
     × IsNumber field × ¬ (FitsSigned w64 (number_of field))
 RefusesRecord count number fields NoHeader = ⊥
 RefusesRecord count number fields TooManyColumns = ⊥
@@ -68,15 +72,18 @@ abbrev pub refusal_of : FieldFault → ℕ → ℕ → TableRefusal
 refusal_of fault.NotANumber number place = NotANumber number place
 refusal_of fault.OutOfRange number place = OutOfRange number place
 
--- the first refusal of the records after a header of so many names: that of the first one that is no row
+-- the first refusal of the records under so many names: that of the first one that is no row
 abbrev pub RefusesLines : ℕ → List (List (List ℕ)) → TableRefusal → Type 0
 RefusesLines count lines refusal =
-    (number : ℕ) × (fields : List (List ℕ)) × Reaches (All (IsRow count)) lines number fields × RefusesRecord count number fields refusal
+    (number : ℕ) × (fields : List (List ℕ)) × Reaches (All (IsRow count)) lines number fields
+    × RefusesRecord count number fields refusal
 
--- the first refusal of the records of a text: there is none, or that of the header, or that of a record under a good header
+-- the first refusal of the records of a text: there is no record, or that of the header, or that of
+-- a record under a good header
 abbrev pub RefusesRecords : List (List (List ℕ)) → TableRefusal → Type 0
 RefusesRecords [] refusal = refusal ≡ NoHeader
-RefusesRecords (header ∷ lines) refusal = RefusesHeader header refusal ⊎ (IsHeader header × RefusesLines (length header) lines refusal)
+RefusesRecords (header ∷ lines) refusal =
+    RefusesHeader header refusal ⊎ (IsHeader header × RefusesLines (length header) lines refusal)
 
 -- memory may run out at any text; every other refusal has its cause
 abbrev pub OrMemory : (TableRefusal → Type 0) → TableRefusal → Type 0

@@ -14,7 +14,8 @@ use std::alloc::Global;
 // The table with the names of a header and no row.
 pub(crate) fn table_under(alloc: Global, header: &ByteRecord) -> Result<Table, TableRefusal>
     requires { 0 < length (fields_of header.now) }
-    ensures made { IfOk result (λ table. IsHeader (fields_of header.now) × (table ≡ no_rows (fields_of header.now))) }
+    ensures made { IfOk result (λ table. IsHeader (fields_of header.now)
+        × (table ≡ no_rows (fields_of header.now))) }
     ensures refused { IfErr result (OrMemory (RefusesHeader (fields_of header.now))) }
 {
     if header.len() > MAX_COLUMNS {
@@ -27,7 +28,8 @@ pub(crate) fn table_under(alloc: Global, header: &ByteRecord) -> Result<Table, T
 // The names that the fields of a header are.
 fn parse_names(alloc: Global, header: &ByteRecord) -> Result<Vec<ColumnName>, TableRefusal>
     requires { length (fields_of header.now) ≤ MAX_COLUMNS }
-    ensures names { IfOk result (λ names. AreNames (fields_of header.now) × (names.items ≡ fields_of header.now)) }
+    ensures names { IfOk result (λ names. AreNames (fields_of header.now)
+        × (names.items ≡ fields_of header.now)) }
     ensures refused { IfErr result (OrMemory (RefusesHeader (fields_of header.now))) }
 {
     let mut names = Vec::with_capacity(alloc, header.len())?;
@@ -45,7 +47,8 @@ fn parse_names(alloc: Global, header: &ByteRecord) -> Result<Vec<ColumnName>, Ta
 // The name that the field of a header at this place is.
 fn parse_name(alloc: Global, field: &[u8], place: u32) -> Result<ColumnName, TableRefusal>
     ensures name { IfOk result (λ name. IsName field.now × (name ≡ field.now)) }
-    ensures refused { IfErr result (OrMemory (λ refusal. (refusal ≡ TableRefusal.BadName place) × ¬ (IsName field.now))) }
+    ensures refused { IfErr result (OrMemory
+        (λ refusal. (refusal ≡ TableRefusal.BadName place) × ¬ (IsName field.now))) }
 {
     let text = str::from_utf8(field).map_err(|_| TableRefusal::BadName(place))?;
     let text = String::from_str(alloc, text)?;

@@ -36,7 +36,9 @@ const SHORT: usize = 19;
 //
 // A number past 64 bits stands at the greatest `u64`, which no `i64` holds with either sign.
 fn parse_digits(digits: &[u8]) -> Option<u64>
-    ensures { MatchOption result (¬ (IsNumeral 10 digits.now)) (λ size. IsNumeral 10 digits.now × (size ≡ min (digits_value 10 digits.now) (2 ^ 64 - 1))) }
+    ensures { MatchOption result (¬ (IsNumeral 10 digits.now))
+        (λ size. IsNumeral 10 digits.now
+        × (size ≡ min (digits_value 10 digits.now) (2 ^ 64 - 1))) }
 {
     if digits.is_empty() {
         return None;
@@ -52,7 +54,9 @@ fn parse_digits(digits: &[u8]) -> Option<u64>
 fn parse_short(digits: &[u8]) -> Option<u64>
     requires some { 0 < length digits.now }
     requires short { length digits.now ≤ SHORT }
-    ensures { MatchOption result (¬ (IsNumeral 10 digits.now)) (λ size. IsNumeral 10 digits.now × (size ≡ min (digits_value 10 digits.now) (2 ^ 64 - 1))) }
+    ensures { MatchOption result (¬ (IsNumeral 10 digits.now))
+        (λ size. IsNumeral 10 digits.now
+        × (size ≡ min (digits_value 10 digits.now) (2 ^ 64 - 1))) }
 {
     let mut size: u64 = 0;
     for byte in digits {
@@ -68,7 +72,9 @@ fn parse_short(digits: &[u8]) -> Option<u64>
 #[inline(never)]
 fn parse_long(digits: &[u8]) -> Option<u64>
     requires { 0 < length digits.now }
-    ensures { MatchOption result (¬ (IsNumeral 10 digits.now)) (λ size. IsNumeral 10 digits.now × (size ≡ min (digits_value 10 digits.now) (2 ^ 64 - 1))) }
+    ensures { MatchOption result (¬ (IsNumeral 10 digits.now))
+        (λ size. IsNumeral 10 digits.now
+        × (size ≡ min (digits_value 10 digits.now) (2 ^ 64 - 1))) }
 {
     let mut size: u64 = 0;
     for byte in digits {

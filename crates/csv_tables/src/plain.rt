@@ -16,7 +16,8 @@ use crate::number::parse_value;
 pub(crate) fn read_plain_row(bytes: &[u8], at: usize, row: &mut [i64]) -> Option<usize>
     requires within { at ≤ length bytes.now }
     requires some { 0 < length row.old }
-    ensures { IfSome result (λ next. (fields : List (List ℕ)) × IsRecordAt bytes.now at next fields × IsRow (length row.old) fields × (row.new ≡ map number_of fields)) }
+    ensures { IfSome result (λ next. (fields : List (List ℕ)) × IsRecordAt bytes.now at next fields
+        × IsRow (length row.old) fields × (row.new ≡ map number_of fields)) }
 {
     let mut start = first_byte(bytes, at)?;
     let columns = row.len();
@@ -35,7 +36,8 @@ pub(crate) fn read_plain_row(bytes: &[u8], at: usize, row: &mut [i64]) -> Option
 fn first_byte(bytes: &[u8], at: usize) -> Option<usize>
     requires { at ≤ length bytes.now }
     ensures within { IfSome result (λ start. start ≤ length bytes.now) }
-    ensures begins { IfSome result (λ start. reads_from st.StartRecord (record { fields = []; field = [] }) (drop at bytes.now)
+    ensures begins { IfSome result (λ start. reads_from st.StartRecord
+        (record { fields = []; field = [] }) (drop at bytes.now)
         ≡ reads_from st.StartField (record { fields = []; field = [] }) (drop start bytes.now)) }
 {
     for place in at..bytes.len() {
@@ -78,7 +80,8 @@ fn is_mark(byte: u8) -> bool
 fn after_field(bytes: &[u8], end: usize, is_last: bool) -> Option<usize>
     requires { end ≤ length bytes.now }
     ensures within { IfSome result (λ next. next ≤ length bytes.now) }
-    ensures ends { IfSome result (λ next. EndsField is_last (drop end bytes.now) (drop next bytes.now)) }
+    ensures ends { IfSome result (λ next. EndsField is_last (drop end bytes.now)
+        (drop next bytes.now)) }
 {
     if end == bytes.len() {
         return if is_last { Some(end) } else { None };

@@ -30,7 +30,8 @@ use std::alloc::Global;
 /// `OutOfMemory` may come at any text. The text is read once, and no copy of it is kept.
 pub fn load(alloc: Global, bytes: &[u8]) -> Result<Table, TableRefusal>
     ensures loaded { IfOk result (LoadsTable bytes.now) }
-    ensures unique { IfOk result (λ table. (other : NamedRows) → LoadsTable bytes.now other → other ≡ table) }
+    ensures unique { IfOk result (λ table.
+        (other : NamedRows) → LoadsTable bytes.now other → other ≡ table) }
     ensures refused { IfErr result (RefusesTable bytes.now) }
 {
     let bytes = without_mark(bytes);

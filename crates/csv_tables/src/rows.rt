@@ -24,7 +24,8 @@ pub(crate) fn read_rows(
     requires within { at ≤ length bytes.now }
     requires empty { length table.old.rows ≡ 0 }
     ensures grown { OnOk result (GrowsBy table.old (records_at bytes.now at) table.new) }
-    ensures refused { IfErr result (OrMemory (RefusesLines (length table.old.names) (records_at bytes.now at))) }
+    ensures refused { IfErr result (OrMemory
+        (RefusesLines (length table.old.names) (records_at bytes.now at))) }
 {
     let mut values = [0; MAX_COLUMNS];
     let row = &mut values[..table.cols() as usize];
@@ -49,8 +50,10 @@ fn read_row(
     requires within { at ≤ length bytes.now }
     requires some { 0 < length row.old }
     requires few { length row.old ≤ MAX_COLUMNS }
-    ensures read { IfOk result (λ next. MatchOption next (records_at bytes.now at ≡ []) (λ next. (line : List (List ℕ))
-        × IsRecordAt bytes.now at next line × IsRow (length row.old) line × (row.new ≡ map number_of line) × (number ≤ MAX_ROWS))) }
+    ensures read { IfOk result (λ next. MatchOption next (records_at bytes.now at ≡ [])
+        (λ next. (line : List (List ℕ))
+        × IsRecordAt bytes.now at next line × IsRow (length row.old) line
+        × (row.new ≡ map number_of line) × (number ≤ MAX_ROWS))) }
     ensures refused { IfErr result (OrMemory (λ refusal. (next : ℕ) × (line : List (List ℕ))
         × IsRecordAt bytes.now at next line × RefusesRecord (length row.old) number line refusal)) }
 {
@@ -73,7 +76,8 @@ fn read_row(
 fn parse_row(fields: &ByteRecord, number: u32, row: &mut [i64]) -> Result<(), TableRefusal>
     requires width { length row.old ≤ MAX_COLUMNS }
     requires within { number ≤ MAX_ROWS }
-    ensures ok { OnOk result (IsRow (length row.old) (fields_of fields.now) × (row.new ≡ map number_of (fields_of fields.now))) }
+    ensures ok { OnOk result (IsRow (length row.old) (fields_of fields.now)
+        × (row.new ≡ map number_of (fields_of fields.now))) }
     ensures refused { IfErr result (RefusesRecord (length row.old) number (fields_of fields.now)) }
 {
     if fields.len() != row.len() {

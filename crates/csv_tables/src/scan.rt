@@ -88,7 +88,8 @@ pub(crate) fn read_record(
     field: &mut Vec<u8>,
 ) -> Result<Option<usize>, AllocError>
     requires { at ≤ length bytes.now }
-    ensures { IfOk result (λ next. MatchOption next (records_at bytes.now at ≡ []) (λ next. IsRecordAt bytes.now at next (fields_of fields.new))) }
+    ensures { IfOk result (λ next. MatchOption next (records_at bytes.now at ≡ [])
+        (λ next. IsRecordAt bytes.now at next (fields_of fields.new))) }
 {
     fields.clear();
     field.clear();
@@ -139,7 +140,8 @@ fn take_byte(
 // Adds the field at hand to a record.
 fn end_field(fields: &mut ByteRecord, field: &mut Vec<u8>) -> Result<(), AllocError>
     requires { partial_of fields.old ≡ [] }
-    ensures fields { OnOk result (fields_of fields.new ≡ fields_of fields.old ++ field.old.items ∷ []) }
+    ensures fields { OnOk result (fields_of fields.new
+        ≡ fields_of fields.old ++ field.old.items ∷ []) }
     ensures partial { OnOk result (partial_of fields.new ≡ []) }
     ensures field { OnOk result (field.new.items ≡ []) }
 {

@@ -21,7 +21,8 @@ use std::alloc::{AllocError, Global};
 /// mark.
 pub fn write_table(alloc: Global, table: &Table) -> Result<Vec<u8>, AllocError>
     ensures text { IfOk result (λ bytes. bytes.items ≡ table_text table.now) }
-    ensures loads { IfOk result (λ bytes. ¬ (BeginsWithMark (name_at table.now.names 0)) → LoadsTable bytes.items table.now) }
+    ensures loads { IfOk result (λ bytes. ¬ (BeginsWithMark (name_at table.now.names 0))
+        → LoadsTable bytes.items table.now) }
 {
     let mut writer = WriterBuilder::new().from_writer(Vec::new(alloc));
     let mut fields = ByteRecord::new(alloc);
@@ -64,7 +65,8 @@ fn fill_row(table: &Table, row: u32, fields: &mut ByteRecord) -> Result<(), Allo
 fn write_record(writer: &mut Writer<Vec<u8>>, fields: &ByteRecord) -> Result<(), AllocError>
     requires { IsWriting writer.old }
     ensures writing { OnOk result (IsWriting writer.new) }
-    ensures bytes { OnOk result (bytes_written writer.new ≡ bytes_written writer.old ++ row_text default_writer (fields_of fields.now)) }
+    ensures bytes { OnOk result (bytes_written writer.new
+        ≡ bytes_written writer.old ++ row_text default_writer (fields_of fields.now)) }
 {
     match writer.write_byte_record(fields) {
         Ok(()) => Ok(()),

@@ -15,30 +15,38 @@ returns-in_err-name-clause-refused c =
     let p = err_from_is_err_and c.from_residual-in_err-name.result c.from_residual-in_err-name.ensures.1 in
     let fields = fields_of c.args.header.now in
     let at = c.loop-field.field-iterator.at in
-    let there : field_at fields at ≡ Some c.in-Some.field.now = ap (λ row. field_at (fields_of row) at) (sym c.loop-field.invariant.row) ∙ sym c.in-Some.ensures.steps.1 in
+    let there : field_at fields at ≡ Some c.in-Some.field.now = ap (λ row. field_at (fields_of row) at) (sym c.loop-field.invariant.row)
+    ∙ sym c.in-Some.ensures.steps.1 in
     let within = field_within fields at c.in-Some.field.now there in
     let here = field-get fields at c.in-Some.field.now there in
-    let counted : c.len-in-loop-field.result + 1 ≡ at + 1 = omega (arith, c.loop-field.names.ok.0, ap length c.loop-field.invariant.names, length-take-le at fields (omega arith)) in
-    rw (p.1, p.2) (name_refused fields at (c.len-in-loop-field.result + 1) c.in-Some.field.now c.requires within here c.loop-field.invariant.good counted _ c.in_err-name.ensures.refused)
+    let counted : c.len-in-loop-field.result + 1 ≡ at + 1 = omega
+    (arith, c.loop-field.names.ok.0, ap length c.loop-field.invariant.names, length-take-le at fields (omega arith)) in
+    rw (p.1, p.2)
+    (name_refused fields at
+    (c.len-in-loop-field.result + 1) c.in-Some.field.now c.requires within here c.loop-field.invariant.good counted _ c.in_err-name.ensures.refused)
 
 pub returns-then-contains-clause-refused : goal.returns-then-contains-clause-refused
 returns-then-contains-clause-refused c =
     let fields = fields_of c.args.header.now in
     let at = c.loop-field.field-iterator.at in
-    let there : field_at fields at ≡ Some c.in-Some.field.now = ap (λ row. field_at (fields_of row) at) (sym c.loop-field.invariant.row) ∙ sym c.in-Some.ensures.steps.1 in
+    let there : field_at fields at ≡ Some c.in-Some.field.now = ap (λ row. field_at (fields_of row) at) (sym c.loop-field.invariant.row)
+    ∙ sym c.in-Some.ensures.steps.1 in
     let within = field_within fields at c.in-Some.field.now there in
     let name = c.in_ok-name.ensures.name in
     let here = field-get fields at c.in-Some.field.now there ∙ sym name.1 in
-    let counted : c.len-in-loop-field.result + 1 ≡ at + 1 = omega (arith, c.loop-field.names.ok.0, ap length c.loop-field.invariant.names, length-take-le at fields (omega arith)) in
+    let counted : c.len-in-loop-field.result + 1 ≡ at + 1 = omega
+    (arith, c.loop-field.names.ok.0, ap length c.loop-field.invariant.names, length-take-le at fields (omega arith)) in
     let twice = (name_decides c.deref.result.now c.in_ok-name.name c.contains.result c.contains.ensures.cases).0 c.if-contains.true in
     let among = subst (λ names. Contains names c.in_ok-name.name) (c.deref.ensures.value ∙ c.loop-field.invariant.names) twice in
-    inr (twice_named fields at (c.len-in-loop-field.result + 1) c.in_ok-name.name c.requires within here c.loop-field.invariant.good counted (subst IsName (sym name.1) name.0) among)
+    inr (twice_named fields at (c.len-in-loop-field.result + 1) c.in_ok-name.name c.requires within here c.loop-field.invariant.good counted
+    (subst IsName (sym name.1) name.0) among)
 
 pub loop-field-preserved : goal.loop-field-preserved
 loop-field-preserved c =
     let fields = fields_of c.args.header.now in
     let at = c.loop-field.field-iterator.at in
-    let there : field_at fields at ≡ Some c.in-Some.field.now = ap (λ row. field_at (fields_of row) at) (sym c.loop-field.invariant.row) ∙ sym c.in-Some.ensures.steps.1 in
+    let there : field_at fields at ≡ Some c.in-Some.field.now = ap (λ row. field_at (fields_of row) at) (sym c.loop-field.invariant.row)
+    ∙ sym c.in-Some.ensures.steps.1 in
     let within = field_within fields at c.in-Some.field.now there in
     let name = c.in_ok-name.ensures.name in
     let here = field-get fields at c.in-Some.field.now there ∙ sym name.1 in
@@ -46,7 +54,8 @@ loop-field-preserved c =
     let more : take c.next.new.self.at fields ≡ take at fields ++ c.in_ok-name.name ∷ [] =
     ap (λ n. take n fields) next ∙ take_more fields at [] within ∙ ap (λ last. take at fields ++ last ∷ []) here in
     let new : ¬ (Contains (take at fields) c.in_ok-name.name) = λ among.
-    let found = (name_decides c.deref.result.now c.in_ok-name.name c.contains.result c.contains.ensures.cases).1 (subst (λ names. Contains names c.in_ok-name.name) (sym (c.deref.ensures.value ∙ c.loop-field.invariant.names)) among) in
+    let found = (name_decides c.deref.result.now c.in_ok-name.name c.contains.result c.contains.ensures.cases).1
+    (subst (λ names. Contains names c.in_ok-name.name) (sym (c.deref.ensures.value ∙ c.loop-field.invariant.names)) among) in
     absurd (false≢true (sym c.if-contains.false ∙ found)) in
     record {
       row = ap (λ row. row.now) c.next.ensures.steps.0 ∙ c.loop-field.invariant.row;
@@ -60,5 +69,9 @@ returns-clause-names c =
     let fields = fields_of c.args.header.now in
     let at = c.loop-field.field-iterator.at in
     let none = ap (λ row. field_at (fields_of row) at) (sym c.loop-field.invariant.row) ∙ sym c.in-None.ensures.steps.1 in
-    let all : take at fields ≡ fields = elim (cases_lt at (length fields)) [ inl within ↦ absurd (field-there fields at within none) | inr past ↦ take_all at fields past ] in
+    let all : take at fields ≡ fields = elim (cases_lt at (length fields)) [
+      | inl within ↦ absurd
+          (field-there fields at within none)
+      | inr past ↦ take_all at fields past
+    ] in
     (subst AreNames all c.loop-field.invariant.good, c.loop-field.invariant.names ∙ all)

@@ -7,7 +7,8 @@ use Rattle.csv_tables.proofs.number.parse_long.Goals as goal
 
 pub returns-then-not-is_ascii_digit : goal.returns-then-not-is_ascii_digit
 returns-then-not-is_ascii_digit c = λ numeral.
-    not_digit_range (get_or c.args.digits.now c.loop-byte.byte-index 0) (sym c.if-not-is_ascii_digit.ensures.value) (digit_at c.args.digits.now c.loop-byte.byte-index numeral.1 c.loop-byte-test.true)
+    not_digit_range (get_or c.args.digits.now c.loop-byte.byte-index 0) (sym c.if-not-is_ascii_digit.ensures.value)
+    (digit_at c.args.digits.now c.loop-byte.byte-index numeral.1 c.loop-byte-test.true)
 
 pub loop-byte-preserved : goal.loop-byte-preserved
 loop-byte-preserved c =

@@ -37,8 +37,10 @@ loop-place-preserved c =
           ∙ ap (λ front. front ++ to_z w64 (of_z w64 read) ∷ []) c.loop-place.invariant.row
           ∙ ap (λ last. map number_of fields ++ last ∷ []) (to_z-of_z w64 read fits ∙ value.1)
           ∙ sym (map-append number_of fields (x ∷ []));
-      going = λ more. field_more bytes start end next fields reads c.plain_end-end.ensures so (subst (λ last. EndsField last (drop end bytes) (drop next bytes)) (ne_eqb _ _ (λ same. absurd (omega (arith, width, same, more)))) ends);
-      ended = λ last. field_last bytes start end next fields reads c.plain_end-end.ensures so (subst (λ last. EndsField last (drop end bytes) (drop next bytes)) (eq-eqb _ _ (omega (arith, width, last))) ends);
+      going = λ more. field_more bytes start end next fields reads c.plain_end-end.ensures so
+          (subst (λ last. EndsField last (drop end bytes) (drop next bytes)) (ne_eqb _ _ (λ same. absurd (omega (arith, width, same, more)))) ends);
+      ended = λ last. field_last bytes start end next fields reads c.plain_end-end.ensures so
+          (subst (λ last. EndsField last (drop end bytes) (drop next bytes)) (eq-eqb _ _ (omega (arith, width, last))) ends);
     }
 
 pub returns : goal.returns

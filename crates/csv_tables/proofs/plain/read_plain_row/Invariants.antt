@@ -14,5 +14,6 @@ invariant-loop-place l = record {
   row : take l.place l.row ≡ map number_of fields;
   going : l.place < length l.row → reads_from st.StartRecord (record { fields = []; field = [] }) (drop l.fn.at l.bytes)
       ≡ reads_from st.StartField (record { fields = fields; field = [] }) (drop l.start l.bytes);
-  ended : length l.row ≤ l.place → (after : State) × (reads_from st.StartRecord (record { fields = []; field = [] }) (drop l.fn.at l.bytes) ≡ Some (fields, after, drop l.start l.bytes));
+  ended : length l.row ≤ l.place → (after : State) × (reads_from st.StartRecord (record { fields = []; field = [] }) (drop l.fn.at l.bytes)
+      ≡ Some (fields, after, drop l.start l.bytes));
 }

@@ -10,7 +10,8 @@ use Rattle.csv_tables.proofs.rows.parse_row.Goals as goal
 
 pub returns-in_err-field-clause-refused : goal.returns-in_err-field-clause-refused
 returns-in_err-field-clause-refused c =
-    absurd (field-there (fields_of c.args.fields.now) c.loop-place.place (omega (arith, c.loop-place.invariant.width)) (sym c.get.ensures.value ∙ ap (option_map (λ s. s.now)) c.in_err-field.ensures.ok_part))
+    absurd (field-there (fields_of c.args.fields.now) c.loop-place.place (omega (arith, c.loop-place.invariant.width))
+    (sym c.get.ensures.value ∙ ap (option_map (λ s. s.now)) c.in_err-field.ensures.ok_part))
 
 pub returns-in-Err-clause-refused : goal.returns-in-Err-clause-refused
 returns-in-Err-clause-refused c =
@@ -18,7 +19,8 @@ returns-in-Err-clause-refused c =
     let place = c.loop-place.place in
     let within : place < length fields = omega (arith, c.loop-place.invariant.width) in
     let here = field-get fields place c.in_ok-field.field.now (sym c.get.ensures.value ∙ ap (option_map (λ s. s.now)) c.in_ok-field.ensures.ok_part) in
-    rw c.refusal_at.ensures (field_refused (length c.args.row.now) c.args.number fields place c.in_ok-field.field.now c.in-Err.fault c.requires.within (omega arith) within here c.loop-place.invariant.values c.in-Err.ensures.fault)
+    rw c.refusal_at.ensures (field_refused (length c.args.row.now) c.args.number fields place c.in_ok-field.field.now c.in-Err.fault c.requires.within
+    (omega arith) within here c.loop-place.invariant.values c.in-Err.ensures.fault)
 
 pub loop-place-preserved : goal.loop-place-preserved
 loop-place-preserved c =
@@ -34,7 +36,8 @@ loop-place-preserved c =
     let more = take_more fields place [] within in
     record {
       width = length-set row place (to_z w64 (of_z w64 read)) ∙ c.loop-place.invariant.width;
-      values = subst (All IsValue) (sym more) (All-push IsValue (take place fields) (get_or fields place []) c.loop-place.invariant.values (subst IsValue (sym here) value.0));
+      values = subst (All IsValue) (sym more) (All-push IsValue (take place fields) (get_or fields place []) c.loop-place.invariant.values
+          (subst IsValue (sym here) value.0));
       row =
           take_more_set row place (to_z w64 (of_z w64 read)) (omega arith)
           ∙ ap (λ front. front ++ to_z w64 (of_z w64 read) ∷ []) c.loop-place.invariant.row

@@ -17,13 +17,15 @@ loop-next-preserved c =
     let width = c.loop-next.invariant.width in
     let (line, at, is, values, few) = rw c.in-Some.is at c.in_ok-next.ensures.read in
     let row = subst (λ count. IsRow count line) width is in
-    let pushes = IfOk-map_err c.push_row.result c.map_err.result _ (λ _. c.push_row.new.self ≡ with_row table c.read_row.new.row) c.map_err.ensures.cases c.push_row.ensures.ok in
+    let pushes = IfOk-map_err c.push_row.result c.map_err.result _
+    (λ _. c.push_row.new.self ≡ with_row table c.read_row.new.row) c.map_err.ensures.cases c.push_row.ensures.ok in
     let pushed = IfOk-at_ok (λ _. c.push_row.new.self ≡ with_row table c.read_row.new.row) c.in_ok-map_err.was pushes ∙ ap (with_row table) values in
     let room : length table.rows ≢ MAX_ROWS = λ full. absurd (omega (arith, few, c.rows.ensures.count)) in
     record {
       within = at.within;
       done = done ++ line ∷ [];
       left = c.loop-next.invariant.left ∙ ap (λ rest. done ++ rest) at.records ∙ sym (append_assoc done (line ∷ []) (records_at bytes c.in-Some.next));
-      grows = subst (GrowsBy c.args.table.now (done ++ line ∷ [])) (sym pushed) (grows_more c.args.table.now table done line c.loop-next.invariant.grows row room);
+      grows = subst (GrowsBy c.args.table.now (done ++ line ∷ [])) (sym pushed)
+          (grows_more c.args.table.now table done line c.loop-next.invariant.grows row room);
       width = omega (arith, width, c.read_row.auto.row);
     }

@@ -12,7 +12,8 @@ returns-in-None c =
     let bytes = c.args.bytes.now in
     let place = c.loop-place.place in
     let (after, ends) = (rw c.in-None.is at c.in_ok-next.ensures.taken) (drop (place + 1) bytes) in
-    let here = at_drop_more (λ rest. reads_from (state_of c.loop-place.state) (record { fields = fields_of c.loop-place.fields; field = c.loop-place.field.items }) rest) bytes place 0 c.loop-place-test.true in
+    let here = at_drop_more (λ rest. reads_from (state_of c.loop-place.state)
+    (record { fields = fields_of c.loop-place.fields; field = c.loop-place.field.items }) rest) bytes place 0 c.loop-place-test.true in
     record_at bytes c.args.at (place + 1) (fields_of c.take_byte.new.fields) after (omega arith) (c.loop-place.invariant.reads ∙ here ∙ ends)
 
 pub returns-in-StartRecord : goal.returns-in-StartRecord

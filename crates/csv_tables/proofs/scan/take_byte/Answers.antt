@@ -12,7 +12,8 @@ returns-in-Skip-clause-taken c = λ rest.
 pub returns-in_ok-push-in-Copy-clause-taken : goal.returns-in_ok-push-in-Copy-clause-taken
 returns-in_ok-push-in-Copy-clause-taken c = λ rest.
     copies (state_of c.args.state) (state_of c.in-Copy.next) (fields_of c.args.fields.now) c.args.field.now.items c.args.byte rest c.in-Copy.ensures
-    ∙ ap (λ field. reads_from (state_of c.in-Copy.next) (record { fields = fields_of c.args.fields.now; field = field }) rest) (sym c.in_ok-push-in-Copy.ensures.items)
+    ∙ ap (λ field. reads_from (state_of c.in-Copy.next) (record { fields = fields_of c.args.fields.now; field = field }) rest)
+    (sym c.in_ok-push-in-Copy.ensures.items)
 
 pub returns-in_ok-end_field-in-EndField-clause-taken : goal.returns-in_ok-end_field-in-EndField-clause-taken
 returns-in_ok-end_field-in-EndField-clause-taken c = λ rest.
@@ -23,5 +24,8 @@ returns-in_ok-end_field-in-EndField-clause-taken c = λ rest.
 
 pub returns-in_ok-end_field-in-EndRecord-clause-taken : goal.returns-in_ok-end_field-in-EndRecord-clause-taken
 returns-in_ok-end_field-in-EndRecord-clause-taken c = λ rest.
-    let (after, ends) = c.in-EndRecord.ensures in
-    (after, rw c.in_ok-end_field-in-EndRecord.ensures.fields (ends_record (state_of c.args.state) after (fields_of c.args.fields.now) c.args.field.now.items c.args.byte rest ends))
+    let (after, ends) = c.in-EndRecord.ensures in (
+      after,
+      rw c.in_ok-end_field-in-EndRecord.ensures.fields
+          (ends_record (state_of c.args.state) after (fields_of c.args.fields.now) c.args.field.now.items c.args.byte rest ends),
+    )

@@ -23,7 +23,8 @@ loop-col-preserved c =
           ∙ ap (λ fields. fields ++ name ∷ []) c.loop-col.invariant.done
           ∙ ap (λ last. take col names ++ last ∷ []) here
           ∙ sym more;
-      legal = subst (All IsName) (sym more) (All-push IsName (take col names) (get_or names col []) c.loop-col.invariant.legal (subst IsName (sym read ∙ here) c.as_str.ensures.legal));
+      legal = subst (All IsName) (sym more) (All-push IsName (take col names) (get_or names col []) c.loop-col.invariant.legal
+          (subst IsName (sym read ∙ here) c.as_str.ensures.legal));
     }
 
 pub returns : goal.returns

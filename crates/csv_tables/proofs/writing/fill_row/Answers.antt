@@ -15,7 +15,8 @@ loop-col-preserved c =
     let within : col < length values = omega (arith, width, c.cols-col-end.ensures.count) in
     let text = c.as_bytes.result.now in
     let fits : FitsSigned w64 c.value.result = search (rules, c.value.type_inv) in
-    let here : text ≡ signed_decimal (get_or values col (pos 0)) = c.as_bytes.ensures.value ∙ c.format-text.ensures.text ∙ ap signed_decimal (to_z-of_z w64 c.value.result fits ∙ c.value.ensures) in
+    let here : text ≡ signed_decimal (get_or values col (pos 0)) = c.as_bytes.ensures.value ∙ c.format-text.ensures.text
+    ∙ ap signed_decimal (to_z-of_z w64 c.value.result fits ∙ c.value.ensures) in
     let more = take_more values col (pos 0) within in
     record {
       partial = c.in_ok-push_field.ensures.partial;
@@ -26,7 +27,8 @@ loop-col-preserved c =
           ∙ ap (λ last. map signed_decimal (take col values) ++ last ∷ []) here
           ∙ sym (map-append signed_decimal (take col values) (get_or values col (pos 0) ∷ []))
           ∙ ap (map signed_decimal) (sym more);
-      fits = subst (All (FitsSigned w64)) (sym more) (All-push (FitsSigned w64) (take col values) (get_or values col (pos 0)) c.loop-col.invariant.fits (subst (FitsSigned w64) c.value.ensures fits));
+      fits = subst (All (FitsSigned w64)) (sym more) (All-push (FitsSigned w64) (take col values) (get_or values col (pos 0)) c.loop-col.invariant.fits
+          (subst (FitsSigned w64) c.value.ensures fits));
     }
 
 pub returns : goal.returns

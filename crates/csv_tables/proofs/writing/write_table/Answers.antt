@@ -31,7 +31,8 @@ loop-row-preserved c =
           ∙ ap (λ text. text ++ row_text default_writer (fields_of c.fill_row.new.fields)) c.loop-row.invariant.text
           ∙ ap (λ fields. (row_text default_writer names ++ flat_map (row_text default_writer) before) ++ row_text default_writer fields) filled.0
           ∙ flat_map_more (row_text default_writer) (row_text default_writer names) before (map signed_decimal values)
-          ∙ ap (λ lines. row_text default_writer names ++ flat_map (row_text default_writer) lines) (sym (map-append (map signed_decimal) (take row rows) (values ∷ [])) ∙ ap (map (map signed_decimal)) (sym more));
+          ∙ ap (λ lines. row_text default_writer names ++ flat_map (row_text default_writer) lines)
+          (sym (map-append (map signed_decimal) (take row rows) (values ∷ [])) ∙ ap (map (map signed_decimal)) (sym more));
       fits = subst (All (All (FitsSigned w64))) (sym more) (All-push (All (FitsSigned w64)) (take row rows) values c.loop-row.invariant.fits filled.1);
     }
 
@@ -42,7 +43,9 @@ returns-clause-loads c =
     let fits = subst (All (All (FitsSigned w64))) all c.loop-row.invariant.fits in
     let text : bytes_written c.loop-row.writer ≡ table_text table =
     c.loop-row.invariant.text ∙ ap (λ rows. flat_map (row_text default_writer) (table.names ∷ map (map signed_decimal) rows)) all in
-    let loads : ¬ (BeginsWithMark (name_at table.names 0)) → LoadsTable (table_text table) table = text_loads table.names table.rows c.rows-row-end.ensures.table c.in_ok-fill_names.ensures.1 fits in
-    IfOk-map_err c.into_inner.result c.map_err.result _ (λ bytes. ¬ (BeginsWithMark (name_at table.names 0)) → LoadsTable bytes.items table) c.map_err.ensures.cases
+    let loads : ¬ (BeginsWithMark (name_at table.names 0))
+    → LoadsTable (table_text table) table = text_loads table.names table.rows c.rows-row-end.ensures.table c.in_ok-fill_names.ensures.1 fits in
+    IfOk-map_err c.into_inner.result c.map_err.result _ (λ bytes. ¬ (BeginsWithMark (name_at table.names 0))
+    → LoadsTable bytes.items table) c.map_err.ensures.cases
     (IfOk-weaker c.into_inner.result _ (λ bytes. ¬ (BeginsWithMark (name_at table.names 0)) → LoadsTable bytes.items table)
     (λ bytes keeps none. subst (λ text. LoadsTable text table) (sym (keeps ∙ text)) (loads none)) c.into_inner.ensures.ok)

@@ -27,7 +27,8 @@ use std::alloc::Global;
 /// 4. For each other record in order, `TooManyRows`, then `Ragged`, and then for each of its fields in
 ///    order `NotANumber` or `OutOfRange`.
 ///
-/// `OutOfMemory` may come at any text. The text is read once, and no copy of it is kept.
+/// `OutOfMemory` may come at any text. No copy of the text is kept. A record is read whole before it is refused,
+/// so one of very many fields takes memory for the places of all of them.
 pub fn load(alloc: Global, bytes: &[u8]) -> Result<Table, TableRefusal>
     ensures loaded { IfOk result (LoadsTable bytes.now) }
     ensures unique { IfOk result (λ table.

@@ -1,4 +1,6 @@
 pub mod Answer
+pub mod Bounds
 pub mod Checks
 pub mod Names
+pub mod Stages
 pub mod Subject

@@ -12,9 +12,15 @@
 #![tactic(auto)]
 
 mod answers;
+mod bounds;
 mod checks;
 mod queries;
+mod task_sets;
 
 pub use answers::{AggValue, Answer, Group};
+pub use bounds::{
+    MAX_AFTER, MAX_COST, MAX_FILTERS, MAX_GROUP_COLUMNS, MAX_JOINS, MAX_OUTPUTS, MAX_WEIGHT,
+};
 pub use checks::{Checked, PlanRefusal, check};
 pub use queries::{Agg, Filter, Func, Join, NameRef, NamedTable, Op, Output, Query};
+pub use task_sets::stages;

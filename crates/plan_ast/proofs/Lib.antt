@@ -1,3 +1,6 @@
-pub mod OneSum
-pub mod Places
-pub mod Summed
+pub mod CloneLemmas
+pub mod FoundLemmas
+pub mod JoinsLemmas
+pub mod MissingLemmas
+pub mod PlacesLemmas
+pub mod QueryLemmas

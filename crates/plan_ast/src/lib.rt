@@ -14,13 +14,18 @@
 mod answers;
 mod bounds;
 mod checks;
+mod lookup;
+mod places;
 mod queries;
+mod refusals;
 mod task_sets;
 
 pub use answers::{AggValue, Answer, Group};
 pub use bounds::{
     MAX_AFTER, MAX_COST, MAX_FILTERS, MAX_GROUP_COLUMNS, MAX_JOINS, MAX_OUTPUTS, MAX_WEIGHT,
 };
-pub use checks::{Checked, PlanRefusal, check};
+pub use checks::{Checked, check};
+pub use places::{AggAt, ColumnAt, FilterAt, JoinAt, OutputAt, Places};
 pub use queries::{Agg, Filter, Func, Join, NameRef, NamedTable, Op, Output, Query};
+pub use refusals::PlanRefusal;
 pub use task_sets::stages;

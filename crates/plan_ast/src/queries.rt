@@ -1,5 +1,4 @@
 // Queries as a script has them, and the tables that they name.
-ghost use Rattle.plan_ast.specs.Checks.{IsOneSum, Sums};
 
 use col_table::{ListOf, Name, Table, Text};
 
@@ -89,22 +88,6 @@ pub struct Query {
 
     /// 1 to 8 columns or aggregates, and for groups 1 or 2 columns of the key.
     pub output: Output,
-}
-
-impl Query {
-    // The column that a query of one sum adds up.
-    pub(crate) fn summed_column(&self) -> &Name
-        requires { IsOneSum self.now }
-        ensures { Sums self.now result.now }
-    {
-        let Output::Totals(aggs) = &self.output else {
-            unreachable!();
-        };
-        let Some(column) = &aggs.as_slice()[0].column else {
-            unreachable!();
-        };
-        &column.name
-    }
 }
 
 /// A table, with the name that queries give it and the file that it was read from.

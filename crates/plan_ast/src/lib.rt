@@ -29,3 +29,6 @@ pub use places::{AggAt, ColumnAt, FilterAt, JoinAt, OutputAt, Places};
 pub use queries::{Agg, Filter, Func, Join, NameRef, NamedTable, Op, Output, Query};
 pub use refusals::PlanRefusal;
 pub use task_sets::stages;
+
+#[cfg(test)]
+mod tests;

@@ -1,0 +1,5 @@
+pub mod AnswerLemmas
+pub mod FoldingLemmas
+pub mod PlacedLemmas
+pub mod RowsLemmas
+pub mod SortedLemmas

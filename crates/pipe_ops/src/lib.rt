@@ -1,0 +1,14 @@
+//! The answers to queries, and the work of their stages.
+//!
+//! `plain_answer` answers a checked query in one go, by nested loops over the columns of its tables.
+//!
+//! It stands on `plan_ast`, which says what the answer to a query is. What the layers above may use: the answer is
+//! the definition's, whatever the query.
+
+#![tactic(auto)]
+
+mod aggregates;
+mod plain;
+mod rows;
+
+pub use plain::{is_built, plain_answer};

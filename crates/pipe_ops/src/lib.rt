@@ -12,3 +12,6 @@ mod plain;
 mod rows;
 
 pub use plain::{is_built, plain_answer};
+
+#[cfg(test)]
+mod tests;

@@ -185,9 +185,9 @@ mod tests {
     use super::*;
     use std::test::Fail;
 
-    fn group(alloc: Global, key: i64, sum: i128) -> Result<Group, AllocError> {
+    fn group(alloc: Global, key: [i64; 2], sum: i128) -> Result<Group, AllocError> {
         Ok(Group {
-            key: ListOf::of(vec![in alloc; key, -key]?),
+            key: ListOf::of(vec![in alloc; key[0], key[1]]?),
             values: ListOf::of(vec![in alloc; AggValue::Sum(sum)]?),
         })
     }
@@ -205,7 +205,7 @@ mod tests {
             AggValue::Greatest(Some(-3)),
         ]?;
         let totals = Answer::Totals(ListOf::of(values));
-        let groups = vec![in alloc; group(alloc, 1, 30)?, group(alloc, 2, 5)?]?;
+        let groups = vec![in alloc; group(alloc, [1, -1], 30)?, group(alloc, [2, -2], 5)?]?;
         let groups = Answer::Groups(ListOf::of(groups));
         let nothing = Answer::Groups(ListOf::of(Vec::new(alloc)));
         let mut replies = Vec::new(alloc);

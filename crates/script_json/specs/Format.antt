@@ -1,0 +1,241 @@
+-- The format of scripts, version 1: what each JSON value stands for at its place, with the first refusal where
+-- it stands for nothing.
+use Rattle.std.specs.Prelude.{ℕ, ◌+◌, ◌^◌, ℤ, pos, negsuc, List, [], ◌∷◌, length, codes, Bool, true, false, not, ◌&&◌, ◌==◌, nat_le, nat_lt, nat_eq, bytes_eq, is_some, Option, Some, None, option_map, find, option_and_then, if◌then◌else◌, Ok, Err, ⊤}
+use Rattle.std.specs.List.{list_any, list_all}
+use Rattle.std.specs.Option.{option_map_or}
+use Rattle.serde_json.specs.Data.{Data, Items, no_items, item}
+use Rattle.serde_json.specs.Find.{get, as_array, as_object, as_number, as_str, as_i64, as_u64}
+use Rattle.plan_ast.specs.Stages.{stages_of}
+use Rattle.plan_ast.specs.declared.queries.Op.{Op}
+use Rattle.plan_ast.specs.declared.queries.Op.TheVariants.{Eq, Ne, Lt, Le, Gt, Ge}
+use Rattle.plan_ast.specs.declared.queries.Func.{Func}
+use Rattle.plan_ast.specs.declared.queries.Func.TheVariants.{Count, Sum, Min, Max}
+use Rattle.plan_ast.specs.declared.queries.NameRef.{NameRef}
+use Rattle.plan_ast.specs.declared.queries.Filter.{Filter}
+use Rattle.plan_ast.specs.declared.queries.Join.{Join}
+use Rattle.plan_ast.specs.declared.queries.Agg.{Agg}
+use Rattle.plan_ast.specs.declared.queries.Output.{Output}
+use Rattle.plan_ast.specs.declared.queries.Output.TheVariants.{Rows, Totals, Groups}
+use Rattle.plan_ast.specs.declared.queries.Query.{Query}
+use Rattle.script_json.specs.Forms.{Reading, Form, ◌>>=◌, ◌>>◌, or_refuse, refuse_if, under, wrong_shape, wrong_number, twice_named, object_of, required, optional, array_of, whole, text_of, word_of}
+use Rattle.script_json.specs.declared.refusal.PathStep.TheVariants.{At}
+use Rattle.script_json.specs.declared.refusal.ScriptRefusal.TheVariants.{VersionUnknown, AfterTooLarge}
+use Rattle.script_json.specs.declared.script.TableEntry.{TableEntry}
+use Rattle.script_json.specs.declared.script.Script.{Script}
+
+-- ---- texts and words
+
+-- no byte of an ASCII control character
+abbrev pub is_plain : List ℕ → Bool
+is_plain bytes = list_all (λ byte. nat_le 0x20 byte && not (byte == 0x7f)) bytes
+
+-- the name of a table or a column: at most 64 bytes
+abbrev pub is_name : List ℕ → Bool
+is_name bytes = nat_le (length bytes) 64 && is_plain bytes
+
+-- the name of a file: 1 to 255 bytes
+abbrev pub is_file_name : List ℕ → Bool
+is_file_name bytes = nat_le 1 (length bytes) && nat_le (length bytes) 255 && is_plain bytes
+
+abbrev pub name : Form (List ℕ)
+name value = text_of is_name value
+
+abbrev pub file_name : Form (List ℕ)
+file_name value = text_of is_file_name value
+
+-- the meaning of a word, among words with their meanings
+abbrev pub named : {A : Type 0} → List (List ℕ × A) → List ℕ → Option A
+named words bytes = option_map (λ word. word.1) (find (λ word. bytes_eq word.0 bytes) words)
+
+abbrev pub operator_named : List ℕ → Option Op
+operator_named =
+    named ((codes "=", Eq) ∷ (codes "<>", Ne) ∷ (codes "<", Lt) ∷ (codes "<=", Le) ∷ (codes ">", Gt) ∷ (codes ">=", Ge) ∷ [])
+
+-- the functions of a column
+abbrev pub function_named : List ℕ → Option Func
+function_named = named ((codes "sum", Sum) ∷ (codes "min", Min) ∷ (codes "max", Max) ∷ [])
+
+abbrev pub operator : Form Op
+operator value = word_of operator_named value
+
+abbrev pub function : Form Func
+function value = word_of function_named value
+
+-- whether a number has 64 bits with a sign
+abbrev pub is_i64 : ℤ → Bool
+is_i64 (pos n) = nat_lt n (2 ^ 63)
+is_i64 (negsuc n) = nat_lt n (2 ^ 63)
+
+abbrev pub any_number : Form ℤ
+any_number value = do
+  written ← or_refuse wrong_shape (as_number value)
+  n ← or_refuse wrong_number (as_i64 written)
+  refuse_if (not (is_i64 n)) wrong_number
+  Ok n
+
+-- ---- the parts of a query
+
+abbrev pub filter : Form Filter
+filter value = do
+  object_of (codes "col" ∷ codes "op" ∷ codes "value" ∷ []) value
+  column ← required (codes "col") name value
+  op ← required (codes "op") operator value
+  bound ← required (codes "value") any_number value
+  Ok (record { column = column; op = op; value = bound })
+
+abbrev pub filters : Form (List Filter)
+filters value = array_of 0 16 (λ _. filter) value
+
+abbrev pub joined_column : Data → Data → Reading NameRef
+joined_column first second = do
+  side ← under (At 0) (whole 1 2 first)
+  column ← under (At 1) (name second)
+  Ok (record { side = side; name = column })
+
+-- `[1, "k"]` or `[2, "k"]` is a column of that join's table, and a text alone a column of the scanned one
+abbrev pub reference_among : Option Items → Form NameRef
+reference_among None value = do
+  column ← name value
+  Ok (record { side = 0; name = column })
+reference_among (Some (item first (item second no_items))) value = joined_column first second
+reference_among (Some _) value = Err wrong_shape
+
+abbrev pub reference : Form NameRef
+reference value = reference_among (as_array value) value
+
+abbrev pub join : Form Join
+join value = do
+  object_of (codes "table" ∷ codes "left" ∷ codes "right" ∷ codes "where" ∷ []) value
+  table ← required (codes "table") name value
+  left ← required (codes "left") reference value
+  right ← required (codes "right") name value
+  passed ← optional (codes "where") [] filters value
+  Ok (record { table = table; left = left; right = right; filters = passed })
+
+abbrev pub joins : Form (List Join)
+joins value = array_of 0 2 (λ _. join) value
+
+-- whether `fn` is `count`, which has no column
+abbrev pub counts : Data → Bool
+counts value = option_map_or (bytes_eq (codes "count")) (option_and_then as_str (get (codes "fn") value)) false
+
+abbrev pub count_of_rows : Form Agg
+count_of_rows value = do
+  object_of (codes "fn" ∷ []) value
+  Ok (record { func = Count; column = None })
+
+abbrev pub function_of_column : Form Agg
+function_of_column value = do
+  object_of (codes "fn" ∷ codes "col" ∷ []) value
+  func ← required (codes "fn") function value
+  column ← required (codes "col") reference value
+  Ok (record { func = func; column = Some column })
+
+abbrev pub aggregate : Form Agg
+aggregate value = if counts value then count_of_rows value else function_of_column value
+
+abbrev pub references : ℕ → Form (List NameRef)
+references most value = array_of 1 most (λ _. reference) value
+
+abbrev pub aggregates : Form (List Agg)
+aggregates value = array_of 1 8 (λ _. aggregate) value
+
+abbrev pub groups : Form Output
+groups value = do
+  object_of (codes "by" ∷ codes "aggs" ∷ []) value
+  by ← required (codes "by") (references 2) value
+  aggs ← required (codes "aggs") aggregates value
+  Ok (Groups by aggs)
+
+abbrev pub output_keys : List (List ℕ)
+output_keys = codes "rows" ∷ codes "totals" ∷ codes "groups" ∷ []
+
+abbrev pub rows_of : Form Output
+rows_of value = do
+  object_of output_keys value
+  columns ← required (codes "rows") (references 8) value
+  Ok (Rows columns)
+
+abbrev pub totals_of : Form Output
+totals_of value = do
+  object_of output_keys value
+  aggs ← required (codes "totals") aggregates value
+  Ok (Totals aggs)
+
+abbrev pub groups_of : Form Output
+groups_of value = do
+  object_of output_keys value
+  required (codes "groups") groups value
+
+-- by which of the three keys an output has: just one of them
+abbrev pub output_among : Bool → Bool → Bool → Form Output
+output_among true false false value = rows_of value
+output_among false true false value = totals_of value
+output_among false false true value = groups_of value
+output_among _ _ _ value = Err wrong_shape
+
+abbrev pub has : List ℕ → Data → Bool
+has key value = is_some (get key value)
+
+abbrev pub output : Form Output
+output value = output_among (has (codes "rows") value) (has (codes "totals") value) (has (codes "groups") value) value
+
+abbrev pub query_keys : List (List ℕ)
+query_keys =
+    codes "after" ∷ codes "weight" ∷ codes "cost" ∷ codes "scan" ∷ codes "where" ∷ codes "joins" ∷ codes "output" ∷ []
+
+abbrev pub query : Form Query
+query value = do
+  object_of query_keys value
+  after ← optional (codes "after") 0 (whole 0 16384) value
+  weight ← optional (codes "weight") 10 (whole 1 10) value
+  cost ← optional (codes "cost") 100 (whole 1 1000000) value
+  scan ← required (codes "scan") name value
+  passed ← optional (codes "where") [] filters value
+  joined ← optional (codes "joins") [] joins value
+  put_out ← required (codes "output") output value
+  Ok (record { after = after; weight = weight; cost = cost; scan = scan; filters = passed; joins = joined; output = put_out })
+
+-- ---- the tables
+
+-- a name that no earlier table has
+abbrev pub new_name : List TableEntry → Form (List ℕ)
+new_name earlier value = do
+  bytes ← name value
+  refuse_if (list_any (λ entry. bytes_eq entry.name bytes) earlier) twice_named
+  Ok bytes
+
+abbrev pub table_entry : List TableEntry → Form TableEntry
+table_entry earlier value = do
+  object_of (codes "name" ∷ codes "file" ∷ []) value
+  title ← required (codes "name") (new_name earlier) value
+  file ← required (codes "file") file_name value
+  Ok (record { name = title; file = file })
+
+-- ---- the script
+
+-- the number 1
+abbrev pub version : Form ⊤
+version value = do
+  written ← or_refuse wrong_shape (as_number value)
+  refuse_if (not (option_map_or (nat_eq 1) (as_u64 written) false)) VersionUnknown
+
+-- the first of the queries from place `n` on that waits for more task sets than all before it have
+abbrev pub first_early : ℕ → ℕ → List Query → Option ℕ
+first_early n before [] = None
+first_early n before (q ∷ queries) =
+    if nat_lt before q.after then Some n else first_early (n + 1) (before + stages_of q) queries
+
+abbrev pub refuse_early : Option ℕ → Reading ⊤
+refuse_early None = Ok tt
+refuse_early (Some n) = Err (AfterTooLarge n)
+
+abbrev pub script : Form Script
+script value = do
+  or_refuse wrong_shape (as_object value)
+  required (codes "version") version value
+  object_of (codes "version" ∷ codes "tables" ∷ codes "queries" ∷ []) value
+  tables ← required (codes "tables") (array_of 0 8 table_entry) value
+  queries ← required (codes "queries") (array_of 0 4096 (λ _. query)) value
+  refuse_early (first_early 0 0 queries)
+  Ok (record { tables = tables; queries = queries })

@@ -1,0 +1,24 @@
+//! Scripts: JSON texts to tables and queries, and back.
+//!
+//! A script says which tables there are and which queries run over them. This layer stands on the queries of
+//! `plan_ast` and on the JSON values of `serde_json`. `specs/Format.antt` is the format: a definition for each
+//! form, which says what a value stands for there, or which refusal is the first and where it stands.
+//!
+//! The one fact that the layers above may use: `read_script` gives a script exactly where the bytes stand for
+//! it (`ReadsScript`), and else the first refusal with its path (`RefusesScript`).
+#![tactic(auto)]
+
+mod form;
+mod queries;
+mod read;
+mod refusal;
+mod script;
+mod tables;
+mod words;
+
+pub use crate::read::read_script;
+pub use crate::refusal::{Path, PathStep, ScriptRefusal};
+pub use crate::script::{MAX_FILE_BYTES, MAX_QUERIES, MAX_TABLES, Script, TableEntry};
+
+#[cfg(test)]
+mod tests;

@@ -3,5 +3,9 @@ pub mod FormatMakes
 pub mod Makes
 pub mod NameLemmas
 pub mod ObjectLemmas
+pub mod Outlines
 pub mod PathLemmas
 pub mod ReadLemmas
+pub mod RoundTrip
+pub mod VerdictLemmas
+pub mod WriteLemmas

@@ -49,7 +49,7 @@ in_bounds-read value (Ok read) gives = let well = subst (λ r. Makes IsScript r)
 in_bounds-read value (Err refusal) gives = tt
 
 -- bytes have one value at most
-same_value : (bytes : List ℕ) (a b : Data) → IsJson bytes a → IsJson bytes b → a ≡ b
+pub same_value : (bytes : List ℕ) (a b : Data) → IsJson bytes a → IsJson bytes b → a ≡ b
 same_value bytes a b x y = let e = sym x.reads ∙ y.reads in cc
 
 -- bytes are one script at most

@@ -1,5 +1,7 @@
+pub mod Canonical
 pub mod Format
 pub mod Forms
 pub mod Paths
 pub mod Scripts
+pub mod Verdicts
 pub mod WellFormed

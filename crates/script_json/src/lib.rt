@@ -9,16 +9,19 @@
 #![tactic(auto)]
 
 mod form;
+pub mod laws;
 mod queries;
 mod read;
 mod refusal;
 mod script;
 mod tables;
 mod words;
+mod write;
 
 pub use crate::read::read_script;
 pub use crate::refusal::{Path, PathStep, ScriptRefusal};
 pub use crate::script::{MAX_FILE_BYTES, MAX_QUERIES, MAX_TABLES, Script, TableEntry};
+pub use crate::write::write_script;
 
 #[cfg(test)]
 mod tests;

@@ -1,0 +1,8 @@
+//! A law of the definitions alone. Its function does nothing: its contract is the law.
+ghost use Rattle.std.specs.Prelude.{ℕ, List};
+ghost use Rattle.script_json.specs.Verdicts.{HasOneVerdict};
+
+/// Bytes are one script at most, or have one first refusal at most, and never both.
+pub fn one_verdict()
+    ensures { (bytes : List ℕ) → HasOneVerdict bytes }
+{}

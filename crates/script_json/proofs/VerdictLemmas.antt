@@ -1,5 +1,5 @@
 -- Bytes are read as one thing.
-use Rattle.std.proofs.Common.{◌≡◌, ℕ, List, Ok, Err, refl, sym, ap, ◌∙◌, inl, inr}
+use Rattle.std.proofs.Common.{◌≡◌, ◌≢◌, ℕ, List, Ok, Err, refl, sym, ap, ◌∙◌, inl, inr}
 use Rattle.std.specs.Prelude.{◌⊎◌}
 use Rattle.serde_json.specs.Data.{Data}
 use Rattle.script_json.specs.Forms.{Reading}
@@ -28,31 +28,25 @@ Refused-from bytes (BadText path) h = inr (inr h)
 Refused-from bytes (TwiceNamed path) h = inr (inr h)
 Refused-from bytes (AfterTooLarge query) h = inr (inr h)
 
-same_error : {A : Type 0} {a b : ScriptRefusal} → ◌≡◌ {A = Reading A} (Err a) (Err b) → a ≡ b
-same_error e = cc
-
-one_refusal_of : (bytes : List ℕ) (a b : ScriptRefusal) → Refused bytes a → Refused bytes b → (a ≡ b) ⊎ (a ≡ OutOfMemory) ⊎ (b ≡ OutOfMemory)
+one_refusal : (bytes : List ℕ) (a b : ScriptRefusal) → a ≢ OutOfMemory → b ≢ OutOfMemory → Refused bytes a → Refused bytes b → ◌≡◌ {A = Reading Script} (Err a) (Err b)
 unfolding Refused
-one_refusal_of bytes a b (inl x) y = inr (inl x)
-one_refusal_of bytes a b (inr x) (inl y) = inr (inr y)
-one_refusal_of bytes a b (inr (inl x)) (inr (inl y)) = inl (x.0 ∙ sym y.0)
-one_refusal_of bytes a b (inr (inl x)) (inr (inr y)) = absurd (x.1 y.value y.json)
-one_refusal_of bytes a b (inr (inr x)) (inr (inl y)) = absurd (y.1 x.value x.json)
-one_refusal_of bytes a b (inr (inr x)) (inr (inr y)) =
-    inl (same_error (sym x.says ∙ ap script (same_value bytes x.value y.value x.json y.json) ∙ y.says))
+one_refusal bytes a b known told (inl x) y = absurd (known x)
+one_refusal bytes a b known told (inr x) (inl y) = absurd (told y)
+one_refusal bytes a b known told (inr (inl x)) (inr (inl y)) = ap Err (x.0 ∙ sym y.0)
+one_refusal bytes a b known told (inr (inl x)) (inr (inr y)) = absurd (x.1 y.value y.json)
+one_refusal bytes a b known told (inr (inr x)) (inr (inl y)) = absurd (y.1 x.value x.json)
+one_refusal bytes a b known told (inr (inr x)) (inr (inr y)) = sym x.says ∙ ap script (same_value bytes x.value y.value x.json y.json) ∙ y.says
 
-not_both_of : (bytes : List ℕ) (s : Script) (refusal : ScriptRefusal) → ReadsScript bytes s → Refused bytes refusal → refusal ≡ OutOfMemory
+never_both : (bytes : List ℕ) (s : Script) (refusal : ScriptRefusal) → refusal ≢ OutOfMemory → ReadsScript bytes s → Refused bytes refusal → ⊥
 unfolding Refused
-not_both_of bytes s refusal x (inl y) = y
-not_both_of bytes s refusal x (inr (inl y)) = absurd (y.1 x.value x.json)
-not_both_of bytes s refusal x (inr (inr y)) =
+never_both bytes s refusal known x (inl y) = known y
+never_both bytes s refusal known x (inr (inl y)) = y.1 x.value x.json
+never_both bytes s refusal known x (inr (inr y)) =
     let e : ◌≡◌ {A = Reading Script} (Ok s) (Err refusal) = sym x.says ∙ ap script (same_value bytes x.value y.value x.json y.json) ∙ y.says in
-    absurd cc
+    cc
 
 pub HasOneVerdict-any : (bytes : List ℕ) → HasOneVerdict bytes
-HasOneVerdict-any bytes =
-    record {
-      one_script = ReadsScript-unique bytes;
-      one_refusal = λ a b x y. one_refusal_of bytes a b (Refused-from bytes a x) (Refused-from bytes b y);
-      not_both = λ s refusal x y. not_both_of bytes s refusal x (Refused-from bytes refusal y);
-    }
+HasOneVerdict-any bytes (Ok a) (Ok b) x y = ap Ok (ReadsScript-unique bytes a b x y)
+HasOneVerdict-any bytes (Ok a) (Err f) x y = absurd (never_both bytes a f y.1 x (Refused-from bytes f y.0))
+HasOneVerdict-any bytes (Err e) (Ok b) x y = absurd (never_both bytes b e x.1 y (Refused-from bytes e x.0))
+HasOneVerdict-any bytes (Err e) (Err f) x y = one_refusal bytes e f x.1 y.1 (Refused-from bytes e x.0) (Refused-from bytes f y.0)

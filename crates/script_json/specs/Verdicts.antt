@@ -1,14 +1,15 @@
--- What bytes are read as is one thing.
-use Rattle.std.specs.Prelude.{ℕ, ◌≡◌, ◌⊎◌, List}
+-- What bytes are: a script, or a first refusal.
+use Rattle.std.specs.Prelude.{ℕ, ◌≡◌, ◌≢◌, List, Ok, Err}
+use Rattle.script_json.specs.Forms.{Reading}
 use Rattle.script_json.specs.Scripts.{ReadsScript, RefusesScript}
-use Rattle.script_json.specs.declared.refusal.ScriptRefusal.{ScriptRefusal}
 use Rattle.script_json.specs.declared.refusal.ScriptRefusal.TheVariants.{OutOfMemory}
 use Rattle.script_json.specs.declared.script.Script.{Script}
 
--- bytes are one script at most, or have one refusal at most, and never both; memory may run out at any bytes
-pub record HasOneVerdict (bytes : List ℕ) : Type 0 where
-  pub one_script : (a b : Script) → ReadsScript bytes a → ReadsScript bytes b → a ≡ b
-  pub one_refusal : (a b : ScriptRefusal) → RefusesScript bytes a → RefusesScript bytes b
-      → (a ≡ b) ⊎ (a ≡ OutOfMemory) ⊎ (b ≡ OutOfMemory)
-  pub not_both : (script : Script) (refusal : ScriptRefusal) → ReadsScript bytes script → RefusesScript bytes refusal
-      → refusal ≡ OutOfMemory
+-- bytes are this script, or this is the first refusal of them; running out of memory says nothing of bytes
+abbrev pub IsVerdict : List ℕ → Reading Script → Type 0
+IsVerdict bytes (Ok script) = ReadsScript bytes script
+IsVerdict bytes (Err refusal) = RefusesScript bytes refusal × (refusal ≢ OutOfMemory)
+
+-- bytes have one verdict at most
+abbrev pub HasOneVerdict : List ℕ → Type 0
+HasOneVerdict bytes = (one other : Reading Script) → IsVerdict bytes one → IsVerdict bytes other → one ≡ other

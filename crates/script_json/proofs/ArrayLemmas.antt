@@ -11,25 +11,29 @@ use Rattle.script_json.specs.Format.{joined_column, reference_among}
 use Rattle.script_json.specs.declared.refusal.PathStep.TheVariants.{At}
 use Rattle.script_json.specs.declared.refusal.ScriptRefusal.{ScriptRefusal}
 
-pub items_of-long : (least most : ℕ) (value : Data) (vs : List Value) → Some (items_view vs) ≡ as_array value → most < length vs → items_of least most value ≡ Err too_many
+pub items_of-long : (least most : ℕ) (value : Data) (vs : List Value)
+    → Some (items_view vs) ≡ as_array value → most < length vs → items_of least most value ≡ Err too_many
 items_of-long least most value vs is long =
     let t : nat_lt most (items_len (items_view vs)) ≡ true = rw (items_len-items_view vs) (search (rules)) in
     rw (sym is, t)
 
-pub items_of-short : (least most : ℕ) (value : Data) (vs : List Value) → Some (items_view vs) ≡ as_array value → length vs ≤ most → length vs < least → items_of least most value ≡ Err wrong_shape
+pub items_of-short : (least most : ℕ) (value : Data) (vs : List Value)
+    → Some (items_view vs) ≡ as_array value → length vs ≤ most → length vs < least → items_of least most value ≡ Err wrong_shape
 items_of-short least most value vs is few short =
     let f : nat_lt most (items_len (items_view vs)) ≡ false = rw (items_len-items_view vs) (search (rules)) in
     let t : nat_lt (items_len (items_view vs)) least ≡ true = rw (items_len-items_view vs) (search (rules)) in
     rw (sym is, f, t)
 
-pub items_of-within : (least most : ℕ) (value : Data) (vs : List Value) → Some (items_view vs) ≡ as_array value → length vs ≤ most → least ≤ length vs → items_of least most value ≡ Ok (items_view vs)
+pub items_of-within : (least most : ℕ) (value : Data) (vs : List Value)
+    → Some (items_view vs) ≡ as_array value → length vs ≤ most → least ≤ length vs → items_of least most value ≡ Ok (items_view vs)
 items_of-within least most value vs is few some =
     let f : nat_lt most (items_len (items_view vs)) ≡ false = rw (items_len-items_view vs) (search (rules)) in
     let g : nat_lt (items_len (items_view vs)) least ≡ false = rw (items_len-items_view vs) (search (rules)) in
     rw (sym is, f, g)
 
 -- the items from a place on
-from_place : (vs : List Value) (v : Value) (i : ℕ) → i < length vs → v ≡ get_or vs i v → items_view (drop i vs) ≡ item (view v) (items_view (drop (i + 1) vs))
+from_place : (vs : List Value) (v : Value) (i : ℕ)
+    → i < length vs → v ≡ get_or vs i v → items_view (drop i vs) ≡ item (view v) (items_view (drop (i + 1) vs))
 from_place vs v i within is =
     let split : drop i vs ≡ v ∷ drop (i + 1) vs = rw add-one (drop-cons vs i v within ∙ ap (λ w. w ∷ drop (suc i) vs) (sym is)) in
     ap items_view split

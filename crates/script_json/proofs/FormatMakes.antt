@@ -8,7 +8,7 @@ use Rattle.serde_json.specs.Find.{as_array, as_i64, as_number, as_object, as_str
 use Rattle.std.proofs.lemmas.Slice.Eq.{bytes_eq-Decides}
 use Rattle.std.proofs.lemmas.List.Elements.{All-append, All-cons, All-nil}
 use Rattle.std.proofs.lemmas.List.Quantifiers.{all_pairs_push}
-use Rattle.plan_ast.specs.Bounds.{AreAggsInBounds, AreFewFilters, IsAggInBounds, IsInBounds, IsOutputInBounds}
+use Rattle.plan_ast.specs.Bounds.{AreAggsInBounds, IsInBounds, IsOutputInBounds}
 use Rattle.plan_ast.specs.declared.queries.NameRef.{NameRef}
 use Rattle.plan_ast.specs.declared.queries.Filter.{Filter}
 use Rattle.plan_ast.specs.declared.queries.Join.{Join}
@@ -17,13 +17,14 @@ use Rattle.plan_ast.specs.declared.queries.Func.{Func}
 use Rattle.plan_ast.specs.declared.queries.Func.TheVariants.{Count, Sum, Min, Max}
 use Rattle.plan_ast.specs.declared.queries.Output.{Output}
 use Rattle.plan_ast.specs.declared.queries.Query.{Query}
-use Rattle.script_json.specs.Forms.{Form, Reading, ◌>>◌, array_of, or_refuse, required, optional, bad_text, twice_named, under, whole, wrong_number, wrong_shape}
+use Rattle.script_json.specs.Forms.{Form, Reading, ◌>>◌, array_of, or_refuse, required, optional, bad_text, twice_named, whole, wrong_number, wrong_shape}
 use Rattle.script_json.specs.Format.{aggregate, aggregates, any_number, count_of_rows, counts, file_name, filter, filters, first_early, function, function_named, function_of_column, groups, groups_of, has, is_file_name, is_i64, is_name, join, joined_column, joins, name, new_name, operator, operator_named, output, output_among, output_keys, query, query_keys, reference, reference_among, references, refuse_early, rows_of, script, table_entry, totals_of, version}
-use Rattle.script_json.specs.WellFormed.{IsAgg, IsEntry, IsFilter, IsJoin, IsOutput, IsQuery, IsReference, IsScript}
+use Rattle.script_json.specs.WellFormed.{IsAgg, IsEntry, IsFilter, IsOutput, IsQuery, IsReference, IsScript}
 use Rattle.script_json.specs.declared.refusal.PathStep.TheVariants.{At}
 use Rattle.script_json.specs.declared.refusal.ScriptRefusal.TheVariants.{VersionUnknown}
 use Rattle.script_json.specs.declared.script.TableEntry.{TableEntry}
-use Rattle.script_json.proofs.Makes.{Makes, Makes-after, Makes-array_of, Makes-object_of, Makes-optional, Makes-or_refuse, Makes-refuse_if, Makes-required, Makes-text_of, Makes-then, Makes-under, Makes-unless, Makes-weaker, Makes-whole, Makes-word_of, true-from_not}
+use Rattle.script_json.proofs.Parts.{AnyAgg, FewJoin}
+use Rattle.script_json.proofs.Makes.{Makes, Makes-after, Makes-array_of, Makes-found, Makes-member, Makes-member_or, Makes-object_of, Makes-optional, Makes-or_refuse, Makes-refuse_if, Makes-required, Makes-text_of, Makes-then, Makes-under-then, Makes-unless, Makes-weaker, Makes-whole, Makes-word_of, true-from_not}
 
 -- a text that keeps the rule of names
 abbrev Named : List ℕ → Type 0
@@ -34,16 +35,16 @@ name-makes value = Makes-text_of is_name value
 
 any_number-makes : (value : Data) → Makes (λ n. IsTrue (is_i64 n)) (any_number value)
 any_number-makes value =
-    Makes-then (λ _. ⊤) (λ n. IsTrue (is_i64 n)) (or_refuse wrong_shape (as_number value)) _ (Makes-or_refuse wrong_shape (as_number value) tt) (λ written _.
-    Makes-then (λ _. ⊤) (λ n. IsTrue (is_i64 n)) (or_refuse wrong_number (as_i64 written)) _ (Makes-or_refuse wrong_number (as_i64 written) tt) (λ n _.
+    Makes-found (λ n. IsTrue (is_i64 n)) wrong_shape (as_number value) _ tt (λ written.
+    Makes-found (λ n. IsTrue (is_i64 n)) wrong_number (as_i64 written) _ tt (λ n.
     Makes-unless (λ n. IsTrue (is_i64 n)) (not (is_i64 n)) wrong_number (Ok n) tt (λ holds. true-from_not (is_i64 n) holds)))
 
 filter-makes : (value : Data) → Makes IsFilter (filter value)
 filter-makes value =
     Makes-object_of IsFilter (codes "col" ∷ codes "op" ∷ codes "value" ∷ []) value _ (
-    Makes-then Named IsFilter (required (codes "col") name value) _ (Makes-required Named (codes "col") name name-makes value) (λ column column_named.
-    Makes-then (λ _. ⊤) IsFilter (required (codes "op") operator value) _ (Makes-required (λ _. ⊤) (codes "op") operator (Makes-word_of operator_named) value) (λ op _.
-    Makes-then (λ n. IsTrue (is_i64 n)) IsFilter (required (codes "value") any_number value) _ (Makes-required (λ n. IsTrue (is_i64 n)) (codes "value") any_number any_number-makes value) (λ bound fits.
+    Makes-member Named IsFilter (codes "col") name value _ name-makes (λ column column_named.
+    Makes-member (λ _. ⊤) IsFilter (codes "op") operator value _ (Makes-word_of operator_named) (λ op _.
+    Makes-member (λ n. IsTrue (is_i64 n)) IsFilter (codes "value") any_number value _ any_number-makes (λ bound fits.
     record { column = column_named; value = fits }))))
 
 -- one more element of a list has Q
@@ -54,12 +55,13 @@ All-more Q xs a all one = All-append Q xs (a ∷ []) all (All-cons Q a [] one (A
 array-makes : {A : Type 0} (Q : A → Type 0) (least most : ℕ) (form : Form A) → ((value : Data) → Makes Q (form value))
     → (value : Data) → Makes (λ all. All Q all × (least ≤ length all) × (length all ≤ most)) (array_of least most (λ _. form) value)
 array-makes Q least most form h value =
-    Makes-array_of (All Q) least most (λ _. form) (All-nil Q) (λ earlier v all. Makes-weaker Q _ (form v) (λ a one. All-more Q earlier a all one) (h v)) value
+    Makes-array_of (All Q) least most (λ _. form) (All-nil Q)
+    (λ earlier v all. Makes-weaker Q _ (form v) (λ a one. All-more Q earlier a all one) (h v)) value
 
 joined_column-makes : (first second : Data) → Makes IsReference (joined_column first second)
 joined_column-makes first second =
-    Makes-then (λ n. (1 ≤ n) × (n ≤ 2)) IsReference (under (At 0) (whole 1 2 first)) _ (Makes-under _ (At 0) (whole 1 2 first) (Makes-whole 1 2 first)) (λ side within.
-    Makes-then Named IsReference (under (At 1) (name second)) _ (Makes-under Named (At 1) (name second) (name-makes second)) (λ column column_named.
+    Makes-under-then (λ n. (1 ≤ n) × (n ≤ 2)) IsReference (At 0) (whole 1 2 first) _ (Makes-whole 1 2 first) (λ side within.
+    Makes-under-then Named IsReference (At 1) (name second) _ (name-makes second) (λ column column_named.
     record { side = within.1; name = column_named }))
 
 reference_among-makes : (found : Option Items) (value : Data) → Makes IsReference (reference_among found value)
@@ -80,22 +82,16 @@ filters-makes value = array-makes IsFilter 0 16 filter filter-makes value
 where-makes : (value : Data) → Makes (λ all. All IsFilter all × (length all ≤ 16)) (optional (codes "where") [] filters value)
 where-makes value =
     let P : List Filter → Type 0 = λ all. All IsFilter all × (length all ≤ 16) in
-    Makes-optional P (codes "where") [] filters (All-nil IsFilter, omega arith)
-    (λ v. Makes-weaker _ P (filters v) (λ all h. (h.0, h.2)) (filters-makes v)) value
-
--- a join with few filters
-FewJoin : Join → Type 0
-FewJoin joined = IsJoin joined × AreFewFilters joined.filters
+    Makes-optional P (codes "where") [] filters value (All-nil IsFilter, omega arith)
+    (λ v. Makes-weaker _ P (filters v) (λ all h. (h.0, h.2)) (filters-makes v))
 
 join-makes : (value : Data) → Makes FewJoin (join value)
-unfolding FewJoin
 join-makes value =
-    let P : Join → Type 0 = λ joined. IsJoin joined × AreFewFilters joined.filters in
-    Makes-object_of P (codes "table" ∷ codes "left" ∷ codes "right" ∷ codes "where" ∷ []) value _ (
-    Makes-then Named P (required (codes "table") name value) _ (Makes-required Named (codes "table") name name-makes value) (λ table table_named.
-    Makes-then IsReference P (required (codes "left") reference value) _ (Makes-required IsReference (codes "left") reference reference-makes value) (λ left is_left.
-    Makes-then Named P (required (codes "right") name value) _ (Makes-required Named (codes "right") name name-makes value) (λ right right_named.
-    Makes-then (λ all. All IsFilter all × (length all ≤ 16)) P (optional (codes "where") [] filters value) _ (where-makes value) (λ passed few.
+    Makes-object_of FewJoin (codes "table" ∷ codes "left" ∷ codes "right" ∷ codes "where" ∷ []) value _ (
+    Makes-member Named FewJoin (codes "table") name value _ name-makes (λ table table_named.
+    Makes-member IsReference FewJoin (codes "left") reference value _ reference-makes (λ left is_left.
+    Makes-member Named FewJoin (codes "right") name value _ name-makes (λ right right_named.
+    Makes-then (λ all. All IsFilter all × (length all ≤ 16)) FewJoin (optional (codes "where") [] filters value) _ (where-makes value) (λ passed few.
     (record { table = table_named; left = is_left; right = right_named; filters = few.0 }, few.1))))))
 
 joins-makes : (value : Data) → Makes (λ all. All FewJoin all × (0 ≤ length all) × (length all ≤ 2)) (joins value)
@@ -107,7 +103,10 @@ OfColumn : Func → Type 0
 OfColumn func = func ≢ Count
 
 -- one of three words, by the tests for them
-one_of_three : (a b d : Bool) → IfSome (option_map (λ (word : List ℕ × Func). word.1) (cond a (Some (codes "sum", Sum)) (cond b (Some (codes "min", Min)) (cond d (Some (codes "max", Max)) None)))) OfColumn
+abbrev found_among : Bool → Bool → Bool → Option (List ℕ × Func)
+found_among a b d = cond a (Some (codes "sum", Sum)) (cond b (Some (codes "min", Min)) (cond d (Some (codes "max", Max)) None))
+
+one_of_three : (a b d : Bool) → IfSome (option_map (λ (word : List ℕ × Func). word.1) (found_among a b d)) OfColumn
 unfolding OfColumn
 one_of_three true b d = λ e. cc
 one_of_three false true d = λ e. cc
@@ -120,23 +119,20 @@ found-makes P (Some a) h = h
 
 function-makes : (value : Data) → Makes OfColumn (function value)
 function-makes value =
-    Makes-then (λ _. ⊤) OfColumn (or_refuse wrong_shape (as_str value)) _ (Makes-or_refuse wrong_shape (as_str value) tt) (λ bytes _.
-    found-makes OfColumn (function_named bytes) (one_of_three (bytes_eq (codes "sum") bytes) (bytes_eq (codes "min") bytes) (bytes_eq (codes "max") bytes)))
-
-AnyAgg : Agg → Type 0
-AnyAgg agg = IsAggInBounds agg × IsAgg agg
+    Makes-found OfColumn wrong_shape (as_str value) _ tt (λ bytes.
+    let is = λ (word : List ℕ). bytes_eq word bytes in
+    found-makes OfColumn (function_named bytes) (one_of_three (is (codes "sum")) (is (codes "min")) (is (codes "max"))))
 
 count_of_rows-makes : (value : Data) → Makes AnyAgg (count_of_rows value)
-unfolding AnyAgg
 count_of_rows-makes value =
     Makes-object_of AnyAgg (codes "fn" ∷ []) value (Ok (record { func = Count; column = None })) (((λ _. refl), (λ _. refl)), tt)
 
 function_of_column-makes : (value : Data) → Makes AnyAgg (function_of_column value)
-unfolding AnyAgg OfColumn
+unfolding OfColumn
 function_of_column-makes value =
     Makes-object_of AnyAgg (codes "fn" ∷ codes "col" ∷ []) value _ (
-    Makes-then OfColumn AnyAgg (required (codes "fn") function value) _ (Makes-required OfColumn (codes "fn") function function-makes value) (λ func of_column.
-    Makes-then IsReference AnyAgg (required (codes "col") reference value) _ (Makes-required IsReference (codes "col") reference reference-makes value) (λ column is_column.
+    Makes-member OfColumn AnyAgg (codes "fn") function value _ function-makes (λ func of_column.
+    Makes-member IsReference AnyAgg (codes "col") reference value _ reference-makes (λ column is_column.
     (((λ none. cc), (λ e. absurd (of_column e))), is_column))))
 
 aggregate_if-makes : (test : Bool) (value : Data) → Makes AnyAgg (if test then count_of_rows value else function_of_column value)
@@ -150,7 +146,7 @@ SomeAggs : List Agg → Type 0
 SomeAggs aggs = AreAggsInBounds aggs × All IsAgg aggs
 
 aggregates-makes : (value : Data) → Makes SomeAggs (aggregates value)
-unfolding SomeAggs AnyAgg
+unfolding SomeAggs
 aggregates-makes value =
     Makes-weaker _ SomeAggs (aggregates value)
     (λ aggs h. (record { count = (h.1, h.2); each = λ k d within. (h.0 k d within).0 }, λ k d within. (h.0 k d within).1))
@@ -166,27 +162,27 @@ unfolding IsPutOut
 rows_of-makes value =
     let P : List NameRef → Type 0 = λ all. All IsReference all × (1 ≤ length all) × (length all ≤ 8) in
     Makes-object_of IsPutOut output_keys value _ (
-    Makes-then P IsPutOut (required (codes "rows") (references 8) value) _ (Makes-required P (codes "rows") (references 8) (array-makes IsReference 1 8 reference reference-makes) value) (λ columns h.
+    Makes-member P IsPutOut (codes "rows") (references 8) value _ (array-makes IsReference 1 8 reference reference-makes) (λ columns h.
     ((h.1, h.2), h.0)))
 
 totals_of-makes : (value : Data) → Makes IsPutOut (totals_of value)
 unfolding IsPutOut SomeAggs
 totals_of-makes value =
     Makes-object_of IsPutOut output_keys value _ (
-    Makes-then SomeAggs IsPutOut (required (codes "totals") aggregates value) _ (Makes-required SomeAggs (codes "totals") aggregates aggregates-makes value) (λ aggs h. h))
+    Makes-member SomeAggs IsPutOut (codes "totals") aggregates value _ aggregates-makes (λ aggs h. h))
 
 groups-makes : (value : Data) → Makes IsPutOut (groups value)
 unfolding IsPutOut SomeAggs
 groups-makes value =
     let P : List NameRef → Type 0 = λ all. All IsReference all × (1 ≤ length all) × (length all ≤ 2) in
     Makes-object_of IsPutOut (codes "by" ∷ codes "aggs" ∷ []) value _ (
-    Makes-then P IsPutOut (required (codes "by") (references 2) value) _ (Makes-required P (codes "by") (references 2) (array-makes IsReference 1 2 reference reference-makes) value) (λ by h.
-    Makes-then SomeAggs IsPutOut (required (codes "aggs") aggregates value) _ (Makes-required SomeAggs (codes "aggs") aggregates aggregates-makes value) (λ aggs g.
+    Makes-member P IsPutOut (codes "by") (references 2) value _ (array-makes IsReference 1 2 reference reference-makes) (λ by h.
+    Makes-member SomeAggs IsPutOut (codes "aggs") aggregates value _ aggregates-makes (λ aggs g.
     (((h.1, h.2), g.0), (h.0, g.1)))))
 
 groups_of-makes : (value : Data) → Makes IsPutOut (groups_of value)
 groups_of-makes value =
-    Makes-object_of IsPutOut output_keys value _ (Makes-required IsPutOut (codes "groups") groups groups-makes value)
+    Makes-object_of IsPutOut output_keys value _ (Makes-required IsPutOut (codes "groups") groups value groups-makes)
 
 output_among-makes : (rows totals grouped : Bool) (value : Data) → Makes IsPutOut (output_among rows totals grouped value)
 output_among-makes true false false value = rows_of-makes value
@@ -203,21 +199,29 @@ output-makes value = output_among-makes (has (codes "rows") value) (has (codes "
 -- ---- queries
 
 query-makes : (value : Data) → Makes IsQuery (query value)
-unfolding IsPutOut FewJoin
+unfolding IsPutOut
 query-makes value =
     let W = λ (low high n : ℕ). (low ≤ n) × (n ≤ high) in
     let F : List Filter → Type 0 = λ all. All IsFilter all × (length all ≤ 16) in
     let J : List Join → Type 0 = λ all. All FewJoin all × (0 ≤ length all) × (length all ≤ 2) in
     Makes-object_of IsQuery query_keys value _ (
-    Makes-then (W 0 16384) IsQuery (optional (codes "after") 0 (whole 0 16384) value) _ (Makes-optional (W 0 16384) (codes "after") 0 (whole 0 16384) (omega arith, omega arith) (Makes-whole 0 16384) value) (λ after a.
-    Makes-then (W 1 10) IsQuery (optional (codes "weight") 10 (whole 1 10) value) _ (Makes-optional (W 1 10) (codes "weight") 10 (whole 1 10) (omega arith, omega arith) (Makes-whole 1 10) value) (λ weight w.
-    Makes-then (W 1 1000000) IsQuery (optional (codes "cost") 100 (whole 1 1000000) value) _ (Makes-optional (W 1 1000000) (codes "cost") 100 (whole 1 1000000) (omega arith, omega arith) (Makes-whole 1 1000000) value) (λ cost c.
-    Makes-then Named IsQuery (required (codes "scan") name value) _ (Makes-required Named (codes "scan") name name-makes value) (λ scan s.
+    Makes-member_or (W 0 16384) IsQuery (codes "after") 0 (whole 0 16384) value _ (omega arith, omega arith) (Makes-whole 0 16384) (λ after a.
+    Makes-member_or (W 1 10) IsQuery (codes "weight") 10 (whole 1 10) value _ (omega arith, omega arith) (Makes-whole 1 10) (λ weight w.
+    Makes-member_or (W 1 1000000) IsQuery (codes "cost") 100 (whole 1 1000000) value _ (omega arith, omega arith) (Makes-whole 1 1000000) (λ cost c.
+    Makes-member Named IsQuery (codes "scan") name value _ name-makes (λ scan s.
     Makes-then F IsQuery (optional (codes "where") [] filters value) _ (where-makes value) (λ passed f.
-    Makes-then J IsQuery (optional (codes "joins") [] joins value) _ (Makes-optional J (codes "joins") [] joins (All-nil FewJoin, omega arith, omega arith) joins-makes value) (λ joined j.
-    Makes-then IsPutOut IsQuery (required (codes "output") output value) _ (Makes-required IsPutOut (codes "output") output output-makes value) (λ put_out o.
+    Makes-member_or J IsQuery (codes "joins") [] joins value _ (All-nil FewJoin, omega arith, omega arith) joins-makes (λ joined j.
+    Makes-member IsPutOut IsQuery (codes "output") output value _ output-makes (λ put_out o.
     record {
-      bounds = record { after = a.1; weight = w; cost = c; filters = f.1; joins = j.2; join_filters = λ k d within. (j.0 k d within).1; output = o.0 };
+      bounds = record {
+        after = a.1;
+        weight = w;
+        cost = c;
+        filters = f.1;
+        joins = j.2;
+        join_filters = λ k d within. (j.0 k d within).1;
+        output = o.0;
+      };
       scan = s;
       filters = f.0;
       joins = λ k d within. (j.0 k d within).0;
@@ -234,7 +238,8 @@ false_parts true b h = absurd (true≢false h)
 false_parts false b h = (refl, h)
 
 -- no earlier table has the name
-not_taken : (earlier : List TableEntry) (bytes : List ℕ) → list_any (λ entry. bytes_eq entry.name bytes) earlier ≡ false → All (λ entry. entry.name ≢ bytes) earlier
+not_taken : (earlier : List TableEntry) (bytes : List ℕ) → list_any (λ entry. bytes_eq entry.name bytes) earlier ≡ false
+    → All (λ entry. entry.name ≢ bytes) earlier
 not_taken [] bytes h = All-nil (λ entry. entry.name ≢ bytes)
 not_taken (e ∷ earlier) bytes h =
     let both = false_parts (bytes_eq e.name bytes) (list_any (λ entry. bytes_eq entry.name bytes) earlier) h in
@@ -242,23 +247,26 @@ not_taken (e ∷ earlier) bytes h =
     (λ same. true≢false (sym ((bytes_eq-Decides e.name bytes).1 same) ∙ both.0))
     (not_taken earlier bytes both.1)
 
-new_name-makes : (earlier : List TableEntry) (value : Data) → Makes (λ bytes. Named bytes × All (λ entry. entry.name ≢ bytes) earlier) (new_name earlier value)
+new_name-makes : (earlier : List TableEntry) (value : Data)
+    → Makes (λ bytes. Named bytes × All (λ entry. entry.name ≢ bytes) earlier) (new_name earlier value)
 new_name-makes earlier value =
     let P : List ℕ → Type 0 = λ bytes. Named bytes × All (λ entry. entry.name ≢ bytes) earlier in
     Makes-then Named P (name value) _ (name-makes value) (λ bytes is_named.
-    Makes-unless P (list_any (λ entry. bytes_eq entry.name bytes) earlier) twice_named (Ok bytes) tt (λ free. (is_named, not_taken earlier bytes free)))
+    Makes-unless P (list_any (λ entry. bytes_eq entry.name bytes) earlier) twice_named (Ok bytes) tt
+    (λ free. (is_named, not_taken earlier bytes free)))
 
 file_name-makes : (value : Data) → Makes (λ bytes. IsTrue (is_file_name bytes)) (file_name value)
 file_name-makes value = Makes-text_of is_file_name value
 
-table_entry-makes : (earlier : List TableEntry) (value : Data) → Makes (λ entry. IsEntry entry × All (λ e. e.name ≢ entry.name) earlier) (table_entry earlier value)
+table_entry-makes : (earlier : List TableEntry) (value : Data)
+    → Makes (λ entry. IsEntry entry × All (λ e. e.name ≢ entry.name) earlier) (table_entry earlier value)
 table_entry-makes earlier value =
     let P : TableEntry → Type 0 = λ entry. IsEntry entry × All (λ e. e.name ≢ entry.name) earlier in
     let N : List ℕ → Type 0 = λ bytes. Named bytes × All (λ e. e.name ≢ bytes) earlier in
     let F : List ℕ → Type 0 = λ bytes. IsTrue (is_file_name bytes) in
     Makes-object_of P (codes "name" ∷ codes "file" ∷ []) value _ (
-    Makes-then N P (required (codes "name") (new_name earlier) value) _ (Makes-required N (codes "name") (new_name earlier) (new_name-makes earlier) value) (λ title t.
-    Makes-then F P (required (codes "file") file_name value) _ (Makes-required F (codes "file") file_name file_name-makes value) (λ file f.
+    Makes-member N P (codes "name") (new_name earlier) value _ (new_name-makes earlier) (λ title t.
+    Makes-member F P (codes "file") file_name value _ file_name-makes (λ file f.
     (record { name = t.0; file = f }, t.1))))
 
 tables-makes : (value : Data) → Makes (λ all. Entries all × (0 ≤ length all) × (length all ≤ 8)) (array_of 0 8 table_entry value)
@@ -275,23 +283,26 @@ tables-makes value =
 
 version-makes : (value : Data) → Makes (λ _. ⊤) (version value)
 version-makes value =
-    Makes-then (λ _. ⊤) (λ _. ⊤) (or_refuse wrong_shape (as_number value)) _ (Makes-or_refuse wrong_shape (as_number value) tt) (λ written _.
+    Makes-found (λ _. ⊤) wrong_shape (as_number value) _ tt (λ written.
     Makes-refuse_if (not (option_map_or (nat_eq 1) (as_u64 written) false)) VersionUnknown tt)
 
-unless_early : {B : Type 0} (Q : B → Type 0) (early : Option ℕ) (next : Reading B) → (early ≡ None → Makes Q next) → Makes Q (refuse_early early >> next)
+unless_early : {B : Type 0} (Q : B → Type 0) (early : Option ℕ) (next : Reading B)
+    → (early ≡ None → Makes Q next) → Makes Q (refuse_early early >> next)
 unless_early Q None next h = h refl
 unless_early Q (Some n) next h = tt
 
-pub queries-makes : (value : Data) → Makes (λ all. All IsQuery all × (0 ≤ length all) × (length all ≤ 4096)) (array_of 0 4096 (λ _. query) value)
+queries-makes : (value : Data)
+    → Makes (λ all. All IsQuery all × (0 ≤ length all) × (length all ≤ 4096)) (array_of 0 4096 (λ _. query) value)
 queries-makes value = array-makes IsQuery 0 4096 query query-makes value
 
--- the queries that were read can be told apart from early ones
-pub required-queries : (value : Data) (queries : List Query) → required (codes "queries") (array_of 0 4096 (λ _. query)) value ≡ Ok queries
+-- queries that were read are few, and within their limits
+pub required-queries : (value : Data) (queries : List Query)
+    → required (codes "queries") (array_of 0 4096 (λ _. query)) value ≡ Ok queries
     → All IsInBounds queries × (length queries ≤ 4096)
 required-queries value queries is =
     let Q : List Query → Type 0 = λ all. All IsQuery all × (0 ≤ length all) × (length all ≤ 4096) in
     let form : Form (List Query) = array_of 0 4096 (λ _. query) in
-    let made = subst (λ (r : Reading (List Query)). Makes Q r) is (Makes-required Q (codes "queries") form queries-makes value) in
+    let made = subst (λ (r : Reading (List Query)). Makes Q r) is (Makes-required Q (codes "queries") form value queries-makes) in
     ((λ k d within. (made.0 k d within).bounds), made.2)
 
 -- a value is a well-formed script, or the refusal is of the value
@@ -302,9 +313,9 @@ script-makes value =
     let Q : List Query → Type 0 = λ all. All IsQuery all × (0 ≤ length all) × (length all ≤ 4096) in
     let queries_form : Form (List Query) = array_of 0 4096 (λ _. query) in
     Makes-after IsScript (or_refuse wrong_shape (as_object value)) _ (Makes-or_refuse wrong_shape (as_object value) tt) (
-    Makes-after IsScript (required (codes "version") version value) _ (Makes-required (λ _. ⊤) (codes "version") version version-makes value) (
+    Makes-after IsScript (required (codes "version") version value) _ (Makes-required (λ _. ⊤) (codes "version") version value version-makes) (
     Makes-object_of IsScript (codes "version" ∷ codes "tables" ∷ codes "queries" ∷ []) value _ (
-    Makes-then T IsScript (required (codes "tables") (array_of 0 8 table_entry) value) _ (Makes-required T (codes "tables") (array_of 0 8 table_entry) tables-makes value) (λ tables t.
-    Makes-then Q IsScript (required (codes "queries") queries_form value) _ (Makes-required Q (codes "queries") queries_form queries-makes value) (λ queries q.
+    Makes-member T IsScript (codes "tables") (array_of 0 8 table_entry) value _ tables-makes (λ tables t.
+    Makes-member Q IsScript (codes "queries") queries_form value _ queries-makes (λ queries q.
     unless_early IsScript (first_early 0 0 queries) _ (λ none.
     record { few_tables = t.2; tables = t.0.0; names = t.0.1; few_queries = q.2; queries = q.0; after = none }))))))

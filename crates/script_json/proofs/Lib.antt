@@ -4,6 +4,7 @@ pub mod Makes
 pub mod NameLemmas
 pub mod ObjectLemmas
 pub mod Outlines
+pub mod Parts
 pub mod PathLemmas
 pub mod ReadLemmas
 pub mod RoundTrip

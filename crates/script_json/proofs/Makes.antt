@@ -30,11 +30,13 @@ abbrev pub Makes : {A : Type 0} → (A → Type 0) → Reading A → Type 0
 Makes P (Ok a) = P a
 Makes P (Err refusal) = IsOfValue refusal
 
-pub Makes-or_refuse : {A : Type 0} (refusal : ScriptRefusal) (found : Option A) → IsOfValue refusal → Makes (λ _. ⊤) (or_refuse refusal found)
+pub Makes-or_refuse : {A : Type 0} (refusal : ScriptRefusal) (found : Option A)
+    → IsOfValue refusal → Makes (λ _. ⊤) (or_refuse refusal found)
 Makes-or_refuse refusal None h = h
 Makes-or_refuse refusal (Some a) h = tt
 
-pub Makes-weaker : {A : Type 0} (P Q : A → Type 0) (reading : Reading A) → ((a : A) → P a → Q a) → Makes P reading → Makes Q reading
+pub Makes-weaker : {A : Type 0} (P Q : A → Type 0) (reading : Reading A)
+    → ((a : A) → P a → Q a) → Makes P reading → Makes Q reading
 Makes-weaker P Q (Ok a) weaker h = weaker a h
 Makes-weaker P Q (Err refusal) weaker h = h
 
@@ -43,7 +45,14 @@ pub Makes-then : {A B : Type 0} (P : A → Type 0) (Q : B → Type 0) (first : R
 Makes-then P Q (Ok a) next h k = k a h
 Makes-then P Q (Err refusal) next h k = h
 
-pub Makes-after : {A B : Type 0} (Q : B → Type 0) (first : Reading A) (next : Reading B) → Makes (λ _. ⊤) first → Makes Q next → Makes Q (first >> next)
+-- what is found goes on, whatever it is
+pub Makes-found : {A B : Type 0} (Q : B → Type 0) (refusal : ScriptRefusal) (found : Option A) (next : A → Reading B)
+    → IsOfValue refusal → ((a : A) → Makes Q (next a)) → Makes Q (or_refuse refusal found >>= next)
+Makes-found Q refusal found next h k =
+    Makes-then (λ _. ⊤) Q (or_refuse refusal found) next (Makes-or_refuse refusal found h) (λ a _. k a)
+
+pub Makes-after : {A B : Type 0} (Q : B → Type 0) (first : Reading A) (next : Reading B)
+    → Makes (λ _. ⊤) first → Makes Q next → Makes Q (first >> next)
 Makes-after Q (Ok a) next h k = k
 Makes-after Q (Err refusal) next h k = h
 
@@ -68,34 +77,55 @@ IsOfValue-within step (TwiceNamed path) h = tt
 IsOfValue-within step (AfterTooLarge query) h = tt
 IsOfValue-within step OutOfMemory h = h
 
-pub Makes-under : {A : Type 0} (P : A → Type 0) (step : PathStep) (reading : Reading A) → Makes P reading → Makes P (under step reading)
+pub Makes-under : {A : Type 0} (P : A → Type 0) (step : PathStep) (reading : Reading A)
+    → Makes P reading → Makes P (under step reading)
 Makes-under P step (Ok a) h = h
 Makes-under P step (Err refusal) h = IsOfValue-within step refusal h
 
+-- a value one step below goes on
+pub Makes-under-then : {A B : Type 0} (P : A → Type 0) (Q : B → Type 0) (step : PathStep) (reading : Reading A) (next : A → Reading B)
+    → Makes P reading → ((a : A) → P a → Makes Q (next a)) → Makes Q (under step reading >>= next)
+Makes-under-then P Q step reading next h k = Makes-then P Q (under step reading) next (Makes-under P step reading h) k
+
 -- an object with no other keys
-pub Makes-object_of : {B : Type 0} (Q : B → Type 0) (keys : List (List ℕ)) (value : Data) (next : Reading B) → Makes Q next → Makes Q (object_of keys value >> next)
+pub Makes-object_of : {B : Type 0} (Q : B → Type 0) (keys : List (List ℕ)) (value : Data) (next : Reading B)
+    → Makes Q next → Makes Q (object_of keys value >> next)
 Makes-object_of Q keys value next h =
-    let members = or_refuse wrong_shape (as_object value) in
-    Makes-after Q (object_of keys value) next
-    (Makes-then (λ _. ⊤) (λ _. ⊤) members _ (Makes-or_refuse wrong_shape (as_object value) tt) (λ ms _. Makes-refuse_if (has_other_key keys ms) unknown_key tt))
-    h
+    let known = Makes-found (λ _. ⊤) wrong_shape (as_object value) _ tt (λ ms. Makes-refuse_if (has_other_key keys ms) unknown_key tt) in
+    Makes-after Q (object_of keys value) next known h
 
-pub Makes-required : {A : Type 0} (P : A → Type 0) (key : List ℕ) (form : Form A) → ((v : Data) → Makes P (form v)) → (value : Data) → Makes P (required key form value)
-Makes-required P key form h value =
-    let found = or_refuse wrong_shape (get key value) in
-    Makes-under P (Key key) (found >>= form) (Makes-then (λ _. ⊤) P found form (Makes-or_refuse wrong_shape (get key value) tt) (λ v _. h v))
+-- a member that has to be there
+pub Makes-required : {A : Type 0} (P : A → Type 0) (key : List ℕ) (form : Form A) (value : Data)
+    → ((v : Data) → Makes P (form v)) → Makes P (required key form value)
+Makes-required P key form value h = Makes-under P (Key key) _ (Makes-found P wrong_shape (get key value) form tt h)
 
-Makes-read_or : {A : Type 0} (P : A → Type 0) (default : A) (form : Form A) → P default → ((v : Data) → Makes P (form v)) → (found : Option Data) → Makes P (read_or default form found)
-Makes-read_or P default form d h None = d
-Makes-read_or P default form d h (Some value) = h value
+-- such a member goes on
+pub Makes-member : {A B : Type 0} (P : A → Type 0) (Q : B → Type 0) (key : List ℕ) (form : Form A) (value : Data) (next : A → Reading B)
+    → ((v : Data) → Makes P (form v)) → ((a : A) → P a → Makes Q (next a)) → Makes Q (required key form value >>= next)
+Makes-member P Q key form value next h k = Makes-then P Q (required key form value) next (Makes-required P key form value h) k
 
-pub Makes-optional : {A : Type 0} (P : A → Type 0) (key : List ℕ) (default : A) (form : Form A) → P default → ((v : Data) → Makes P (form v)) → (value : Data) → Makes P (optional key default form value)
-Makes-optional P key default form d h value = Makes-under P (Key key) _ (Makes-read_or P default form d h (get key value))
+Makes-read_or : {A : Type 0} (P : A → Type 0) (default : A) (form : Form A) (found : Option Data)
+    → P default → ((v : Data) → Makes P (form v)) → Makes P (read_or default form found)
+Makes-read_or P default form None d h = d
+Makes-read_or P default form (Some value) d h = h value
 
-pub Makes-items_of : (least most : ℕ) (value : Data) → Makes (λ items. (least ≤ items_len items) × (items_len items ≤ most)) (items_of least most value)
+-- a member that may be there
+pub Makes-optional : {A : Type 0} (P : A → Type 0) (key : List ℕ) (default : A) (form : Form A) (value : Data)
+    → P default → ((v : Data) → Makes P (form v)) → Makes P (optional key default form value)
+Makes-optional P key default form value d h = Makes-under P (Key key) _ (Makes-read_or P default form (get key value) d h)
+
+-- such a member goes on
+pub Makes-member_or : {A B : Type 0} (P : A → Type 0) (Q : B → Type 0) (key : List ℕ) (default : A) (form : Form A) (value : Data)
+    (next : A → Reading B) → P default → ((v : Data) → Makes P (form v)) → ((a : A) → P a → Makes Q (next a))
+    → Makes Q (optional key default form value >>= next)
+Makes-member_or P Q key default form value next d h k =
+    Makes-then P Q (optional key default form value) next (Makes-optional P key default form value d h) k
+
+pub Makes-items_of : (least most : ℕ) (value : Data)
+    → Makes (λ items. (least ≤ items_len items) × (items_len items ≤ most)) (items_of least most value)
 Makes-items_of least most value =
     let P : Items → Type 0 = λ items. (least ≤ items_len items) × (items_len items ≤ most) in
-    Makes-then (λ _. ⊤) P (or_refuse wrong_shape (as_array value)) _ (Makes-or_refuse wrong_shape (as_array value) tt) (λ items _.
+    Makes-found P wrong_shape (as_array value) _ tt (λ items.
     Makes-unless P (nat_lt most (items_len items)) too_many _ tt (λ few.
     Makes-unless P (nat_lt (items_len items) least) wrong_shape _ tt (λ some.
     (grind (arith, nat_tests), grind (arith, nat_tests)))))
@@ -121,14 +151,16 @@ pub Makes-array_of : {A : Type 0} (P : List A → Type 0) (least most : ℕ) (fo
     → (value : Data) → Makes (λ all. P all × (least ≤ length all) × (length all ≤ most)) (array_of least most form value)
 Makes-array_of {A} P least most form none step value =
     let Q : List A → Type 0 = λ all. P all × (least ≤ length all) × (length all ≤ most) in
-    Makes-then (λ items. (least ≤ items_len items) × (items_len items ≤ most)) Q (items_of least most value) _ (Makes-items_of least most value) (λ items counted.
-    Makes-weaker _ Q (each form [] items) (λ all w. (w.0, omega (arith, counted, w.1), omega (arith, counted, w.1))) (Makes-each P form step [] items none))
+    let C : Items → Type 0 = λ items. (least ≤ items_len items) × (items_len items ≤ most) in
+    Makes-then C Q (items_of least most value) _ (Makes-items_of least most value) (λ items counted.
+    Makes-weaker _ Q (each form [] items) (λ all w. (w.0, omega (arith, counted, w.1), omega (arith, counted, w.1)))
+    (Makes-each P form step [] items none))
 
 pub Makes-whole : (least most : ℕ) (value : Data) → Makes (λ n. (least ≤ n) × (n ≤ most)) (whole least most value)
 Makes-whole least most value =
     let P : ℕ → Type 0 = λ n. (least ≤ n) × (n ≤ most) in
-    Makes-then (λ _. ⊤) P (or_refuse wrong_shape (as_number value)) _ (Makes-or_refuse wrong_shape (as_number value) tt) (λ written _.
-    Makes-then (λ _. ⊤) P (or_refuse wrong_number (as_u64 written)) _ (Makes-or_refuse wrong_number (as_u64 written) tt) (λ n _.
+    Makes-found P wrong_shape (as_number value) _ tt (λ written.
+    Makes-found P wrong_number (as_u64 written) _ tt (λ n.
     Makes-unless P (nat_lt n least || nat_lt most n) wrong_number _ tt (λ within_range.
     (grind (arith, nat_tests), grind (arith, nat_tests)))))
 
@@ -139,10 +171,9 @@ true-from_not false h = sym h
 pub Makes-text_of : (rule : List ℕ → Bool) (value : Data) → Makes (λ bytes. IsTrue (rule bytes)) (text_of rule value)
 Makes-text_of rule value =
     let P : List ℕ → Type 0 = λ bytes. IsTrue (rule bytes) in
-    Makes-then (λ _. ⊤) P (or_refuse wrong_shape (as_str value)) _ (Makes-or_refuse wrong_shape (as_str value) tt) (λ bytes _.
+    Makes-found P wrong_shape (as_str value) _ tt (λ bytes.
     Makes-unless P (not (rule bytes)) bad_text _ tt (λ holds. true-from_not (rule bytes) holds))
 
 pub Makes-word_of : {A : Type 0} (meaning : List ℕ → Option A) (value : Data) → Makes (λ _. ⊤) (word_of meaning value)
-Makes-word_of {A} meaning value =
-    let P : A → Type 0 = λ _. ⊤ in
-    Makes-then (λ _. ⊤) P (or_refuse wrong_shape (as_str value)) _ (Makes-or_refuse wrong_shape (as_str value) tt) (λ bytes _. Makes-or_refuse bad_text (meaning bytes) tt)
+Makes-word_of meaning value =
+    Makes-found (λ _. ⊤) wrong_shape (as_str value) _ tt (λ bytes. Makes-or_refuse bad_text (meaning bytes) tt)

@@ -44,7 +44,7 @@ IsName-from_is_name bytes text h =
     let short : nat_le (length bytes) 64 ≡ true = left_true _ (is_plain bytes) h in
     record { text = text; short = grind (arith, nat_tests); plain = All-from_is_plain bytes (right_true (nat_le (length bytes) 64) _ h) }
 
-false-from_not : (b : Bool) → (b ≡ true → ⊥) → b ≡ false
+pub false-from_not : (b : Bool) → (b ≡ true → ⊥) → b ≡ false
 false-from_not true h = absurd (h refl)
 false-from_not false h = refl
 

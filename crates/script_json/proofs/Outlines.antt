@@ -1,7 +1,7 @@
 -- The canonical form nests little and has no floats.
-use Rattle.std.proofs.Common.{◌≡◌, ℕ, suc, max, ◌≤◌, pos, negsuc, List, [], ◌∷◌, map, Bool, true, false, ◌||◌, Option, Some, None, refl, sym, ap, ◌∙◌, arith}
+use Rattle.std.proofs.Common.{◌≡◌, ℕ, ◌≤◌, pos, negsuc, List, [], ◌∷◌, map, Bool, true, false, Option, Some, None, refl, arith}
 use Rattle.std.specs.Prelude.{ℤ, ◌==◌}
-use Rattle.serde_json.specs.Data.{Data, depth, items_depth, number}
+use Rattle.serde_json.specs.Data.{Data, depth, items_depth}
 use Rattle.serde_json.specs.Find.{is_float, of_integer}
 use Rattle.serde_json.specs.View.{items_of}
 use Rattle.serde_json.specs.Written.{has_float, items_have_float}
@@ -13,11 +13,12 @@ use Rattle.plan_ast.specs.declared.queries.Agg.{Agg}
 use Rattle.plan_ast.specs.declared.queries.Output.{Output}
 use Rattle.plan_ast.specs.declared.queries.Output.TheVariants.{Rows, Totals, Groups}
 use Rattle.plan_ast.specs.declared.queries.Query.{Query}
-use Rattle.script_json.specs.Canonical.{aggregate_members, aggregate_value, array_with, entry_value, filter_value, join_value, object_with, output_value, query_value, reference_value, script_value}
+use Rattle.script_json.specs.Canonical.{aggregate_members, aggregate_value, entry_value, filter_value, join_value, object_with, output_value, query_value, reference_value, script_value}
 use Rattle.script_json.specs.declared.script.TableEntry.{TableEntry}
 use Rattle.script_json.specs.declared.script.Script.{Script}
 
-items_depth-mapped : {A : Type 0} (value : A → Data) (n : ℕ) → ((a : A) → depth (value a) ≤ n) → (xs : List A) → items_depth (items_of (map value xs)) ≤ n
+items_depth-mapped : {A : Type 0} (value : A → Data) (n : ℕ)
+    → ((a : A) → depth (value a) ≤ n) → (xs : List A) → items_depth (items_of (map value xs)) ≤ n
 items_depth-mapped value n h [] = omega arith
 items_depth-mapped value n h (x ∷ xs) = let first = h x in let rest = items_depth-mapped value n h xs in omega arith
 
@@ -64,7 +65,8 @@ script-depth s =
 
 -- ---- floats
 
-items_have_float-mapped : {A : Type 0} (value : A → Data) → ((a : A) → has_float (value a) ≡ false) → (xs : List A) → items_have_float (items_of (map value xs)) ≡ false
+items_have_float-mapped : {A : Type 0} (value : A → Data)
+    → ((a : A) → has_float (value a) ≡ false) → (xs : List A) → items_have_float (items_of (map value xs)) ≡ false
 items_have_float-mapped value h [] = refl
 items_have_float-mapped value h (x ∷ xs) = rw (h x) (items_have_float-mapped value h xs)
 

@@ -15,7 +15,8 @@ use Rattle.script_json.proofs.FormatMakes.{script-makes}
 use Rattle.script_json.proofs.Makes.{Makes}
 
 -- a refusal of a JSON value is one of its bytes
-RefusesScript-said : (bytes : List ℕ) (value : Data) (refusal : ScriptRefusal) → IsJson bytes value → (refusal ≡ OutOfMemory) ⊎ (script value ≡ Err refusal) → RefusesScript bytes refusal
+RefusesScript-said : (bytes : List ℕ) (value : Data) (refusal : ScriptRefusal) → IsJson bytes value
+    → (refusal ≡ OutOfMemory) ⊎ (script value ≡ Err refusal) → RefusesScript bytes refusal
 RefusesScript-said bytes value NotJson json (inl e) = absurd cc
 RefusesScript-said bytes value NotJson json (inr said) = absurd (subst (λ r. Makes IsScript r) said (script-makes value))
 RefusesScript-said bytes value OutOfMemory json h = tt
@@ -36,7 +37,8 @@ RefusesScript-said bytes value (TwiceNamed path) json (inr said) = record { valu
 RefusesScript-said bytes value (AfterTooLarge query) json (inl e) = absurd cc
 RefusesScript-said bytes value (AfterTooLarge query) json (inr said) = record { value = value; json = json; says = said }
 
-pub refused-IsJson : (bytes : List ℕ) (value : Data) (result : Reading Script) → IsJson bytes value → Gives (script value) result → IfErr result (RefusesScript bytes)
+pub refused-IsJson : (bytes : List ℕ) (value : Data) (result : Reading Script)
+    → IsJson bytes value → Gives (script value) result → IfErr result (RefusesScript bytes)
 refused-IsJson bytes value (Ok read) json gives = tt
 refused-IsJson bytes value (Err refusal) json gives = RefusesScript-said bytes value refusal json gives
 

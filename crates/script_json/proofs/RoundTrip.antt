@@ -1,5 +1,5 @@
 -- What is written in the canonical form is read back as what it was.
-use Rattle.std.proofs.Common.{◌≡◌, ◌≢◌, ℕ, zero, suc, ◌+◌, ◌≤◌, ◌<◌, pos, negsuc, List, [], ◌∷◌, ◌++◌, map, length, get_or, codes, Bool, true, false, not, ◌||◌, nat_lt, bytes_eq, All, Option, Some, None, Ok, Err, refl, sym, ap, ◌∙◌, subst, arith, append_assoc, append-nil, length-append, true≢false}
+use Rattle.std.proofs.Common.{◌≡◌, ◌≢◌, ℕ, suc, ◌≤◌, ◌<◌, pos, negsuc, List, [], ◌∷◌, ◌++◌, map, length, Bool, true, false, nat_lt, bytes_eq, All, Option, Some, None, Ok, refl, sym, ap, ◌∙◌, subst, arith, append_assoc, append-nil, length-append, true≢false}
 use Rattle.std.specs.Prelude.{ℤ, AllPairs, IsTrue, ◌==◌}
 use Rattle.std.proofs.lemmas.Bool.Decides.{nat_tests}
 use Rattle.std.proofs.lemmas.List.{get_or_append_left}
@@ -7,7 +7,7 @@ use Rattle.std.proofs.lemmas.List.Folds.{list_any_none}
 use Rattle.std.proofs.lemmas.Slice.Eq.{bytes_eq-Decides}
 use Rattle.std.proofs.Math.Seq.{get_or-append_seam}
 use Rattle.std.specs.List.{list_any}
-use Rattle.serde_json.specs.Data.{Data, number, string, array, object, unsigned}
+use Rattle.serde_json.specs.Data.{Data, number, string, unsigned}
 use Rattle.serde_json.specs.Events.{items_len}
 use Rattle.serde_json.specs.Find.{of_integer}
 use Rattle.serde_json.specs.View.{items_of}
@@ -24,12 +24,13 @@ use Rattle.plan_ast.specs.declared.queries.Output.{Output}
 use Rattle.plan_ast.specs.declared.queries.Output.TheVariants.{Rows, Totals, Groups}
 use Rattle.plan_ast.specs.declared.queries.Query.{Query}
 use Rattle.script_json.specs.Canonical.{aggregate_members, aggregate_value, array_with, entry_value, filter_value, function_word, join_value, object_with, operator_word, output_value, query_value, reference_value, script_value}
-use Rattle.script_json.specs.Forms.{Form, Reading, array_of, each, whole}
-use Rattle.script_json.specs.Format.{aggregate, any_number, file_name, filter, filters, function, is_file_name, is_i64, is_name, join, joins, name, operator, output, query, reference, references, script, table_entry}
-use Rattle.script_json.specs.WellFormed.{IsAgg, IsEntry, IsFilter, IsJoin, IsOutput, IsQuery, IsReference, IsScript}
+use Rattle.script_json.specs.Forms.{Form, array_of, each, whole}
+use Rattle.script_json.specs.Format.{aggregate, any_number, file_name, filter, filters, function, is_file_name, is_i64, is_name, join, joins, name, operator, output, query, reference, script, table_entry}
+use Rattle.script_json.specs.WellFormed.{IsAgg, IsEntry, IsFilter, IsOutput, IsQuery, IsReference, IsScript}
 use Rattle.script_json.specs.declared.script.TableEntry.{TableEntry}
 use Rattle.script_json.specs.declared.script.Script.{Script}
-use Rattle.script_json.proofs.NameLemmas.{kept-true}
+use Rattle.script_json.proofs.NameLemmas.{false-from_not, kept-true}
+use Rattle.script_json.proofs.Parts.{AnyAgg, FewJoin}
 
 -- ---- numbers, texts and words
 
@@ -124,14 +125,11 @@ filter-back f h = rw (name-back f.column h.column, operator-back f.op, any_numbe
 filters-back : (fs : List Filter) → All IsFilter fs → length fs ≤ 16 → filters (array_with filter_value fs) ≡ Ok fs
 filters-back fs all few = list-back IsFilter filter filter_value 0 16 fs filter-back all (omega arith) few
 
-FewJoin : Join → Type 0
-FewJoin j = IsJoin j × (length j.filters ≤ 16)
-
 join-back : (j : Join) → FewJoin j → join (join_value j) ≡ Ok j
-unfolding FewJoin
 join-back j h = rw (name-back j.table h.0.table, reference-back j.left h.0.left, name-back j.right h.0.right, filters-back j.filters h.0.filters h.1)
 
-aggregate_of-back : (func : Func) (column : Option NameRef) → IsAggInBounds (record { func = func; column = column }) → IsAgg (record { func = func; column = column })
+aggregate_of-back : (func : Func) (column : Option NameRef) → IsAggInBounds (record { func = func; column = column })
+    → IsAgg (record { func = func; column = column })
     → aggregate (object_with (aggregate_members func column)) ≡ Ok (record { func = func; column = column })
 aggregate_of-back Count None fits h = refl
 aggregate_of-back Sum None fits h = absurd (let e = fits.0 refl in cc)
@@ -142,28 +140,24 @@ aggregate_of-back Sum (Some column) fits h = rw (reference-back column h)
 aggregate_of-back Min (Some column) fits h = rw (reference-back column h)
 aggregate_of-back Max (Some column) fits h = rw (reference-back column h)
 
-AnyAgg : Agg → Type 0
-AnyAgg agg = IsAggInBounds agg × IsAgg agg
-
 aggregate-back : (agg : Agg) → AnyAgg agg → aggregate (aggregate_value agg) ≡ Ok agg
-unfolding AnyAgg
 aggregate-back agg h = aggregate_of-back agg.func agg.column h.0 h.1
 
 aggregates-back : (aggs : List Agg) → AreAggsInBounds aggs → All IsAgg aggs → array_of 1 8 (λ _. aggregate) (array_with aggregate_value aggs) ≡ Ok aggs
-unfolding AnyAgg
 aggregates-back aggs fits all =
     list-back AnyAgg aggregate aggregate_value 1 8 aggs aggregate-back (λ k d within. (fits.each k d within, all k d within)) fits.count.0 fits.count.1
 
 output-back : (o : Output) → IsOutputInBounds o → IsOutput o → output (output_value o) ≡ Ok o
 output-back (Rows columns) fits h = rw (list-back IsReference reference reference_value 1 8 columns reference-back h fits.0 fits.1)
 output-back (Totals aggs) fits h = rw (aggregates-back aggs fits h)
-output-back (Groups by aggs) fits h = rw (list-back IsReference reference reference_value 1 2 by reference-back h.0 fits.0.0 fits.0.1, aggregates-back aggs fits.1 h.1)
+output-back (Groups by aggs) fits h =
+    let columns = list-back IsReference reference reference_value 1 2 by reference-back h.0 fits.0.0 fits.0.1 in
+    rw (columns, aggregates-back aggs fits.1 h.1)
 
 joins-back : (js : List Join) → All FewJoin js → length js ≤ 2 → joins (array_with join_value js) ≡ Ok js
 joins-back js all few = list-back FewJoin join join_value 0 2 js join-back all (omega arith) few
 
 query-back : (q : Query) → IsQuery q → query (query_value q) ≡ Ok q
-unfolding FewJoin
 query-back q h =
     let after = whole-back 0 16384 q.after (omega arith) h.bounds.after in
     let weight = whole-back 1 10 q.weight h.bounds.weight.0 h.bounds.weight.1 in
@@ -175,10 +169,6 @@ query-back q h =
     rw (after, weight, cost, scan, passed, joined, put_out)
 
 -- ---- tables and scripts
-
-false-from_not : (b : Bool) → (b ≡ true → ⊥) → b ≡ false
-false-from_not true h = absurd (h refl)
-false-from_not false h = refl
 
 bytes_eq-other : (xs ys : List ℕ) → xs ≢ ys → bytes_eq xs ys ≡ false
 bytes_eq-other xs ys other = false-from_not (bytes_eq xs ys) (λ e. other ((bytes_eq-Decides xs ys).0 e))
@@ -209,7 +199,8 @@ tables-back tables all differ few =
     (not_taken before entry after (subst (λ l. AllPairs (λ a b. a.name ≢ b.name) l) (sym e) differ)))
     (omega arith) few
 
-queries-back : (queries : List Query) → All IsQuery queries → length queries ≤ 4096 → array_of 0 4096 (λ _. query) (array_with query_value queries) ≡ Ok queries
+queries-back : (queries : List Query) → All IsQuery queries → length queries ≤ 4096
+    → array_of 0 4096 (λ _. query) (array_with query_value queries) ≡ Ok queries
 queries-back queries all few = list-back IsQuery query query_value 0 4096 queries query-back all (omega arith) few
 
 -- a script that is written is read back

@@ -75,6 +75,7 @@ any_number value = do
 
 -- ---- the parts of a query
 
+-- `col`, `op` and `value` are all required
 abbrev pub filter : Form Filter
 filter value = do
   object_of (codes "col" ∷ codes "op" ∷ codes "value" ∷ []) value
@@ -83,9 +84,11 @@ filter value = do
   bound ← required (codes "value") any_number value
   Ok (record { column = column; op = op; value = bound })
 
+-- 0 to 16 filters
 abbrev pub filters : Form (List Filter)
 filters value = array_of 0 16 (λ _. filter) value
 
+-- a side and a name: a column of a join's table
 abbrev pub joined_column : Data → Data → Reading NameRef
 joined_column first second = do
   side ← under (At 0) (whole 1 2 first)
@@ -103,6 +106,7 @@ reference_among (Some _) value = Err wrong_shape
 abbrev pub reference : Form NameRef
 reference value = reference_among (as_array value) value
 
+-- `table`, `left` and `right` are required
 abbrev pub join : Form Join
 join value = do
   object_of (codes "table" ∷ codes "left" ∷ codes "right" ∷ codes "where" ∷ []) value
@@ -112,6 +116,7 @@ join value = do
   passed ← optional (codes "where") [] filters value
   Ok (record { table = table; left = left; right = right; filters = passed })
 
+-- 0 to 2 joins
 abbrev pub joins : Form (List Join)
 joins value = array_of 0 2 (λ _. join) value
 
@@ -119,11 +124,13 @@ joins value = array_of 0 2 (λ _. join) value
 abbrev pub counts : Data → Bool
 counts value = option_map_or (bytes_eq (codes "count")) (option_and_then as_str (get (codes "fn") value)) false
 
+-- a count knows no key but `fn`
 abbrev pub count_of_rows : Form Agg
 count_of_rows value = do
   object_of (codes "fn" ∷ []) value
   Ok (record { func = Count; column = None })
 
+-- every other aggregate has a column
 abbrev pub function_of_column : Form Agg
 function_of_column value = do
   object_of (codes "fn" ∷ codes "col" ∷ []) value
@@ -134,12 +141,15 @@ function_of_column value = do
 abbrev pub aggregate : Form Agg
 aggregate value = if counts value then count_of_rows value else function_of_column value
 
+-- 1 to `most` columns
 abbrev pub references : ℕ → Form (List NameRef)
 references most value = array_of 1 most (λ _. reference) value
 
+-- 1 to 8 aggregates
 abbrev pub aggregates : Form (List Agg)
 aggregates value = array_of 1 8 (λ _. aggregate) value
 
+-- `by` and `aggs` are required
 abbrev pub groups : Form Output
 groups value = do
   object_of (codes "by" ∷ codes "aggs" ∷ []) value
@@ -167,7 +177,7 @@ groups_of value = do
   object_of output_keys value
   required (codes "groups") groups value
 
--- by which of the three keys an output has: just one of them
+-- by which of the three keys an output has: just one
 abbrev pub output_among : Bool → Bool → Bool → Form Output
 output_among true false false value = rows_of value
 output_among false true false value = totals_of value
@@ -177,6 +187,7 @@ output_among _ _ _ value = Err wrong_shape
 abbrev pub has : List ℕ → Data → Bool
 has key value = is_some (get key value)
 
+-- an object with just one of `rows`, `totals` and `groups`
 abbrev pub output : Form Output
 output value = output_among (has (codes "rows") value) (has (codes "totals") value) (has (codes "groups") value) value
 
@@ -184,6 +195,7 @@ abbrev pub query_keys : List (List ℕ)
 query_keys =
     codes "after" ∷ codes "weight" ∷ codes "cost" ∷ codes "scan" ∷ codes "where" ∷ codes "joins" ∷ codes "output" ∷ []
 
+-- `scan` and `output` are required, and the others have defaults
 abbrev pub query : Form Query
 query value = do
   object_of query_keys value
@@ -205,6 +217,7 @@ new_name earlier value = do
   refuse_if (list_any (λ entry. bytes_eq entry.name bytes) earlier) twice_named
   Ok bytes
 
+-- `name` and `file` are required
 abbrev pub table_entry : List TableEntry → Form TableEntry
 table_entry earlier value = do
   object_of (codes "name" ∷ codes "file" ∷ []) value
@@ -230,6 +243,7 @@ abbrev pub refuse_early : Option ℕ → Reading ⊤
 refuse_early None = Ok tt
 refuse_early (Some n) = Err (AfterTooLarge n)
 
+-- `version` is read before all else, and the queries' `after` last
 abbrev pub script : Form Script
 script value = do
   or_refuse wrong_shape (as_object value)

@@ -15,6 +15,24 @@ use plan_ast::{Agg, Filter, Func, Join, NameRef, Output, Query};
 use serde_json::Value;
 use std::alloc::Global;
 
+const AFTER: WholeForm = WholeForm {
+    least: 0,
+    most: 16_384,
+};
+
+const WEIGHT: WholeForm = WholeForm { least: 1, most: 10 };
+
+const COST: WholeForm = WholeForm {
+    least: 1,
+    most: 1_000_000,
+};
+
+const JOINS: ArrayForm<JoinForm> = ArrayForm {
+    least: 0,
+    most: 2,
+    item: JoinForm,
+};
+
 const FILTERS: ArrayForm<FilterForm> = ArrayForm {
     least: 0,
     most: 16,
@@ -270,21 +288,3 @@ impl Form for QueryForm {
         })
     }
 }
-
-const AFTER: WholeForm = WholeForm {
-    least: 0,
-    most: 16_384,
-};
-
-const WEIGHT: WholeForm = WholeForm { least: 1, most: 10 };
-
-const COST: WholeForm = WholeForm {
-    least: 1,
-    most: 1_000_000,
-};
-
-const JOINS: ArrayForm<JoinForm> = ArrayForm {
-    least: 0,
-    most: 2,
-    item: JoinForm,
-};

@@ -2,7 +2,6 @@ pub mod Calls
 pub mod Counts
 pub mod Endings
 pub mod Following
-pub mod Holders
 pub mod Masks
 pub mod Notices
 pub mod Objects

@@ -29,16 +29,8 @@ mod answers;
 #[cfg(test)]
 mod examples;
 pub mod object;
-#[cfg(test)]
-mod player;
-#[cfg(test)]
-mod rows;
 mod slot;
 pub mod table;
-#[cfg(test)]
-mod tests;
-#[cfg(test)]
-mod worker_calls;
 
 pub use object::PlainObject;
 pub use one_thread::{OneSeat, OneTable, SlotObject, seat};

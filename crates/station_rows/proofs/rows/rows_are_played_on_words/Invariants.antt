@@ -1,4 +1,4 @@
-use Rattle.plain_slots.proofs.rows.rows_are_played.Given as goal
+use Rattle.station_rows.proofs.rows.rows_are_played_on_words.Given as goal
 
 abbrev pub ghosts-play : goal.ghosts-play
 ghosts-play g a = record { name = a.blank.name; parts = a.blank.parts }

@@ -6,7 +6,7 @@ ghost use Rattle.slot_history.specs.States as states;
 ghost use Rattle.slot_station.specs.declared.note.Note.TheVariants.{Kept};
 ghost use Rattle.slot_station.specs.Cells.{has_cell, fresh_note};
 ghost use Rattle.slot_station.specs.Desks.{own_place, own_holding, Owns, KeepsTrail};
-ghost use Rattle.plain_slots.specs.Played.{total_in};
+ghost use Rattle.station_rows.specs.Played.{total_in};
 ghost use Rattle.slot_station.specs.Tokens.{IsHolder};
 
 use slot_history::act::Act;
@@ -36,7 +36,7 @@ pub(crate) struct Sets {
 
 impl Fits for Piece {
     ghost use Rattle.std.specs.Prelude.{◌≡◌};
-    ghost use Rattle.plain_slots.specs.Played.{total_in};
+    ghost use Rattle.station_rows.specs.Played.{total_in};
 
     type Subject = Sets;
 

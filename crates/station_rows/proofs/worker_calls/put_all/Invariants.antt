@@ -1,7 +1,7 @@
 use Rattle.std.proofs.Common.{◌≡◌, ℕ, ◌<◌}
 use Rattle.slot_station.specs.Desks.{KeepsTrail}
 use Rattle.slot_station.specs.Cells.{fresh_note}
-use Rattle.plain_slots.proofs.worker_calls.put_all.Given as goal
+use Rattle.station_rows.proofs.worker_calls.put_all.Given as goal
 
 abbrev pub invariant-loop-worker : goal.invariant-loop-worker
 invariant-loop-worker g l =

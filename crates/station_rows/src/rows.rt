@@ -1,10 +1,13 @@
 //! Worked rows: what each worker calls on a table, in order, with the answers that it gets.
 ghost use Rattle.std.specs.Prelude.{◌≡◌, ◌<◌};
 
+use crate::form::Form;
 use crate::player::Player;
-use crate::worker_calls::Sets;
+use crate::worker_calls::{Piece, Sets};
+use plain_slots::table::PlainTable;
 use slot_history::act::Act;
 use slot_history::shape::STAGES;
+use slot_proto::proto::Proto;
 use slot_station::steps::Steps;
 use std::alloc::Global;
 use std::marker::Brand;
@@ -13,7 +16,12 @@ use std::sync::ledger::{Blank, Ledger};
 use std::test::Fail;
 
 /// A table for three queries, whose task sets have these totals.
-fn table(alloc: Global, slots: u32, workers: u32, totals: &[(u32, u32)]) -> Result<Player, Fail> {
+fn table<T: Form>(
+    alloc: Global,
+    slots: u32,
+    workers: u32,
+    totals: &[(u32, u32)],
+) -> Result<Player<T>, Fail> {
     let totals = totals.to_vec(alloc)?;
     Player::new(alloc, slots, workers, Sets { queries: 3, totals })
 }
@@ -41,12 +49,12 @@ fn shuts(worker: u32, s: u32, id: u32) -> [(u32, Act); 5] {
 }
 
 /// A marked worker pays before the sweep, which is the last then.
-fn pays_before_the_sweep<L: Ledger>(
+fn pays_before_the_sweep<T: Form, L: Ledger>(
     rt: &impl Abort,
     alloc: Global,
     steps: &mut Steps<L>,
 ) -> Result<(), Fail> {
-    let mut table = table(alloc, 1, 2, &[(0, 0)])?;
+    let mut table = table::<T>(alloc, 1, 2, &[(0, 0)])?;
     table.play(rt, &opens(0, 0, 0, 0), steps);
     let entries = [
         (0, Act::Tell),
@@ -61,20 +69,22 @@ fn pays_before_the_sweep<L: Ledger>(
         (1, Act::LookInvalid),
         (1, Act::LeaveOwe(0)),
         (1, Act::PayDone),
-        (0, Act::SweepLast),
     ];
     table.play(rt, &entries, steps);
+    table.expect_counter(rt, 0, 4_294_967_295);
+    table.play(rt, &[(0, Act::SweepLast)], steps);
+    table.expect_counter(rt, 0, 4_294_967_296);
     assert_eq!(rt; table.held(0), Some((Some(0), 0)));
     Ok(())
 }
 
 /// Two marked workers pay before the sweep, and neither is the last.
-fn two_pay_before_the_sweep<L: Ledger>(
+fn two_pay_before_the_sweep<T: Form, L: Ledger>(
     rt: &impl Abort,
     alloc: Global,
     steps: &mut Steps<L>,
 ) -> Result<(), Fail> {
-    let mut table = table(alloc, 1, 3, &[(0, 0)])?;
+    let mut table = table::<T>(alloc, 1, 3, &[(0, 0)])?;
     table.play(rt, &opens(0, 0, 0, 0), steps);
     let entries = [
         (0, Act::Tell),
@@ -94,20 +104,22 @@ fn two_pay_before_the_sweep<L: Ledger>(
         (2, Act::LeaveOwe(0)),
         (1, Act::PayDone),
         (2, Act::PayDone),
-        (0, Act::SweepLast),
     ];
     table.play(rt, &entries, steps);
+    table.expect_counter(rt, 0, 4_294_967_294);
+    table.play(rt, &[(0, Act::SweepLast)], steps);
+    table.expect_counter(rt, 0, 4_294_967_296);
     assert_eq!(rt; table.held(0), Some((Some(0), 0)));
     Ok(())
 }
 
 /// A worker that looked before the task set was installed is marked for it, and pays last.
-fn a_stranger_pays_last<L: Ledger>(
+fn a_stranger_pays_last<T: Form, L: Ledger>(
     rt: &impl Abort,
     alloc: Global,
     steps: &mut Steps<L>,
 ) -> Result<(), Fail> {
-    let mut table = table(alloc, 1, 2, &[(0, 0)])?;
+    let mut table = table::<T>(alloc, 1, 2, &[(0, 0)])?;
     table.play(rt, &[(1, Act::Enter(0)), (1, Act::LookVacant)], steps);
     table.play(rt, &opens(0, 0, 0, 0), steps);
     table.play(rt, &[(0, Act::Tell), (0, Act::Tell)], steps);
@@ -120,6 +132,7 @@ fn a_stranger_pays_last<L: Ledger>(
     ];
     table.play(rt, &entries, steps);
     assert_eq!(rt; table.held(1), Some((Some(0), 0)));
+    table.expect_counter(rt, 0, 4_294_967_296);
     let entries = [
         (1, Act::Note(1)),
         (1, Act::Release),
@@ -132,12 +145,12 @@ fn a_stranger_pays_last<L: Ledger>(
 }
 
 /// A table whose one slot served query 0, which worker 2 saw, and is empty again.
-fn after_a_query<L: Ledger>(
+fn after_a_query<T: Form, L: Ledger>(
     rt: &impl Abort,
     alloc: Global,
     steps: &mut Steps<L>,
-) -> Result<Player, Fail> {
-    let mut table = table(alloc, 1, 3, &[(0, 0), (8, 5), (9, 7)])?;
+) -> Result<Player<T>, Fail> {
+    let mut table = table::<T>(alloc, 1, 3, &[(0, 0), (8, 5), (9, 7)])?;
     table.play(rt, &opens(0, 0, 0, 0), steps);
     let entries = [
         (0, Act::Tell),
@@ -162,12 +175,12 @@ fn after_a_query<L: Ledger>(
 }
 
 /// A slot gets another query and its next task set while a worker keeps a notice of the query before.
-fn notices_outlive_a_query<L: Ledger>(
+fn notices_outlive_a_query<T: Form, L: Ledger>(
     rt: &impl Abort,
     alloc: Global,
     steps: &mut Steps<L>,
 ) -> Result<(), Fail> {
-    let mut table = after_a_query(rt, alloc, steps)?;
+    let mut table = after_a_query::<T, L>(rt, alloc, steps)?;
     table.play(rt, &opens(0, 0, 8, 5), steps);
     let entries = [
         (0, Act::Tell),
@@ -204,12 +217,12 @@ fn notices_outlive_a_query<L: Ledger>(
 }
 
 /// A slot is filled again before a worker that entered it has looked.
-fn filled_again<L: Ledger>(
+fn filled_again<T: Form, L: Ledger>(
     rt: &impl Abort,
     alloc: Global,
     steps: &mut Steps<L>,
 ) -> Result<(), Fail> {
-    let mut table = table(alloc, 1, 2, &[(0, 0), (8, 5)])?;
+    let mut table = table::<T>(alloc, 1, 2, &[(0, 0), (8, 5)])?;
     table.play(rt, &opens(0, 0, 0, 0), steps);
     table.play(rt, &[(0, Act::Tell), (0, Act::Tell)], steps);
     table.play(rt, &shuts(0, 0, 0), steps);
@@ -231,12 +244,12 @@ fn filled_again<L: Ledger>(
 }
 
 /// One of two workers reserves a slot, and the other learns its word.
-fn reserves_once<L: Ledger>(
+fn reserves_once<T: Form, L: Ledger>(
     rt: &impl Abort,
     alloc: Global,
     steps: &mut Steps<L>,
 ) -> Result<(), Fail> {
-    let mut table = table(alloc, 1, 2, &[(0, 0)])?;
+    let mut table = table::<T>(alloc, 1, 2, &[(0, 0)])?;
     let entries = [
         (0, Act::ReserveGot(0)),
         (1, Act::ReserveTaken(0, 1)),
@@ -255,12 +268,12 @@ fn reserves_once<L: Ledger>(
 }
 
 /// Three queries take turns in one slot.
-fn queries_take_turns<L: Ledger>(
+fn queries_take_turns<T: Form, L: Ledger>(
     rt: &impl Abort,
     alloc: Global,
     steps: &mut Steps<L>,
 ) -> Result<(), Fail> {
-    let mut table = table(alloc, 1, 1, &[(0, 3), (8, 3), (16, 3)])?;
+    let mut table = table::<T>(alloc, 1, 1, &[(0, 3), (8, 3), (16, 3)])?;
     for (id, word, finished) in [(0, 6, 1), (8, 38, 2), (16, 70, 3)] {
         table.play(rt, &opens(0, 0, id, 3), steps);
         let entries = [
@@ -286,12 +299,12 @@ fn queries_take_turns<L: Ledger>(
 }
 
 /// Two workers share the tuples of a task set.
-fn ranges_follow<L: Ledger>(
+fn ranges_follow<T: Form, L: Ledger>(
     rt: &impl Abort,
     alloc: Global,
     steps: &mut Steps<L>,
 ) -> Result<(), Fail> {
-    let mut table = table(alloc, 1, 2, &[(0, 100)])?;
+    let mut table = table::<T>(alloc, 1, 2, &[(0, 100)])?;
     table.play(rt, &opens(0, 0, 0, 100), steps);
     let entries = [
         (0, Act::Tell),
@@ -310,12 +323,12 @@ fn ranges_follow<L: Ledger>(
 }
 
 /// Two workers find a task set used up, and the second is marked though it came to shut it.
-fn one_of_two_shuts<L: Ledger>(
+fn one_of_two_shuts<T: Form, L: Ledger>(
     rt: &impl Abort,
     alloc: Global,
     steps: &mut Steps<L>,
 ) -> Result<(), Fail> {
-    let mut table = table(alloc, 2, 2, &[(0, 0)])?;
+    let mut table = table::<T>(alloc, 2, 2, &[(0, 0)])?;
     table.play(rt, &opens(0, 1, 0, 0), steps);
     let entries = [
         (0, Act::Tell),
@@ -339,25 +352,63 @@ fn one_of_two_shuts<L: Ledger>(
     Ok(())
 }
 
+/// The last of 65 slots is opened, and later opened again. Its notices are in the masks of the second part alone.
+fn notices_of_the_second_part<T: Form, L: Ledger>(
+    rt: &impl Abort,
+    alloc: Global,
+    steps: &mut Steps<L>,
+) -> Result<(), Fail> {
+    let mut table = table::<T>(alloc, 65, 2, &[(0, 0), (1, 5)])?;
+    table.play(rt, &opens(0, 64, 0, 0), steps);
+    let entries = [
+        (0, Act::Tell),
+        (0, Act::Tell),
+        (1, Act::TakeChange(1, 1)),
+        (1, Act::TakeChange(0, 0)),
+    ];
+    table.play(rt, &entries, steps);
+    table.play(rt, &shuts(0, 64, 0), steps);
+    let entries = [
+        (0, Act::MarkMissed),
+        (0, Act::SweepLast),
+        (0, Act::Note(1)),
+        (0, Act::Total(5)),
+        (0, Act::Install(1)),
+        (0, Act::Tell),
+        (0, Act::Tell),
+        (1, Act::TakeReturn(1, 1)),
+        (1, Act::TakeReturn(0, 0)),
+        (1, Act::TakeChange(1, 0)),
+    ];
+    table.play(rt, &entries, steps);
+    Ok(())
+}
+
 /// Plays the rows, in the ledger that the caller picks.
-fn play<L: Ledger>(rt: &impl Abort, alloc: Global, blank: Blank) -> Result<(), Fail>
+fn play<T: Form, L: Ledger>(rt: &impl Abort, alloc: Global, blank: Blank) -> Result<(), Fail>
     requires name { blank.name ≡ L.name }
     requires parts { blank.parts ≡ L.parts }
     requires some { 0 < blank.parts }
 {
     let mut steps = Steps::<L>::start(blank);
-    pays_before_the_sweep(rt, alloc, &mut steps)?;
-    two_pay_before_the_sweep(rt, alloc, &mut steps)?;
-    a_stranger_pays_last(rt, alloc, &mut steps)?;
-    notices_outlive_a_query(rt, alloc, &mut steps)?;
-    filled_again(rt, alloc, &mut steps)?;
-    reserves_once(rt, alloc, &mut steps)?;
-    queries_take_turns(rt, alloc, &mut steps)?;
-    ranges_follow(rt, alloc, &mut steps)?;
-    one_of_two_shuts(rt, alloc, &mut steps)
+    pays_before_the_sweep::<T, L>(rt, alloc, &mut steps)?;
+    two_pay_before_the_sweep::<T, L>(rt, alloc, &mut steps)?;
+    a_stranger_pays_last::<T, L>(rt, alloc, &mut steps)?;
+    notices_outlive_a_query::<T, L>(rt, alloc, &mut steps)?;
+    filled_again::<T, L>(rt, alloc, &mut steps)?;
+    reserves_once::<T, L>(rt, alloc, &mut steps)?;
+    queries_take_turns::<T, L>(rt, alloc, &mut steps)?;
+    ranges_follow::<T, L>(rt, alloc, &mut steps)?;
+    one_of_two_shuts::<T, L>(rt, alloc, &mut steps)?;
+    notices_of_the_second_part::<T, L>(rt, alloc, &mut steps)
 }
 
 #[test]
-fn rows_are_played(rt: HostRuntime) -> Result<(), Fail> {
-    play::<Brand>(&rt, rt.alloc(), Blank::new(1))
+fn rows_are_played_on_states(rt: HostRuntime) -> Result<(), Fail> {
+    play::<PlainTable<Piece>, Brand>(&rt, rt.alloc(), Blank::new(1))
+}
+
+#[test]
+fn rows_are_played_on_words(rt: HostRuntime) -> Result<(), Fail> {
+    play::<Proto<Piece>, Brand>(&rt, rt.alloc(), Blank::new(1))
 }

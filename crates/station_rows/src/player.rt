@@ -2,7 +2,7 @@
 ghost use Rattle.std.specs.Prelude.{◌≡◌, ◌<◌};
 ghost use Rattle.slot_station.specs.Desks.{own_place};
 
-use crate::table::PlainTable;
+use crate::form::Form;
 use crate::worker_calls;
 use crate::worker_calls::{Hand, Piece, Sets};
 use slot_history::act::Act;
@@ -12,23 +12,27 @@ use slot_station::steps::Steps;
 use std::alloc::Global;
 use std::mem;
 use std::process::Abort;
-use std::snapshot::Snapshot;
 use std::sync::ledger::Ledger;
 use std::test::Fail;
 
 /// A table, the subject that it serves, and what each worker has in hand.
 #[derive(Drop)]
-pub(crate) struct Player {
-    table: PlainTable<Piece>,
+pub(crate) struct Player<T: Form> {
+    table: T,
     sets: Sets,
     hands: Vec<Hand>,
-    ghost subject: { table.subject ≡ sets },
+    ghost subject: { T.serves table ≡ sets },
 }
 
-impl Player {
+impl<T: Form> Player<T> {
     /// A table of so many slots and workers, for this subject.
-    pub(crate) fn new(alloc: Global, slots: u32, workers: u32, sets: Sets) -> Result<Player, Fail> {
-        let table = PlainTable::make(alloc, slots, workers, sets.queries, Snapshot::of(&sets))?;
+    pub(crate) fn new(
+        alloc: Global,
+        slots: u32,
+        workers: u32,
+        sets: Sets,
+    ) -> Result<Player<T>, Fail> {
+        let table = T::make(alloc, slots, workers, &sets)?;
         let mut hands = Vec::with_capacity(alloc, workers as usize)?;
         for _ in 0..workers {
             hands.push(Hand::Nothing)?;
@@ -44,13 +48,9 @@ impl Player {
         act: &Act,
         steps: &mut Steps<L>,
     ) -> Act {
-        assert!(rt; worker < self.table.shape().workers);
         assert!(rt; (worker as usize) < self.hands.len());
         let hand = mem::replace(&mut self.hands[worker as usize], Hand::Nothing);
-        let mut seat = self.table.seat(worker);
-        let place = seat.place();
-        let (made, hand) = call(rt, &mut seat, &place, &self.sets, hand, act, steps);
-        drop(seat);
+        let (made, hand) = self.table.call(rt, worker, &self.sets, hand, act, steps);
         self.hands[worker as usize] = hand;
         made
     }
@@ -60,6 +60,13 @@ impl Player {
         match self.hands.get(worker as usize) {
             Some(Hand::Holder(holder)) => Some((holder.query, holder.stage)),
             _ => None,
+        }
+    }
+
+    /// The counter of the slot holds this word, where the form has words.
+    pub(crate) fn expect_counter(&self, rt: &impl Abort, slot: u32, word: u64) {
+        if let Some(counter) = self.table.counter(rt, slot) {
+            assert_eq!(rt; counter, word, "the counter of slot {slot}");
         }
     }
 
@@ -82,7 +89,7 @@ impl Player {
 
 /// The call of this entry, through the bound of a station. The answer is the entry that it made, and what the worker has in
 /// hand after it.
-fn call<S: Station<Piece>, L: Ledger>(
+pub(crate) fn call<S: Station<Piece>, L: Ledger>(
     rt: &impl Abort,
     station: &mut S,
     place: &Place,

@@ -1,16 +1,19 @@
-//! The limits of tables, and lists that only contracts see.
-ghost use Rattle.std.specs.Prelude.{◌≡◌, ℕ, [], ◌∷◌, IfOk};
+//! The limits of tables, on each form, and the history of a table that nobody used.
+ghost use Rattle.std.specs.Prelude.{◌≡◌, [], IfOk};
 
-use crate::table::PlainTable;
+use crate::form::Form;
 use crate::worker_calls::{Piece, Sets};
-use slot_station::notes::{History, Memo};
+use plain_slots::table::PlainTable;
+use slot_proto::proto::Proto;
+use slot_station::notes::History;
 use slot_station::reply::MakeRefusal;
-use std::alloc::{AllocError, Global};
+use std::alloc::Global;
+use std::process::Abort;
 use std::snapshot::Snapshot;
 use std::test::Fail;
 
-#[test]
-fn tables_have_limits(rt: HostRuntime) -> Result<(), Fail> {
+/// Asks for tables at each limit and just past it. The answer at the largest table is a table.
+fn ask_for_tables<T: Form>(rt: &impl Abort, alloc: Global) {
     let rows = [
         ((0, 1, 1), Some(MakeRefusal::BadSlots)),
         ((129, 1, 1), Some(MakeRefusal::BadSlots)),
@@ -21,19 +24,16 @@ fn tables_have_limits(rt: HostRuntime) -> Result<(), Fail> {
         ((128, 64, 4096), None),
     ];
     for ((slots, workers, queries), refusal) in rows {
-        let sets = Sets {
-            queries,
-            totals: Vec::new(rt.alloc()),
-        };
-        let table = PlainTable::<Piece>::make(
-            rt.alloc(),
-            slots,
-            workers,
-            queries,
-            Snapshot::of(&sets),
-        );
+        let totals = Vec::new(alloc);
+        let table = T::make(alloc, slots, workers, &Sets { queries, totals });
         assert_eq!(rt; table.err(), refusal, "at {slots}, {workers}, {queries}");
     }
+}
+
+#[test]
+fn tables_have_limits(rt: HostRuntime) -> Result<(), Fail> {
+    ask_for_tables::<PlainTable<Piece>>(&rt, rt.alloc());
+    ask_for_tables::<Proto<Piece>>(&rt, rt.alloc());
     Ok(())
 }
 
@@ -50,22 +50,5 @@ fn tables_end(rt: HostRuntime) -> Result<(), Fail> {
     let totals = Vec::new(rt.alloc());
     let history = unused(rt.alloc(), &Sets { queries: 0, totals })?;
     drop(history);
-    Ok(())
-}
-
-/// A memo of two numbers.
-fn two_noted(alloc: Global) -> Result<Memo, AllocError>
-    ensures { IfOk result (λ memo. memo ≡ 5 ∷ 16 ∷ []) }
-{
-    let mut memo = Memo::new(alloc)?;
-    memo.note(5);
-    memo.note(16);
-    Ok(memo)
-}
-
-#[test]
-fn memos_keep_numbers(rt: HostRuntime) -> Result<(), Fail> {
-    let memo = two_noted(rt.alloc())?;
-    drop(memo);
     Ok(())
 }

@@ -1,8 +1,8 @@
 use Rattle.std.proofs.Common.{◌≡◌, rules}
 use Rattle.slot_history.specs.declared.place.Place.TheVariants.{Holding}
 use Rattle.slot_station.specs.Desks.{own_place}
-use Rattle.plain_slots.proofs.Holders.{token, is-holder}
-use Rattle.plain_slots.proofs.worker_calls.held_as.Goals as goal
+use Rattle.station_rows.proofs.Holders.{token, is-holder}
+use Rattle.station_rows.proofs.worker_calls.held_as.Goals as goal
 
 pub returns-clause-holder : goal.returns-clause-holder
 returns-clause-holder g c =

@@ -1,9 +1,11 @@
+mod BehaviourLemmas
+mod CommandLemmas
 mod CompletenessLemmas
-mod EndingsLemmas
-mod FaultsLemmas
-mod OutcomesLemmas
+mod FaultLemmas
+mod OutsideLemmas
 mod PrintedLemmas
 mod QueriesLemmas
+mod RefusalLemmas
 mod ScriptsLemmas
 mod SubjectsLemmas
 mod UniqueLemmas

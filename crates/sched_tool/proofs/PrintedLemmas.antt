@@ -5,7 +5,7 @@ use Rattle.std.specs.Fmt.{signed_decimal}
 use Rattle.plan_ast.specs.declared.answers.AggValue.TheVariants.{Sum}
 use Rattle.plan_ast.specs.declared.answers.Answer.{Answer}
 use Rattle.plan_ast.specs.declared.answers.Answer.TheVariants.{Totals}
-use Rattle.sched_tool.specs.Answers.{reply_lines, reply_bytes, line}
+use Rattle.sched_tool.specs.PrintedAnswers.{reply_lines, reply_bytes, line}
 use Rattle.sched_tool.specs.declared.answers_text.Reply.TheVariants as reply
 use Rattle.sched_tool.specs.declared.answers_text.QueryReply.{QueryReply}
 

@@ -1,5 +1,5 @@
 -- Queries one after another.
-use Rattle.std.proofs.Common.{◌≡◌, ℕ, ◌+◌, ◌<◌, List, [], ◌∷◌, ◌++◌, length, map, take, get_or, All, Some, None, sym, ap, ◌∙◌, subst, inl, inr, ◌⊎◌, arith}
+use Rattle.std.proofs.Common.{◌≡◌, ℕ, ◌+◌, ◌<◌, List, [], ◌∷◌, ◌++◌, length, map, take, get_or, All, Some, None, sym, ap, ◌∙◌, subst, inl, inr, refl, ◌⊎◌, arith}
 use Rattle.std.specs.List.{enumerate_from}
 use Rattle.std.proofs.lemmas.List.{get_or-map, length-map, length-take-le, map-append, take_more}
 use Rattle.std.proofs.lemmas.List.Elements.{All-push}
@@ -13,8 +13,8 @@ use Rattle.plan_ast.specs.declared.checks.PlanRefusal.{PlanRefusal}
 use Rattle.plan_ast.specs.declared.checks.PlanRefusal.TheVariants.{UnknownTable, UnknownColumn, OutOfMemory}
 use Rattle.plan_ast.specs.declared.queries.NamedTable.{NamedTable}
 use Rattle.plan_ast.specs.declared.queries.Query.{Query}
-use Rattle.sched_tool.specs.Openings.{IsQueryRefused, query_refusal}
-use Rattle.sched_tool.specs.Outcomes.{replies_of}
+use Rattle.sched_tool.specs.Behaviours.{replies_of}
+use Rattle.sched_tool.specs.Refusals.{AreQueriesRefused, IsFirstRefused, query_refusal}
 use Rattle.sched_tool.specs.Subjects.{AllFound}
 use Rattle.sched_tool.specs.declared.answers_text.QueryReply.{QueryReply}
 use Rattle.sched_tool.specs.declared.answers_text.Reply.TheVariants.{Answer}
@@ -30,13 +30,16 @@ AllFound-more tables queries number query short is before found =
     let P : Query → Type 0 = λ q. refusal_of tables q ≡ None in
     subst (All P) (ap (λ q. take number queries ++ q ∷ []) is ∙ sym (take_more queries number query short)) (All-push P (take number queries) query before found)
 
+first_is : (subject : Subject) (number : ℕ) (query : Query) (refusal : PlanRefusal) → number < length subject.queries → query ≡ get_or subject.queries number query → AllFound subject.tables (take number subject.queries) → refusal_of subject.tables query ≡ Some refusal → IsFirstRefused subject number refusal
+first_is subject number query refusal short is first e = record { query = query; is = slice_get-get_or subject.queries number query short ∙ ap (λ v. Some v) (sym is); refused = e; first = first }
+
 -- the first query that is refused
-pub IsQueryRefused-first : (subject : Subject) (number : ℕ) (query : Query) (refusal : PlanRefusal) → number < length subject.queries → query ≡ get_or subject.queries number query → AllFound subject.tables (take number subject.queries) → ((refusal ≡ OutOfMemory) ⊎ (refusal_of subject.tables query ≡ Some refusal)) → IsQueryRefused subject (query_refusal number refusal)
-IsQueryRefused-first subject number query (UnknownTable name) short is first (inl e) = absurd (cc)
-IsQueryRefused-first subject number query (UnknownTable name) short is first (inr e) = record { query = query; is = slice_get-get_or subject.queries number query short ∙ ap (λ v. Some v) (sym is); refused = e; first = first }
-IsQueryRefused-first subject number query (UnknownColumn name) short is first (inl e) = absurd (cc)
-IsQueryRefused-first subject number query (UnknownColumn name) short is first (inr e) = record { query = query; is = slice_get-get_or subject.queries number query short ∙ ap (λ v. Some v) (sym is); refused = e; first = first }
-IsQueryRefused-first subject number query OutOfMemory short is first e = tt
+pub first_refused : (subject : Subject) (number : ℕ) (query : Query) (refusal : PlanRefusal) → number < length subject.queries → query ≡ get_or subject.queries number query → AllFound subject.tables (take number subject.queries) → ((refusal ≡ OutOfMemory) ⊎ (refusal_of subject.tables query ≡ Some refusal)) → AreQueriesRefused subject (query_refusal number refusal)
+first_refused subject number query (UnknownTable name) short is first (inl e) = absurd (cc)
+first_refused subject number query (UnknownTable name) short is first (inr e) = inr (number, UnknownTable name, refl, first_is subject number query (UnknownTable name) short is first e)
+first_refused subject number query (UnknownColumn name) short is first (inl e) = absurd (cc)
+first_refused subject number query (UnknownColumn name) short is first (inr e) = inr (number, UnknownColumn name, refl, first_is subject number query (UnknownColumn name) short is first e)
+first_refused subject number query OutOfMemory short is first e = inl refl
 
 -- the queries of checked queries have a form that all queries have
 pub All-query_of : (P : Query → Type 0) (all : List Checked) (queries : List Query) → map query_of all ≡ queries → All P queries → All (λ c. P (query_of c)) all

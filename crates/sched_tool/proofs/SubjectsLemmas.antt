@@ -1,7 +1,8 @@
--- What files hold, and what is told of them.
+-- What files hold.
 use Rattle.std.proofs.Common.{◌≡◌, ℕ, zero, suc, ◌<◌, List, [], ◌∷◌, ◌++◌, length, Option, Some, None, IfSome, refl, arith}
 use Rattle.plan_ast.specs.declared.queries.NamedTable.{NamedTable}
-use Rattle.sched_tool.specs.Subjects.{HoldsTable, HoldTables}
+use Rattle.sched_tool.specs.Outsides.{Outside, possible}
+use Rattle.sched_tool.specs.Subjects.{HoldsTable, HoldsTooMuch, HoldTables}
 use Rattle.sched_tool.specs.declared.read_script.TableEntry.{TableEntry}
 
 -- contents that are the same at every name are the same
@@ -13,14 +14,17 @@ some_longer : (n : ℕ) → (bytes : List ℕ) × (n < length bytes)
 some_longer zero = (0 ∷ [], omega arith)
 some_longer (suc n) = let rest : (bytes : List ℕ) × (n < length bytes) = some_longer n in (0 ∷ rest.0, omega arith)
 
--- bytes that a file may hold, where it is too long as far as it is told
-pub held_too_long : (told : Option (List ℕ)) (limit : ℕ) → IfSome told (λ file. limit < length file) → (bytes : List ℕ) × IfSome told (λ file. bytes ≡ file) × (limit < length bytes)
-held_too_long None limit h = let longer = some_longer limit in (longer.0, tt, longer.1)
-held_too_long (Some file) limit h = (file, refl, h)
+-- bytes that a file may hold, if what is known of it is too long
+longer_bytes : (content : Option (List ℕ)) (limit : ℕ) → IfSome content (λ file. limit < length file) → (bytes : List ℕ) × IfSome content (λ file. bytes ≡ file) × (limit < length bytes)
+longer_bytes None limit h = let longer = some_longer limit in (longer.0, tt, longer.1)
+longer_bytes (Some file) limit h = (file, refl, h)
+
+pub holds_too_much : (content : List ℕ → Option (List ℕ)) (file : List ℕ) → IfSome (content file) (λ bytes. 67_108_864 < length bytes) → HoldsTooMuch (possible content) file
+holds_too_much content file long = let bytes = longer_bytes (content file) 67_108_864 long in record { bytes = bytes.0; held = bytes.1; long = bytes.2 }
 
 -- one more table
-pub HoldTables-push : (holds : List ℕ → List ℕ → Type 0) (entries : List TableEntry) (entry : TableEntry) (tables : List NamedTable) (table : NamedTable) → HoldTables holds entries tables → HoldsTable holds entry table → HoldTables holds (entries ++ entry ∷ []) (tables ++ table ∷ [])
-HoldTables-push holds [] entry [] table all one = (one, tt)
-HoldTables-push holds [] entry (t ∷ ts) table all one = elim all [ ]
-HoldTables-push holds (e ∷ es) entry [] table all one = elim all [ ]
-HoldTables-push holds (e ∷ es) entry (t ∷ ts) table all one = (all.0, HoldTables-push holds es entry ts table all.1 one)
+pub HoldTables-push : (outside : Outside) (entries : List TableEntry) (entry : TableEntry) (tables : List NamedTable) (table : NamedTable) → HoldTables outside entries tables → HoldsTable outside entry table → HoldTables outside (entries ++ entry ∷ []) (tables ++ table ∷ [])
+HoldTables-push outside [] entry [] table all one = (one, tt)
+HoldTables-push outside [] entry (t ∷ ts) table all one = elim all [ ]
+HoldTables-push outside (e ∷ es) entry [] table all one = elim all [ ]
+HoldTables-push outside (e ∷ es) entry (t ∷ ts) table all one = (all.0, HoldTables-push outside es entry ts table all.1 one)

@@ -1,8 +1,13 @@
--- The commands that words were read to.
-use Rattle.std.specs.Prelude.{List, Option, String, map}
+-- The commands that words were read to, and what a command gives.
+use Rattle.std.specs.Prelude.{◌≡◌, ◌⊎◌, ℕ, List, Option, String, map}
 use Rattle.std.specs.Global.{Global}
 use Rattle.std.specs.String.{string_bytes}
-use Rattle.sched_tool.specs.Words.{Meaning, check, meaning_of}
+use Rattle.sched_tool.specs.Behaviours.{Behaviour, behaviour_of}
+use Rattle.sched_tool.specs.Outsides.{Outside}
+use Rattle.sched_tool.specs.ReadFaults.{FaultsAt}
+use Rattle.sched_tool.specs.Words.{check, Meaning, meaning_of}
+use Rattle.sched_tool.specs.declared.output.Output.{Output}
+use Rattle.sched_tool.specs.declared.refusal.Refusal.{Refusal}
 use Rattle.sched_tool.specs.declared.words.Command.{Command}
 use Rattle.sched_tool.specs.declared.words.Command.TheVariants.{Check}
 
@@ -13,3 +18,18 @@ asked_by (Check file) = check file.now
 -- what the words ask for; none where they are outside the grammar
 abbrev pub asked : List (String Global) → Option Meaning
 asked words = meaning_of (map string_bytes words)
+
+-- the behaviour of the command that the words ask for
+abbrev pub behaviour_asked : List (String Global) → Behaviour
+behaviour_asked words = behaviour_of (asked words)
+
+-- a command gave a text: it answers the command whole, at status 0, or but for memory, at 7; no read met a fault
+pub record Gives (does : Behaviour) (outside : Outside) (old new : List (List ℕ)) (output : Output) : Type 0 where
+  pub no_fault : new ≡ old
+  pub text : ((output.status ≡ 0) × does.answers outside output.text.items)
+      ⊎ ((output.status ≡ 7) × does.answers_in_part outside output.text.items)
+
+-- a command gave up for this reason, and reads met the faults that go with it
+pub record GivesUp (does : Behaviour) (outside : Outside) (old new : List (List ℕ)) (refusal : Refusal) : Type 0 where
+  pub cause : does.refuses outside refusal
+  pub faults : FaultsAt refusal old new

@@ -1,10 +1,12 @@
-pub mod Answers
+pub mod Behaviours
 pub mod Commands
-pub mod Endings
 pub mod ErrorLines
-pub mod Openings
-pub mod Outcomes
+pub mod Outsides
+pub mod PrintedAnswers
+pub mod ReadFaults
+pub mod Refusals
 pub mod Scripts
+pub mod Statuses
 pub mod Subjects
-pub mod Told
 pub mod Words
+pub mod Writing

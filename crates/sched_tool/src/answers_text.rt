@@ -1,6 +1,6 @@
 // The printed text of answers.
 ghost use Rattle.std.specs.Prelude.{◌≡◌, [], ◌∷◌, ◌++◌, All, IfOk, OnOk, string_bytes};
-ghost use Rattle.sched_tool.specs.Answers.{CanBePrinted, IsSum, answers_bytes, reply_bytes};
+ghost use Rattle.sched_tool.specs.PrintedAnswers.{CanBePrinted, IsSum, answers_bytes, reply_bytes};
 
 use plan_ast::{AggValue, Answer};
 use std::alloc::{AllocError, Global};

@@ -1,16 +1,16 @@
 //! The command `check`: the answers to the queries of a script, one after another.
-ghost use Rattle.std.specs.Prelude.{◌≡◌, ◌≤◌, ℕ, List, All, Some, Err, IfErr, IfOk, OnOk, length, map};
-ghost use Rattle.outside_io.specs.Faults.{Grew, NameFailed};
+ghost use Rattle.std.specs.Prelude.{◌≡◌, ◌≤◌, ℕ, List, All, IfErr, IfOk, OnOk, length, map};
 ghost use Rattle.plan_ast.specs.Checks.{IsCheckedFor, IsOneSum, query_of};
-ghost use Rattle.sched_tool.specs.Answers.{CanBePrinted};
-ghost use Rattle.sched_tool.specs.Told.{MayHold};
+ghost use Rattle.sched_tool.specs.Behaviours.{OneAnswer, check_behaviour, check_text, replies_of};
+ghost use Rattle.sched_tool.specs.Commands.{Gives, GivesUp};
+ghost use Rattle.sched_tool.specs.Outsides.{possible};
+ghost use Rattle.sched_tool.specs.PrintedAnswers.{CanBePrinted};
+ghost use Rattle.sched_tool.specs.Refusals.{AreQueriesRefused, query_refusal};
 ghost use Rattle.sched_tool.specs.Subjects.{AllFound};
-ghost use Rattle.sched_tool.specs.Openings.{IsQueryRefused, query_refusal};
-ghost use Rattle.sched_tool.specs.Outcomes.{IsCheckRefused, Answers, OneAnswer, check_text, replies_of};
-ghost use Rattle.sched_tool.specs.Words.{check as asks_check};
 ghost use Rattle.sched_tool.specs.declared.read_script.TheConstants.{MOST_QUERIES};
 
 use super::answers_text::{QueryReply, Reply, answers_text};
+use super::output::Output;
 use super::plain_answer::plain_answer;
 use super::read_script::Script;
 use super::refusal::{Refusal, ScriptFault};
@@ -19,25 +19,25 @@ use outside_io::Files;
 use plan_ast::{Checked, NamedTable, PlanRefusal, Query, check};
 use std::alloc::{AllocError, Global};
 
-/// The text of `check` for the script in a file: the answer to each query, and `end`.
+/// `check` of the script in a file: the answer to each query, and `end`.
 ///
 /// The script is read first, then each of its tables; then each query is checked, and last each is answered.
 /// The first refusal ends it.
-pub fn check_script<F: Files>(alloc: Global, files: &mut F, file: &str) -> Result<Vec<u8>, Refusal>
+pub fn check_script<F: Files>(alloc: Global, files: &mut F, file: &str) -> Result<Output, Refusal>
     ensures kept { (any : List ℕ) → F.content files.new any ≡ F.content files.old any }
-    ensures grew { Grew (F.failed files.old) (F.failed files.new) }
-    ensures ok { IfOk result (λ text. Answers (MayHold (F.content files.old)) (Some (asks_check file.now)) text.items) }
-    ensures err { IfErr result (IsCheckRefused (MayHold (F.content files.old)) file.now) }
-    ensures fault { (name : List ℕ) → result ≡ Err (Refusal.CannotRead name) →
-        NameFailed (F.failed files.old) (F.failed files.new) name }
+    ensures ok { IfOk result (Gives (check_behaviour file.now) (possible (F.content files.old))
+        (F.failed files.old) (F.failed files.new)) }
+    ensures err { IfErr result (GivesUp (check_behaviour file.now) (possible (F.content files.old))
+        (F.failed files.old) (F.failed files.new)) }
 {
     let Script { tables, queries } = open_script(alloc, files, file)?;
     let tables = open_tables(alloc, files, tables)?;
     let checked = check_queries(alloc, tables.as_slice(), queries.as_slice())?;
-    Ok(text_of(alloc, tables.as_slice(), checked.as_slice())?)
+    let text = text_of(alloc, tables.as_slice(), checked.as_slice())?;
+    Ok(Output::whole(text))
 }
 
-/// Where the files are told, an accepted script has one answer.
+/// An accepted script has one answer where its files are known.
 pub fn one_answer()
     ensures { OneAnswer }
 {}
@@ -53,7 +53,7 @@ fn check_queries(
     ensures same { IfOk result (λ checked. map query_of checked.items ≡ queries.now) }
     ensures placed { IfOk result (λ checked. All (IsCheckedFor tables.now) checked.items) }
     ensures found { OnOk result (AllFound tables.now queries.now) }
-    ensures err { IfErr result (IsQueryRefused (record { tables = tables.now; queries = queries.now })) }
+    ensures err { IfErr result (AreQueriesRefused (record { tables = tables.now; queries = queries.now })) }
 {
     let mut all = Vec::with_capacity(alloc, queries.len())?;
     for (number, query) in queries.iter().enumerate() {
@@ -65,20 +65,13 @@ fn check_queries(
     Ok(all)
 }
 
-// The refusal of a command that a refused query brings.
-fn refusal_of_query(query: u32, refusal: PlanRefusal) -> Refusal
-    ensures { result ≡ query_refusal query refusal }
+// The refusal of `check` that a refused query brings.
+fn refusal_of_query(number: u32, refusal: PlanRefusal) -> Refusal
+    ensures { result ≡ query_refusal number refusal }
 {
     match refusal {
-        PlanRefusal::UnknownTable(name) => Refusal::Script(ScriptFault::UnknownTable {
-            query,
-            name,
-        }),
-        PlanRefusal::UnknownColumn(name) => Refusal::Script(ScriptFault::UnknownColumn {
-            query,
-            name,
-        }),
         PlanRefusal::OutOfMemory => Refusal::OutOfMemory,
+        refusal => Refusal::Script(ScriptFault::Query { number, refusal }),
     }
 }
 

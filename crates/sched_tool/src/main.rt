@@ -10,9 +10,12 @@
 mod answers_text;
 mod check;
 mod command;
+mod error_lines;
+mod output;
 mod plain_answer;
 mod read_script;
 mod refusal;
+mod status;
 mod subject;
 #[cfg(test)]
 mod tests;

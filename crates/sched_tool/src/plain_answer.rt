@@ -2,7 +2,7 @@
 ghost use Rattle.std.specs.Prelude.{◌≡◌, ◌+ℤ◌, IfOk, fold, pos};
 ghost use Rattle.plan_ast.specs.Answer.{answer_of};
 ghost use Rattle.plan_ast.specs.Checks.{IsCheckedFor, IsOneSum, query_of};
-ghost use Rattle.sched_tool.specs.Answers.{IsSum};
+ghost use Rattle.sched_tool.specs.PrintedAnswers.{IsSum};
 
 use col_table::ListOf;
 use plan_ast::{AggValue, Answer, Checked, NamedTable};

@@ -1,10 +1,10 @@
 //! The script and the tables of a command, read from their files.
-ghost use Rattle.std.specs.Prelude.{◌≡◌, ◌≤◌, ◌⊎◌, ℕ, List, All, Err, IfErr, IfOk, length};
-ghost use Rattle.outside_io.specs.Faults.{Grew, NameFailed};
+ghost use Rattle.std.specs.Prelude.{◌≡◌, ◌≤◌, ℕ, List, All, IfErr, IfOk, OnOk, length};
 ghost use Rattle.plan_ast.specs.Checks.{IsOneSum};
-ghost use Rattle.sched_tool.specs.Told.{MayHold};
+ghost use Rattle.sched_tool.specs.Outsides.{possible};
+ghost use Rattle.sched_tool.specs.ReadFaults.{FaultsAt};
 ghost use Rattle.sched_tool.specs.Subjects.{HoldsScript, HoldsTable, HoldTables};
-ghost use Rattle.sched_tool.specs.Openings.{IsScriptFileRefused, IsTableFileRefused, AreTablesRefused};
+ghost use Rattle.sched_tool.specs.Refusals.{AreTablesRefused, IsCheckRefused, IsEntryRefused};
 ghost use Rattle.sched_tool.specs.declared.read_script.TheConstants.{MOST_QUERIES};
 
 use super::read_script::{Script, ScriptRefusal, TableEntry, read_script};
@@ -13,38 +13,28 @@ use col_table::{ListOf, Text};
 use csv_tables::{TableRefusal, load};
 use outside_io::{Files, MOST_BYTES, ReadRefusal, read_whole};
 use plan_ast::NamedTable;
-use std::alloc::{AllocError, Global};
+use std::alloc::Global;
 
 /// Reads the script that a file holds.
 pub fn open_script<F: Files>(alloc: Global, files: &mut F, file: &str) -> Result<Script, Refusal>
     ensures kept { (any : List ℕ) → F.content files.new any ≡ F.content files.old any }
-    ensures grew { Grew (F.failed files.old) (F.failed files.new) }
-    ensures ok { IfOk result (HoldsScript (MayHold (F.content files.old)) file.now) }
+    ensures ok { IfOk result (HoldsScript (possible (F.content files.old)) file.now) }
+    ensures no_fault { OnOk result (F.failed files.new ≡ F.failed files.old) }
     ensures form { IfOk result (λ script. All IsOneSum script.queries × (length script.queries ≤ MOST_QUERIES)) }
-    ensures err { IfErr result (IsScriptFileRefused (MayHold (F.content files.old)) file.now) }
-    ensures fault { (name : List ℕ) → result ≡ Err (Refusal.CannotRead name) →
-        NameFailed (F.failed files.old) (F.failed files.new) name }
+    ensures err { IfErr result (IsCheckRefused (possible (F.content files.old)) file.now) }
+    ensures faults { IfErr result (λ refusal. FaultsAt refusal (F.failed files.old) (F.failed files.new)) }
 {
+    let name = Text::of(String::from_str(alloc, file)?);
     let bytes = match read_whole(alloc, files, file, MOST_BYTES) {
         Ok(bytes) => bytes,
-        Err(ReadRefusal::Failed) => return Err(cannot_read(alloc, file)),
+        Err(ReadRefusal::Failed) => return Err(Refusal::CannotRead(name)),
         Err(ReadRefusal::TooLong) => return Err(Refusal::Script(ScriptFault::TooLong)),
         Err(ReadRefusal::OutOfMemory) => return Err(Refusal::OutOfMemory),
     };
     match read_script(alloc, bytes.as_slice()) {
         Ok(script) => Ok(script),
-        Err(ScriptRefusal::NotThisForm) => Err(Refusal::Script(ScriptFault::NotThisForm)),
         Err(ScriptRefusal::OutOfMemory) => Err(Refusal::OutOfMemory),
-    }
-}
-
-// The refusal that names a file that could not be read.
-fn cannot_read(alloc: Global, file: &str) -> Refusal
-    ensures { (result ≡ Refusal.CannotRead file.now) ⊎ (result ≡ Refusal.OutOfMemory) }
-{
-    match String::from_str(alloc, file) {
-        Ok(file) => Refusal::CannotRead(Text::of(file)),
-        Err(AllocError) => Refusal::OutOfMemory,
+        Err(refusal) => Err(Refusal::Script(ScriptFault::Unread(refusal))),
     }
 }
 
@@ -55,11 +45,10 @@ pub fn open_tables<F: Files>(
     entries: ListOf<TableEntry>,
 ) -> Result<Vec<NamedTable>, Refusal>
     ensures kept { (any : List ℕ) → F.content files.new any ≡ F.content files.old any }
-    ensures grew { Grew (F.failed files.old) (F.failed files.new) }
-    ensures ok { IfOk result (λ tables. HoldTables (MayHold (F.content files.old)) entries tables.items) }
-    ensures err { IfErr result (AreTablesRefused (MayHold (F.content files.old)) entries) }
-    ensures fault { (name : List ℕ) → result ≡ Err (Refusal.CannotRead name) →
-        NameFailed (F.failed files.old) (F.failed files.new) name }
+    ensures ok { IfOk result (λ tables. HoldTables (possible (F.content files.old)) entries tables.items) }
+    ensures no_fault { OnOk result (F.failed files.new ≡ F.failed files.old) }
+    ensures err { IfErr result (AreTablesRefused (possible (F.content files.old)) entries) }
+    ensures faults { IfErr result (λ refusal. FaultsAt refusal (F.failed files.old) (F.failed files.new)) }
 {
     let mut tables = Vec::with_capacity(alloc, entries.as_slice().len())?;
     for entry in entries.into_vec() {
@@ -75,11 +64,10 @@ fn open_table<F: Files>(
     entry: TableEntry,
 ) -> Result<NamedTable, Refusal>
     ensures kept { (any : List ℕ) → F.content files.new any ≡ F.content files.old any }
-    ensures grew { Grew (F.failed files.old) (F.failed files.new) }
-    ensures ok { IfOk result (HoldsTable (MayHold (F.content files.old)) entry) }
-    ensures err { IfErr result (IsTableFileRefused (MayHold (F.content files.old)) entry.file) }
-    ensures fault { (name : List ℕ) → result ≡ Err (Refusal.CannotRead name) →
-        NameFailed (F.failed files.old) (F.failed files.new) name }
+    ensures ok { IfOk result (HoldsTable (possible (F.content files.old)) entry) }
+    ensures no_fault { OnOk result (F.failed files.new ≡ F.failed files.old) }
+    ensures err { IfErr result (IsEntryRefused (possible (F.content files.old)) entry) }
+    ensures faults { IfErr result (λ refusal. FaultsAt refusal (F.failed files.old) (F.failed files.new)) }
 {
     let TableEntry { name, file } = entry;
     let bytes = match read_whole(alloc, files, file.as_str(), MOST_BYTES) {
@@ -93,10 +81,10 @@ fn open_table<F: Files>(
     };
     match load(alloc, bytes.as_slice()) {
         Ok(table) => Ok(NamedTable { name, file, table }),
-        Err(TableRefusal::NotThisForm) => Err(Refusal::Table {
-            file,
-            fault: TableFault::NotThisForm,
-        }),
         Err(TableRefusal::OutOfMemory) => Err(Refusal::OutOfMemory),
+        Err(refusal) => Err(Refusal::Table {
+            file,
+            fault: TableFault::Unread(refusal),
+        }),
     }
 }

@@ -1,4 +1,4 @@
-ghost use Rattle.std.specs.Prelude.{◌≤◌};
+ghost use Rattle.std.specs.Prelude.{◌≤◌, length};
 
 use super::command::command;
 use outside_io::{MemFiles, MemSink};
@@ -17,7 +17,7 @@ const ANSWER: &str = "query 0 lines 1\ntotal 35\nend\n";
 fn run(
     alloc: Global,
     words: &[&str],
-    held: (&str, &str),
+    held: (&[u8], &[u8]),
     fails: (&[u64], &[u64]),
     most: u32,
 ) -> Result<(u8, String), AllocError>
@@ -26,11 +26,11 @@ fn run(
     let mut files = MemFiles::new(alloc, Vec::from_slice(alloc, fails.0)?);
     files.add(
         String::from_str(alloc, "s.json")?,
-        Vec::from_slice(alloc, held.0.as_bytes())?,
+        Vec::from_slice(alloc, held.0)?,
     )?;
     files.add(
         String::from_str(alloc, "t.csv")?,
-        Vec::from_slice(alloc, held.1.as_bytes())?,
+        Vec::from_slice(alloc, held.1)?,
     )?;
     let mut out = MemSink::new(alloc, 1000, most, Vec::from_slice(alloc, fails.1)?)?;
     let mut given = Vec::new(alloc);
@@ -57,8 +57,9 @@ fn reads_words(rt: HostRuntime) -> Result<(), Fail> {
         (&["turns", "s.json"], 2, "error: usage\n"),
         (&["check", "-"], 3, "error: cannot read -\n"),
     ];
+    let held = (SCRIPT.as_bytes(), TABLE.as_bytes());
     for (words, status, text) in cases {
-        let (answered, written) = run(rt.alloc(), words, (SCRIPT, TABLE), (&[], &[]), 1000)?;
+        let (answered, written) = run(rt.alloc(), words, held, (&[], &[]), 1000)?;
         assert_eq!(rt; written.as_str(), text);
         assert_eq!(rt; answered, status);
     }
@@ -111,7 +112,7 @@ fn answers_or_refuses_what_files_hold(rt: HostRuntime) -> Result<(), Fail> {
         let (answered, written) = run(
             rt.alloc(),
             &["check", "s.json"],
-            (script, table),
+            (script.as_bytes(), table.as_bytes()),
             (&[], &[]),
             1000,
         )?;
@@ -130,11 +131,12 @@ fn tells_reads_that_fail(rt: HostRuntime) -> Result<(), Fail> {
         (4, 3, "error: cannot read t.csv\n"),
         (5, 0, ANSWER),
     ];
+    let held = (SCRIPT.as_bytes(), TABLE.as_bytes());
     for (call, status, text) in cases {
         let (answered, written) = run(
             rt.alloc(),
             &["check", "s.json"],
-            (SCRIPT, TABLE),
+            held,
             (&[call], &[]),
             1000,
         )?;
@@ -157,19 +159,102 @@ fn tells_writes_that_fail(rt: HostRuntime) -> Result<(), Fail> {
         (8, 4, "query 0 lines 1\ntotal 35\nend"),
         (9, 0, ANSWER),
     ];
+    let held = (SCRIPT.as_bytes(), TABLE.as_bytes());
     for (call, status, text) in cases {
-        let (answered, written) = run(
-            rt.alloc(),
-            &["check", "s.json"],
-            (SCRIPT, TABLE),
-            (&[], &[call]),
-            4,
-        )?;
+        let (answered, written) = run(rt.alloc(), &["check", "s.json"], held, (&[], &[call]), 4)?;
         assert_eq!(rt; answered, status, "write {call}");
         assert_eq!(rt; written.as_str(), text, "write {call}");
     }
-    let (answered, written) = run(rt.alloc(), &[], (SCRIPT, TABLE), (&[], &[2]), 4)?;
+    let (answered, written) = run(rt.alloc(), &[], held, (&[], &[2]), 4)?;
     assert_eq!(rt; answered, 4);
     assert_eq!(rt; written.as_str(), "erro");
+    Ok(())
+}
+
+// A text with spaces or empty lines behind it, so long in all.
+fn padded(alloc: Global, text: &str, with: u8, len: usize) -> Result<Vec<u8>, AllocError>
+    requires { length text.now ≤ len }
+{
+    let mut bytes = vec![in alloc; with; len]?;
+    bytes.as_mut_slice()[..text.len()].copy_from_slice(text.as_bytes());
+    Ok(bytes)
+}
+
+// The status of `check` over a script and a table, and what it writes.
+fn check(alloc: Global, script: &[u8], table: &[u8]) -> Result<(u8, String), AllocError> {
+    run(
+        alloc,
+        &["check", "s.json"],
+        (script, table),
+        (&[], &[]),
+        1000,
+    )
+}
+
+#[test]
+fn reads_a_script_at_the_limit(rt: HostRuntime) -> Result<(), Fail> {
+    let script = padded(rt.alloc(), SCRIPT, b' ', 67_108_864)?;
+    let (status, written) = check(rt.alloc(), script.as_slice(), TABLE.as_bytes())?;
+    assert_eq!(rt; written.as_str(), ANSWER);
+    assert_eq!(rt; status, 0);
+    Ok(())
+}
+
+#[test]
+fn reads_a_table_at_the_limit(rt: HostRuntime) -> Result<(), Fail> {
+    let table = padded(rt.alloc(), TABLE, b'\n', 67_108_864)?;
+    let (status, written) = check(rt.alloc(), SCRIPT.as_bytes(), table.as_slice())?;
+    assert_eq!(rt; written.as_str(), ANSWER);
+    assert_eq!(rt; status, 0);
+    Ok(())
+}
+
+#[test]
+fn refuses_files_past_the_limit(rt: HostRuntime) -> Result<(), Fail> {
+    let script = padded(rt.alloc(), SCRIPT, b' ', 67_108_865)?;
+    let (status, written) = check(rt.alloc(), script.as_slice(), TABLE.as_bytes())?;
+    assert_eq!(rt; written.as_str(), "error: script: too long\n");
+    assert_eq!(rt; status, 5);
+    let table = padded(rt.alloc(), TABLE, b'\n', 67_108_865)?;
+    let (status, written) = check(rt.alloc(), SCRIPT.as_bytes(), table.as_slice())?;
+    assert_eq!(rt; written.as_str(), "error: table t.csv: too long\n");
+    assert_eq!(rt; status, 6);
+    Ok(())
+}
+
+// So many times the letter `a`.
+fn letters(alloc: Global, count: usize) -> Result<String, AllocError> {
+    let mut text = String::new(alloc);
+    for _ in 0..count {
+        text.push('a')?;
+    }
+    Ok(text)
+}
+
+#[test]
+fn limits_the_bytes_of_names(rt: HostRuntime) -> Result<(), Fail> {
+    let alloc = rt.alloc();
+    for (count, status) in [(255, 3), (256, 5)] {
+        let file = letters(alloc, count)?;
+        let script = format!(in alloc;
+            "{{\"version\":1,\"tables\":[{{\"name\":\"t\",\"file\":\"{file}\"}}],\"queries\":[{{\"scan\":\"t\",\"output\":{{\"totals\":[{{\"fn\":\"sum\",\"col\":\"v\"}}]}}}}]}}"
+        )?;
+        let (answered, _) = check(alloc, script.as_bytes(), TABLE.as_bytes())?;
+        assert_eq!(rt; answered, status, "a file of {count} bytes");
+    }
+    for (count, status) in [(64, 0), (65, 5)] {
+        let name = letters(alloc, count)?;
+        let script = format!(in alloc;
+            "{{\"version\":1,\"tables\":[{{\"name\":\"{name}\",\"file\":\"t.csv\"}}],\"queries\":[{{\"scan\":\"{name}\",\"output\":{{\"totals\":[{{\"fn\":\"sum\",\"col\":\"v\"}}]}}}}]}}"
+        )?;
+        let (answered, _) = check(alloc, script.as_bytes(), TABLE.as_bytes())?;
+        assert_eq!(rt; answered, status, "a table's name of {count} bytes");
+    }
+    for (count, status) in [(64, 0), (65, 6)] {
+        let name = letters(alloc, count)?;
+        let table = format!(in alloc; "v,{name}\n1,2\n")?;
+        let (answered, _) = check(alloc, SCRIPT.as_bytes(), table.as_bytes())?;
+        assert_eq!(rt; answered, status, "a column's name of {count} bytes");
+    }
     Ok(())
 }

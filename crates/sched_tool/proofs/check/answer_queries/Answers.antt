@@ -1,7 +1,7 @@
 use Rattle.std.proofs.Common.{◌<◌, ◌≡◌, ◌++◌, ◌∷◌, [], All, ap, length, subst, sym, ◌∙◌, arith}
 use Rattle.std.proofs.lemmas.List.Elements.{All-push}
 use Rattle.plan_ast.specs.Checks.{IsOneSum, query_of}
-use Rattle.sched_tool.specs.Answers.{CanBePrinted}
+use Rattle.sched_tool.specs.PrintedAnswers.{CanBePrinted}
 use Rattle.plan_ast.specs.Answer.{answer_of}
 use Rattle.plan_ast.specs.declared.answers.Answer.{Answer}
 use Rattle.sched_tool.specs.declared.answers_text.QueryReply.{QueryReply}

@@ -1,7 +1,7 @@
 use Rattle.std.proofs.Common.{◌≡◌, All, map, take}
 use Rattle.plan_ast.specs.Checks.{query_of}
-use Rattle.sched_tool.specs.Answers.{CanBePrinted}
-use Rattle.sched_tool.specs.Outcomes.{replies_of}
+use Rattle.sched_tool.specs.PrintedAnswers.{CanBePrinted}
+use Rattle.sched_tool.specs.Behaviours.{replies_of}
 use Rattle.sched_tool.proofs.check.answer_queries.Given as goal
 
 abbrev pub invariant-loop-query : goal.invariant-loop-query

@@ -1,8 +1,8 @@
 use Rattle.std.proofs.Common.{◌<◌, ◌≡◌, ◌++◌, ◌∷◌, [], length, sym, subst, arith}
 use Rattle.std.proofs.lemmas.List.Elements.{All-push}
 use Rattle.plan_ast.specs.Checks.{IsCheckedFor, IsOneSum}
-use Rattle.sched_tool.specs.Openings.{IsQueryRefused}
-use Rattle.sched_tool.proofs.QueriesLemmas.{AllFound-more, IsQueryRefused-first, same_more}
+use Rattle.sched_tool.specs.Refusals.{AreQueriesRefused}
+use Rattle.sched_tool.proofs.QueriesLemmas.{AllFound-more, first_refused, same_more}
 use Rattle.sched_tool.proofs.check.check_queries.Goals as goal
 
 pub check-requires : goal.check-requires
@@ -13,8 +13,8 @@ check-requires c =
 pub returns-in-Err-clause-err : goal.returns-in-Err-clause-err
 returns-in-Err-clause-err c =
     let lt : c.loop-number.number < length c.args.queries.now = omega arith in
-    subst (IsQueryRefused (record { tables = c.args.tables.now; queries = c.args.queries.now })) (sym c.refusal_of_query.ensures)
-    (IsQueryRefused-first (record { tables = c.args.tables.now; queries = c.args.queries.now }) c.loop-number.number c.index-queries-number.result c.in-Err.refusal lt c.index-queries-number.is c.loop-number.invariant.found c.in-Err.ensures.refused)
+    subst (AreQueriesRefused (record { tables = c.args.tables.now; queries = c.args.queries.now })) (sym c.refusal_of_query.ensures)
+    (first_refused (record { tables = c.args.tables.now; queries = c.args.queries.now }) c.loop-number.number c.index-queries-number.result c.in-Err.refusal lt c.index-queries-number.is c.loop-number.invariant.found c.in-Err.ensures.refused)
 
 pub loop-number-preserved : goal.loop-number-preserved
 loop-number-preserved c =

@@ -1,38 +1,16 @@
-use Rattle.std.proofs.Common.{◌≡◌, All, ap, map, subst, sym, ◌∙◌}
+use Rattle.std.proofs.Common.{◌≡◌, All, ap, inl, map, subst, sym, ◌∙◌}
 use Rattle.std.proofs.lemmas.Result.{err_from_is_err_and}
 use Rattle.plan_ast.specs.Checks.{IsOneSum, query_of}
 use Rattle.plan_ast.specs.Subject.{Subject}
-use Rattle.sched_tool.specs.Openings.{AreTablesRefused}
+use Rattle.sched_tool.specs.Outsides.{possible}
 use Rattle.sched_tool.specs.Subjects.{AllFound, HoldsSubject, HoldTables}
-use Rattle.sched_tool.specs.Told.{MayHold}
-use Rattle.sched_tool.proofs.OutcomesLemmas.{IsCheckRefused-queries, IsCheckRefused-tables}
 use Rattle.sched_tool.proofs.QueriesLemmas.{All-query_of}
+use Rattle.sched_tool.proofs.RefusalLemmas.{FaultsAt-queries, queries_refused}
 use Rattle.sched_tool.proofs.SubjectsLemmas.{same_content}
 use Rattle.sched_tool.proofs.check.check_script.Goals as goal
 
-pub returns-in_err-tables-2-clause-err : goal.returns-in_err-tables-2-clause-err
-returns-in_err-tables-2-clause-err g c =
-    let p = err_from_is_err_and c.from_residual-in_err-tables-2.result c.from_residual-in_err-tables-2.ensures.1 in
-    let script = c.in_ok-tables.field-0 in
-    let refused = subst (λ content. AreTablesRefused (MayHold content) script.tables c.in_err-tables-2.field-0.0) (same_content _ _ c.open_script.ensures.kept) c.in_err-tables-2.ensures.err in
-    rw (p.1, p.2) (IsCheckRefused-tables _ c.args.file.now script c.in_err-tables-2.field-0.0 c.in_ok-tables.ensures.ok refused)
-
 pub check_queries-requires-clause-form : goal.check_queries-requires-clause-form
 check_queries-requires-clause-form g c = subst (All IsOneSum) (sym c.as_slice-2.ensures) c.in_ok-tables.ensures.form.0
-
-pub returns-in_err-checked-clause-err : goal.returns-in_err-checked-clause-err
-returns-in_err-checked-clause-err g c =
-    let p = err_from_is_err_and c.from_residual-in_err-checked.result c.from_residual-in_err-checked.ensures.1 in
-    let script = c.in_ok-tables.field-0 in
-    let loaded = subst (λ content. HoldTables (MayHold content) script.tables c.in_ok-tables-2.tables.items) (same_content _ _ c.open_script.ensures.kept) c.in_ok-tables-2.ensures.ok in
-    let subject : Subject = record { tables = c.as_slice.result.now; queries = c.as_slice-2.result.now } in
-    let held : HoldsSubject (MayHold (g.F.Files.content c.args.files.now)) c.args.file.now subject = record {
-      script = script;
-      held = c.in_ok-tables.ensures.ok;
-      tables = subst (HoldTables (MayHold (g.F.Files.content c.args.files.now)) script.tables) (sym c.as_slice.ensures.value) loaded;
-      queries = c.as_slice-2.ensures;
-    } in
-    rw (p.1, p.2) (IsCheckRefused-queries _ c.args.file.now subject c.in_err-checked.field-0.0 held c.in_err-checked.ensures.err)
 
 pub text_of-requires-clause-placed : goal.text_of-requires-clause-placed
 text_of-requires-clause-placed g c =
@@ -43,19 +21,40 @@ pub text_of-requires-clause-form : goal.text_of-requires-clause-form
 text_of-requires-clause-form g c =
     rw c.as_slice-4.ensures.value (All-query_of IsOneSum c.in_ok-checked.checked.items c.as_slice-2.result.now c.in_ok-checked.ensures.same (subst (All IsOneSum) (sym c.as_slice-2.ensures) c.in_ok-tables.ensures.form.0))
 
+pub returns-in_err-checked-clause-err : goal.returns-in_err-checked-clause-err
+returns-in_err-checked-clause-err g c =
+    let p = err_from_is_err_and c.from_residual-in_err-checked.result c.from_residual-in_err-checked.ensures.1 in
+    let script = c.in_ok-tables.field-0 in
+    let loaded = subst (λ content. HoldTables (possible content) script.tables c.in_ok-tables-2.tables.items) (same_content _ _ c.open_script.ensures.kept) c.in_ok-tables-2.ensures.ok in
+    let subject : Subject = record { tables = c.as_slice.result.now; queries = c.as_slice-2.result.now } in
+    let held : HoldsSubject (possible (g.F.Files.content c.args.files.now)) c.args.file.now subject = record {
+      script = script;
+      held = c.in_ok-tables.ensures.ok;
+      tables = subst (HoldTables (possible (g.F.Files.content c.args.files.now)) script.tables) (sym c.as_slice.ensures.value) loaded;
+      queries = c.as_slice-2.ensures;
+    } in
+    let quiet : g.F.Files.failed c.open_tables.new.files ≡ g.F.Files.failed c.args.files.now = c.in_ok-tables-2.ensures.no_fault ∙ c.in_ok-tables.ensures.no_fault in
+    rw (p.1, p.2) (record {
+      cause = queries_refused _ c.args.file.now subject c.in_err-checked.field-0.0 held c.in_err-checked.ensures.err;
+      faults = FaultsAt-queries subject c.in_err-checked.field-0.0 _ _ c.in_err-checked.ensures.err quiet;
+    })
+
 pub returns-clause-ok : goal.returns-clause-ok
 returns-clause-ok g c =
     let script = c.in_ok-tables.field-0 in
     let tables : c.as_slice-3.result.now ≡ c.as_slice.result.now = c.as_slice-3.ensures.value ∙ sym c.as_slice.ensures.value in
     let queries : map query_of c.as_slice-4.result.now ≡ c.as_slice-2.result.now = ap (map query_of) c.as_slice-4.ensures.value ∙ c.in_ok-checked.ensures.same in
-    let loaded = subst (λ content. HoldTables (MayHold content) script.tables c.in_ok-tables-2.tables.items) (same_content _ _ c.open_script.ensures.kept) c.in_ok-tables-2.ensures.ok in
+    let loaded = subst (λ content. HoldTables (possible content) script.tables c.in_ok-tables-2.tables.items) (same_content _ _ c.open_script.ensures.kept) c.in_ok-tables-2.ensures.ok in
     let subject : Subject = record { tables = c.as_slice-3.result.now; queries = map query_of c.as_slice-4.result.now } in
-    let held : HoldsSubject (MayHold (g.F.Files.content c.args.files.now)) c.args.file.now subject = record {
+    let held : HoldsSubject (possible (g.F.Files.content c.args.files.now)) c.args.file.now subject = record {
       script = script;
       held = c.in_ok-tables.ensures.ok;
-      tables = subst (HoldTables (MayHold (g.F.Files.content c.args.files.now)) script.tables) (sym c.as_slice-3.ensures.value) loaded;
+      tables = subst (HoldTables (possible (g.F.Files.content c.args.files.now)) script.tables) (sym c.as_slice-3.ensures.value) loaded;
       queries = queries ∙ c.as_slice-2.ensures;
     } in
     let found : AllFound subject.tables subject.queries =
     subst (AllFound subject.tables) (sym queries) (subst (λ t. AllFound t c.as_slice-2.result.now) (sym tables) c.in_ok-checked.ensures.found) in
-    (subject, record { held = held; found = found }, c.in_ok-text_of.ensures)
+    record {
+      no_fault = c.in_ok-tables-2.ensures.no_fault ∙ c.in_ok-tables.ensures.no_fault;
+      text = inl (c.whole.ensures.status, (subject, record { held = held; found = found }, ap (λ v. v.items) c.whole.ensures.text ∙ c.in_ok-text.ensures));
+    }

@@ -1,4 +1,4 @@
-use Rattle.sched_tool.proofs.CompletenessLemmas.{one_answer}
+use Rattle.sched_tool.proofs.BehaviourLemmas.{one_answer}
 use Rattle.sched_tool.proofs.check.one_answer.Goals as goal
 
 pub returns : goal.returns

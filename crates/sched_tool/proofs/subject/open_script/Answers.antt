@@ -1,10 +1,6 @@
-use Rattle.std.proofs.Common.{arith}
-use Rattle.sched_tool.proofs.SubjectsLemmas.{held_too_long}
+use Rattle.std.proofs.Common.{refl}
+use Rattle.sched_tool.proofs.SubjectsLemmas.{holds_too_much}
 use Rattle.sched_tool.proofs.subject.open_script.Goals as goal
 
 pub returns-in-Err-TooLong-clause-err : goal.returns-in-Err-TooLong-clause-err
-returns-in-Err-TooLong-clause-err g c = held_too_long _ _ (c.read_whole.ensures.too_long cc)
-
-pub returns-in-Err-NotThisForm-clause-err : goal.returns-in-Err-NotThisForm-clause-err
-returns-in-Err-NotThisForm-clause-err g c =
-    (c.in-Ok.bytes.items, c.in-Ok.ensures.whole, omega (arith, c.in-Ok.ensures.within, c.in-Ok.bytes.ok.0), rw (← c.as_slice.ensures.value) (rw c.in-Err-NotThisForm.field-0-is at c.in-Err-NotThisForm.ensures.refused))
+returns-in-Err-TooLong-clause-err g c = holds_too_much _ _ (c.in-Err-TooLong.ensures.too_long (rw c.in-Err-TooLong.field-0-is refl))

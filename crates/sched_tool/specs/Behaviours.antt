@@ -1,0 +1,79 @@
+-- What each command accepts, answers, refuses and reads.
+use Rattle.std.specs.Prelude.{◌≡◌, ℕ, List, ◌++◌, map, Option, None, Some, codes}
+use Rattle.std.specs.List.{enumerate_from}
+use Rattle.plan_ast.specs.Answer.{answer_of}
+use Rattle.plan_ast.specs.Subject.{Subject}
+use Rattle.sched_tool.specs.Outsides.{known, Outside}
+use Rattle.sched_tool.specs.PrintedAnswers.{answers_bytes, line}
+use Rattle.sched_tool.specs.Refusals.{IsCheckRefused}
+use Rattle.sched_tool.specs.Subjects.{IsAccepted, IsRead}
+use Rattle.sched_tool.specs.Words.{check, Meaning}
+use Rattle.sched_tool.specs.declared.answers_text.QueryReply.{QueryReply}
+use Rattle.sched_tool.specs.declared.answers_text.Reply.TheVariants.{Answer}
+use Rattle.sched_tool.specs.declared.refusal.Refusal.{Refusal}
+use Rattle.sched_tool.specs.declared.refusal.Refusal.TheVariants.{Usage, CannotRead, Script, Table, OutOfMemory}
+
+-- the behaviour of a command. Each command has one, and the contract of `command` speaks of nothing else.
+pub record Behaviour : Type 1 where
+  -- its words, and what its files hold, are accepted
+  pub accepts : Outside → Type 0
+  -- this text answers it whole
+  pub answers : Outside → List ℕ → Type 0
+  -- this text answers it, but for queries that ran out of memory
+  pub answers_in_part : Outside → List ℕ → Type 0
+  -- it is refused for this reason
+  pub refuses : Outside → Refusal → Type 0
+  -- it reads the file of this name
+  pub reads : Outside → List ℕ → Type 0
+
+-- ---- words outside the grammar
+
+abbrev pub IsUsageRefused : Refusal → Type 0
+IsUsageRefused Usage = Unit {0}
+IsUsageRefused (CannotRead file) = ⊥
+IsUsageRefused (Script fault) = ⊥
+IsUsageRefused (Table file fault) = ⊥
+IsUsageRefused OutOfMemory = Unit {0}
+
+-- words outside the grammar are refused, and nothing is read
+abbrev pub usage_behaviour : Behaviour
+usage_behaviour = record {
+  accepts = λ outside. ⊥;
+  answers = λ outside text. ⊥;
+  answers_in_part = λ outside text. ⊥;
+  refuses = λ outside. IsUsageRefused;
+  reads = λ outside file. ⊥;
+}
+
+-- ---- `check`
+
+-- the one-thread answer to each query, numbered from 0
+abbrev pub replies_of : Subject → List QueryReply
+replies_of subject =
+    map (λ q. record { query = q.0; reply = Answer (answer_of subject.tables q.1) }) (enumerate_from 0 subject.queries)
+
+-- what `check` writes for a subject
+abbrev pub check_text : Subject → List ℕ
+check_text subject = answers_bytes (replies_of subject) ++ line (codes "end")
+
+-- `check` of the script in a file answers each query of an accepted subject
+abbrev pub check_behaviour : List ℕ → Behaviour
+check_behaviour file = record {
+  accepts = λ outside. (subject : Subject) × IsAccepted outside file subject;
+  answers = λ outside text. (subject : Subject) × IsAccepted outside file subject × (text ≡ check_text subject);
+  answers_in_part = λ outside text. ⊥;
+  refuses = λ outside. IsCheckRefused outside file;
+  reads = λ outside. IsRead outside file;
+}
+
+-- an accepted script has one answer where its files are known
+abbrev pub OneAnswer : Type 0
+OneAnswer = (content : List ℕ → Option (List ℕ)) (file a b : List ℕ) → (check_behaviour file).answers (known content) a
+    → (check_behaviour file).answers (known content) b → a ≡ b
+
+-- ---- all commands
+
+-- the behaviour of what words ask for; none where they are outside the grammar
+abbrev pub behaviour_of : Option Meaning → Behaviour
+behaviour_of None = usage_behaviour
+behaviour_of (Some (check file)) = check_behaviour file

@@ -1,0 +1,77 @@
+-- Why a script, its tables and its queries are refused.
+use Rattle.std.specs.Prelude.{◌≡◌, ◌≢◌, ◌⊎◌, ℕ, List, take, Some, slice_get}
+use Rattle.csv_tables.specs.Refusals.{RefusesTable}
+use Rattle.csv_tables.specs.declared.refusal.TableRefusal.TheVariants as table
+use Rattle.plan_ast.specs.Names.{refusal_of}
+use Rattle.plan_ast.specs.Subject.{Subject}
+use Rattle.plan_ast.specs.declared.checks.PlanRefusal.{PlanRefusal}
+use Rattle.plan_ast.specs.declared.checks.PlanRefusal.TheVariants as plan
+use Rattle.plan_ast.specs.declared.queries.Query.{Query}
+use Rattle.sched_tool.specs.Outsides.{Outside}
+use Rattle.sched_tool.specs.Scripts.{RefusesScript}
+use Rattle.sched_tool.specs.Subjects.{AllFound, Holds, HoldsSubject, HoldsTooMuch, IsNext, IsNextTable, IsRead}
+use Rattle.sched_tool.specs.declared.read_script.ScriptRefusal.TheVariants as script
+use Rattle.sched_tool.specs.declared.read_script.TableEntry.{TableEntry}
+use Rattle.sched_tool.specs.declared.refusal.ScriptFault.{ScriptFault}
+use Rattle.sched_tool.specs.declared.refusal.ScriptFault.TheVariants as script_fault
+use Rattle.sched_tool.specs.declared.refusal.TableFault.{TableFault}
+use Rattle.sched_tool.specs.declared.refusal.TableFault.TheVariants as table_fault
+use Rattle.sched_tool.specs.declared.refusal.Refusal.{Refusal}
+use Rattle.sched_tool.specs.declared.refusal.Refusal.TheVariants.{Usage, CannotRead, Script, Table, OutOfMemory}
+
+-- the first query that is refused has this number, and this is its refusal
+pub record IsFirstRefused (subject : Subject) (number : ℕ) (refusal : PlanRefusal) : Type 0 where
+  pub query : Query
+  pub is : slice_get subject.queries number ≡ Some query
+  pub refused : refusal_of subject.tables query ≡ Some refusal
+  pub first : AllFound subject.tables (take number subject.queries)
+
+-- why the script in a file is refused; that memory ran out is no cause
+abbrev pub IsScriptRefused : Outside → List ℕ → ScriptFault → Type 0
+IsScriptRefused outside file script_fault.TooLong = HoldsTooMuch outside file
+IsScriptRefused outside file (script_fault.Unread refusal) =
+    (refusal ≢ script.OutOfMemory) × Holds outside file (λ bytes. RefusesScript bytes refusal)
+IsScriptRefused outside file (script_fault.Query number refusal) =
+    (subject : Subject) × HoldsSubject outside file subject × IsFirstRefused subject number refusal
+
+-- why the table in a file is refused; that memory ran out is no cause
+abbrev pub IsTableRefused : Outside → List ℕ → TableFault → Type 0
+IsTableRefused outside file table_fault.TooLong = HoldsTooMuch outside file
+IsTableRefused outside file (table_fault.Unread refusal) =
+    (refusal ≢ table.OutOfMemory) × Holds outside file (λ bytes. RefusesTable bytes refusal)
+
+-- why `check` of the script in a file is refused
+abbrev pub IsCheckRefused : Outside → List ℕ → Refusal → Type 0
+IsCheckRefused outside file Usage = ⊥
+IsCheckRefused outside file (CannotRead name) = IsRead outside file name
+IsCheckRefused outside file (Script fault) = IsScriptRefused outside file fault
+IsCheckRefused outside file (Table name fault) = IsTableRefused outside name fault
+    × ((entry : TableEntry) × IsNextTable outside file entry × (name ≡ entry.file))
+IsCheckRefused outside file OutOfMemory = Unit {0}
+
+-- ---- parts of `check`
+
+-- why the table of an entry is refused
+abbrev pub IsEntryRefused : Outside → TableEntry → Refusal → Type 0
+IsEntryRefused outside entry Usage = ⊥
+IsEntryRefused outside entry (CannotRead name) = name ≡ entry.file
+IsEntryRefused outside entry (Script fault) = ⊥
+IsEntryRefused outside entry (Table name fault) = IsTableRefused outside name fault × (name ≡ entry.file)
+IsEntryRefused outside entry OutOfMemory = Unit {0}
+
+-- why the tables of a script are refused: the next to be read is, or memory ran out
+abbrev pub AreTablesRefused : Outside → List TableEntry → Refusal → Type 0
+AreTablesRefused outside entries refusal = (refusal ≡ OutOfMemory)
+    ⊎ ((entry : TableEntry) × IsNext outside entries entry × IsEntryRefused outside entry refusal)
+
+-- the refusal of `check` that a refused query brings
+abbrev pub query_refusal : ℕ → PlanRefusal → Refusal
+query_refusal number (plan.UnknownTable name) = Script (script_fault.Query number (plan.UnknownTable name))
+query_refusal number (plan.UnknownColumn name) = Script (script_fault.Query number (plan.UnknownColumn name))
+query_refusal number plan.OutOfMemory = OutOfMemory
+
+-- why the queries of a subject are refused: the first that is, or memory ran out
+abbrev pub AreQueriesRefused : Subject → Refusal → Type 0
+AreQueriesRefused subject refusal = (refusal ≡ OutOfMemory)
+    ⊎ ((number : ℕ) × (fault : PlanRefusal) × (refusal ≡ Script (script_fault.Query number fault))
+    × IsFirstRefused subject number fault)

@@ -1,0 +1,65 @@
+-- What is written, and with which status a command ends.
+use Rattle.std.specs.Prelude.{◌≡◌, ◌⊎◌, ℕ, List, Option}
+use Rattle.std.specs.Io.KnownBytes.{Appends}
+use Rattle.outside_io.specs.Faults.{CountedOne}
+use Rattle.outside_io.specs.Pieces.{AppendsPrefix}
+use Rattle.sched_tool.specs.Behaviours.{Behaviour}
+use Rattle.sched_tool.specs.ErrorLines.{error_bytes}
+use Rattle.sched_tool.specs.Outsides.{Outside}
+use Rattle.sched_tool.specs.ReadFaults.{FaultsAt}
+use Rattle.sched_tool.specs.Statuses.{status_of}
+use Rattle.sched_tool.specs.declared.refusal.Refusal.{Refusal}
+use Rattle.sched_tool.specs.declared.refusal.Refusal.TheVariants.{Usage, CannotRead, Script, Table, OutOfMemory}
+
+-- the bytes written to a sink, if they are known, and the count of its faults
+pub record SinkState : Type 0 where
+  pub written : Option (List ℕ)
+  pub faults : ℕ
+
+-- one of these texts was written
+abbrev pub WritesOne : (List ℕ → Type 0) → Option (List ℕ) → Option (List ℕ) → Type 0
+WritesOne IsText old new = (text : List ℕ) × IsText text × Appends old new text
+
+-- the text was written and this is its status, or one write failed after a beginning of the text and the status is 4
+abbrev pub IsWritten : SinkState → SinkState → List ℕ → ℕ → ℕ → Type 0
+IsWritten old new text status result =
+    ((result ≡ status) × Appends old.written new.written text × (new.faults ≡ old.faults))
+    ⊎ ((result ≡ 4) × AppendsPrefix old.written new.written text × CountedOne old.faults new.faults)
+
+-- a refusal was told by its line, or by the line that says that memory ran out if there was none for its own
+pub record IsRefusalWritten (old new : SinkState) (refusal : Refusal) (result : ℕ) : Type 0 where
+  pub told : Refusal
+  pub is : (told ≡ refusal) ⊎ (told ≡ OutOfMemory)
+  pub written : IsWritten old new (error_bytes told) (status_of told) result
+
+-- a refusal that rests on the words and on what the files hold, and neither on a fault nor on memory
+abbrev pub IsFinding : Refusal → Type 0
+IsFinding Usage = Unit {0}
+IsFinding (CannotRead file) = ⊥
+IsFinding (Script fault) = Unit {0}
+IsFinding (Table file fault) = Unit {0}
+IsFinding OutOfMemory = ⊥
+
+-- a refusal is told: it has its cause, the status is its own, and its line was written
+pub record TellsRefusal (does : Behaviour) (outside : Outside) (old new : Option (List ℕ)) (result : ℕ) : Type 0 where
+  pub refusal : Refusal
+  pub finding : IsFinding refusal
+  pub cause : does.refuses outside refusal
+  pub status : result ≡ status_of refusal
+  pub line : Appends old new (error_bytes refusal)
+
+-- a text that says that memory ran out: the line that says so, or an answer in part
+abbrev pub IsMemoryText : Behaviour → Outside → List ℕ → Type 0
+IsMemoryText does outside text = (text ≡ error_bytes OutOfMemory) ⊎ does.answers_in_part outside text
+
+-- the line of a refusal that has its cause, and reads met the faults that go with it
+pub record IsRefusalLine (does : Behaviour) (outside : Outside) (old new : List (List ℕ)) (text : List ℕ) : Type 0 where
+  pub refusal : Refusal
+  pub cause : does.refuses outside refusal
+  pub faults : FaultsAt refusal old new
+  pub line : text ≡ error_bytes refusal
+
+-- a text that a command may write
+abbrev pub IsTextOf : Behaviour → Outside → List (List ℕ) → List (List ℕ) → List ℕ → Type 0
+IsTextOf does outside old new text = (does.answers outside text × (new ≡ old))
+    ⊎ (IsRefusalLine does outside old new text ⊎ IsMemoryText does outside text)

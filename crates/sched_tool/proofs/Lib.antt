@@ -3,9 +3,8 @@ mod CommandLemmas
 mod CompletenessLemmas
 mod FaultLemmas
 mod OutsideLemmas
-mod PrintedLemmas
 mod QueriesLemmas
 mod RefusalLemmas
-mod ScriptsLemmas
+mod ReadersLemmas
 mod SubjectsLemmas
 mod UniqueLemmas

@@ -1,52 +1,55 @@
 -- Queries one after another.
-use Rattle.std.proofs.Common.{◌≡◌, ℕ, ◌+◌, ◌<◌, List, [], ◌∷◌, ◌++◌, length, map, take, get_or, All, Some, None, sym, ap, ◌∙◌, subst, inl, inr, refl, ◌⊎◌, arith}
+use Rattle.std.proofs.Common.{◌≡◌, ℕ, ◌+◌, ◌<◌, List, [], ◌∷◌, ◌++◌, length, map, take, get_or, All, Some, sym, ap, ◌∙◌, subst, inl, inr, refl, ◌⊎◌, arith}
 use Rattle.std.specs.List.{enumerate_from}
 use Rattle.std.proofs.lemmas.List.{get_or-map, length-map, length-take-le, map-append, take_more}
 use Rattle.std.proofs.lemmas.List.Elements.{All-push}
 use Rattle.std.proofs.lemmas.Option.{slice_get-get_or}
+use Rattle.pipe_ops.specs.Built.{IsBuilt}
 use Rattle.plan_ast.specs.Answer.{answer_of}
 use Rattle.plan_ast.specs.Checks.{query_of}
-use Rattle.plan_ast.specs.Names.{refusal_of}
 use Rattle.plan_ast.specs.Subject.{Subject}
 use Rattle.plan_ast.specs.declared.checks.Checked.{Checked}
-use Rattle.plan_ast.specs.declared.checks.PlanRefusal.{PlanRefusal}
-use Rattle.plan_ast.specs.declared.checks.PlanRefusal.TheVariants.{UnknownTable, UnknownColumn, OutOfMemory}
 use Rattle.plan_ast.specs.declared.queries.NamedTable.{NamedTable}
 use Rattle.plan_ast.specs.declared.queries.Query.{Query}
+use Rattle.plan_ast.specs.declared.refusals.PlanRefusal.TheVariants.{UnknownTable, UnknownColumn, OutOfMemory}
+use Rattle.report_text.specs.declared.replies.QueryReply.{QueryReply}
+use Rattle.report_text.specs.declared.replies.Reply.TheVariants.{Answer}
 use Rattle.sched_tool.specs.Behaviours.{replies_of}
-use Rattle.sched_tool.specs.Refusals.{AreQueriesRefused, IsFirstRefused, query_refusal}
-use Rattle.sched_tool.specs.Subjects.{AllFound}
-use Rattle.sched_tool.specs.declared.answers_text.QueryReply.{QueryReply}
-use Rattle.sched_tool.specs.declared.answers_text.Reply.TheVariants.{Answer}
+use Rattle.sched_tool.specs.Refusals.{AreQueriesRefused, IsFirstRefused, IsQueryRefused, query_refusal}
+use Rattle.sched_tool.specs.Subjects.{AllAnswerable, IsAnswerable}
+use Rattle.sched_tool.specs.declared.refusal.QueryFault.{QueryFault}
+use Rattle.sched_tool.specs.declared.refusal.QueryFault.TheVariants.{NotBuilt, Refused}
 
 -- the queries checked so far, and the next
 pub same_more : (queries : List Query) (all : List Checked) (checked : Checked) (number : ℕ) (query : Query) → number < length queries → query ≡ get_or queries number query → map query_of all ≡ take number queries → query_of checked ≡ query → map query_of (all ++ checked ∷ []) ≡ take (number + 1) queries
 same_more queries all checked number query short is before same =
     map-append query_of all (checked ∷ []) ∙ ap (λ v. v ++ query_of checked ∷ []) before ∙ ap (λ v. take number queries ++ v ∷ []) (same ∙ is) ∙ sym (take_more queries number query short)
 
--- the queries whose names were found so far, and the next
-pub AllFound-more : (tables : List NamedTable) (queries : List Query) (number : ℕ) (query : Query) → number < length queries → query ≡ get_or queries number query → AllFound tables (take number queries) → refusal_of tables query ≡ None → AllFound tables (take (number + 1) queries)
-AllFound-more tables queries number query short is before found =
-    let P : Query → Type 0 = λ q. refusal_of tables q ≡ None in
-    subst (All P) (ap (λ q. take number queries ++ q ∷ []) is ∙ sym (take_more queries number query short)) (All-push P (take number queries) query before found)
+-- the queries that can be answered so far, and the next
+pub AllAnswerable-more : (tables : List NamedTable) (queries : List Query) (number : ℕ) (query : Query) → number < length queries → query ≡ get_or queries number query → AllAnswerable tables (take number queries) → IsAnswerable tables query → AllAnswerable tables (take (number + 1) queries)
+AllAnswerable-more tables queries number query short is before next =
+    subst (All (IsAnswerable tables)) (ap (λ q. take number queries ++ q ∷ []) is ∙ sym (take_more queries number query short)) (All-push (IsAnswerable tables) (take number queries) query before next)
 
-first_is : (subject : Subject) (number : ℕ) (query : Query) (refusal : PlanRefusal) → number < length subject.queries → query ≡ get_or subject.queries number query → AllFound subject.tables (take number subject.queries) → refusal_of subject.tables query ≡ Some refusal → IsFirstRefused subject number refusal
-first_is subject number query refusal short is first e = record { query = query; is = slice_get-get_or subject.queries number query short ∙ ap (λ v. Some v) (sym is); refused = e; first = first }
+module _ (subject : Subject) (number : ℕ) (query : Query) (short : number < length subject.queries) (is : query ≡ get_or subject.queries number query) (before : AllAnswerable subject.tables (take number subject.queries)) where
+  first_is : (fault : QueryFault) → IsQueryRefused subject.tables query fault → IsFirstRefused subject number fault
+  first_is fault why = record { query = query; is = slice_get-get_or subject.queries number query short ∙ ap (λ v. Some v) (sym is); refused = why; first = before }
 
--- the first query that is refused
-pub first_refused : (subject : Subject) (number : ℕ) (query : Query) (refusal : PlanRefusal) → number < length subject.queries → query ≡ get_or subject.queries number query → AllFound subject.tables (take number subject.queries) → ((refusal ≡ OutOfMemory) ⊎ (refusal_of subject.tables query ≡ Some refusal)) → AreQueriesRefused subject (query_refusal number refusal)
-first_refused subject number query (UnknownTable name) short is first (inl e) = absurd (cc)
-first_refused subject number query (UnknownTable name) short is first (inr e) = inr (number, UnknownTable name, refl, first_is subject number query (UnknownTable name) short is first e)
-first_refused subject number query (UnknownColumn name) short is first (inl e) = absurd (cc)
-first_refused subject number query (UnknownColumn name) short is first (inr e) = inr (number, UnknownColumn name, refl, first_is subject number query (UnknownColumn name) short is first e)
-first_refused subject number query OutOfMemory short is first e = inl refl
+  -- the first query that is refused
+  pub first_refused : (fault : QueryFault) → ((fault ≡ Refused OutOfMemory) ⊎ IsQueryRefused subject.tables query fault) → AreQueriesRefused subject (query_refusal number fault)
+  first_refused (Refused (UnknownTable name)) (inl e) = absurd (cc)
+  first_refused (Refused (UnknownTable name)) (inr why) = inr (number, Refused (UnknownTable name), refl, first_is (Refused (UnknownTable name)) why)
+  first_refused (Refused (UnknownColumn name)) (inl e) = absurd (cc)
+  first_refused (Refused (UnknownColumn name)) (inr why) = inr (number, Refused (UnknownColumn name), refl, first_is (Refused (UnknownColumn name)) why)
+  first_refused (Refused OutOfMemory) e = inl refl
+  first_refused NotBuilt (inl e) = absurd (cc)
+  first_refused NotBuilt (inr why) = inr (number, NotBuilt, refl, first_is NotBuilt why)
 
--- the queries of checked queries have a form that all queries have
-pub All-query_of : (P : Query → Type 0) (all : List Checked) (queries : List Query) → map query_of all ≡ queries → All P queries → All (λ c. P (query_of c)) all
-All-query_of P all queries same form k d short =
+-- checked queries have a form that is answered if their queries can be answered
+pub AllBuilt : (tables : List NamedTable) (all : List Checked) (queries : List Query) → map query_of all ≡ queries → AllAnswerable tables queries → All (λ c. IsBuilt (query_of c)) all
+AllBuilt tables all queries same answerable k d short =
     let count : length all ≡ length queries = sym (length-map all query_of) ∙ ap length same in
     let at : get_or queries k (query_of d) ≡ query_of (get_or all k d) = ap (λ v. get_or v k (query_of d)) (sym same) ∙ get_or-map query_of all k d (query_of d) short in
-    subst P at (form k (query_of d) (omega arith))
+    subst IsBuilt at (answerable k (query_of d) (omega arith)).built
 
 -- one more query is numbered by the count of those before it
 enumerate_from-push : {X : Type 0} (n : ℕ) (xs : List X) (x : X) → enumerate_from n (xs ++ x ∷ []) ≡ enumerate_from n xs ++ (n + length xs, x) ∷ []

@@ -5,8 +5,8 @@ use Rattle.sched_tool.specs.Outsides.{Outside}
 use Rattle.sched_tool.specs.ReadFaults.{FaultsAt}
 use Rattle.sched_tool.specs.Refusals.{AreQueriesRefused, AreTablesRefused, IsCheckRefused, IsEntryRefused}
 use Rattle.sched_tool.specs.Subjects.{HoldsScript, HoldsSubject, IsNext}
-use Rattle.sched_tool.specs.declared.read_script.Script.{Script}
-use Rattle.sched_tool.specs.declared.read_script.TableEntry.{TableEntry}
+use Rattle.script_json.specs.declared.script.Script.{Script}
+use Rattle.script_json.specs.declared.script.TableEntry.{TableEntry}
 use Rattle.sched_tool.specs.declared.refusal.Refusal.{Refusal}
 use Rattle.sched_tool.specs.declared.refusal.Refusal.TheVariants as refusal
 

@@ -3,7 +3,7 @@ use Rattle.std.proofs.Common.{◌≡◌, ℕ, zero, suc, ◌<◌, List, [], ◌�
 use Rattle.plan_ast.specs.declared.queries.NamedTable.{NamedTable}
 use Rattle.sched_tool.specs.Outsides.{Outside, possible}
 use Rattle.sched_tool.specs.Subjects.{HoldsTable, HoldsTooMuch, HoldTables}
-use Rattle.sched_tool.specs.declared.read_script.TableEntry.{TableEntry}
+use Rattle.script_json.specs.declared.script.TableEntry.{TableEntry}
 
 -- contents that are the same at every name are the same
 pub same_content : (a b : List ℕ → Option (List ℕ)) → ((any : List ℕ) → a any ≡ b any) → a ≡ b

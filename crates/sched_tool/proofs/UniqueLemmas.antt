@@ -6,33 +6,40 @@ use Rattle.csv_tables.specs.Loading.{LoadsTable, records_of}
 use Rattle.csv_tables.specs.Refusals.{RefusesTable}
 use Rattle.plan_ast.specs.Names.{refusal_of}
 use Rattle.plan_ast.specs.Subject.{Subject}
-use Rattle.plan_ast.specs.declared.checks.PlanRefusal.{PlanRefusal}
 use Rattle.plan_ast.specs.declared.queries.NamedTable.{NamedTable}
 use Rattle.sched_tool.proofs.OutsideLemmas.{Agree-swap}
-use Rattle.sched_tool.proofs.ScriptsLemmas.{loads_not_refused, reads_not_refused, ReadsScript-unique}
+use Rattle.sched_tool.proofs.ReadersLemmas.{loads_not_refused, reads_not_refused, ReadsScript-unique}
 use Rattle.sched_tool.specs.Outsides.{Agree, Outside}
-use Rattle.sched_tool.specs.Refusals.{IsCheckRefused, IsFirstRefused, IsScriptRefused, IsTableRefused}
-use Rattle.sched_tool.specs.Scripts.{ReadsScript, RefusesScript}
+use Rattle.sched_tool.specs.Refusals.{IsCheckRefused, IsFirstRefused, IsQueryRefused, IsScriptRefused, IsTableRefused}
+use Rattle.script_json.specs.Scripts.{ReadsScript, RefusesScript}
 use Rattle.sched_tool.specs.Statuses.{status_of}
-use Rattle.sched_tool.specs.Subjects.{AllFound, Holds, HoldsScript, HoldsSubject, HoldsTable, HoldsTooMuch, HoldTables, IsAccepted}
+use Rattle.sched_tool.specs.Subjects.{AllAnswerable, Holds, HoldsScript, HoldsSubject, HoldsTable, HoldsTooMuch, HoldTables, IsAccepted, IsAnswerable}
 use Rattle.sched_tool.specs.Writing.{IsFinding}
-use Rattle.sched_tool.specs.declared.read_script.Script.{Script}
-use Rattle.sched_tool.specs.declared.read_script.TableEntry.{TableEntry}
+use Rattle.script_json.specs.declared.script.Script.{Script}
+use Rattle.script_json.specs.declared.script.TableEntry.{TableEntry}
 use Rattle.sched_tool.specs.declared.refusal.Refusal.{Refusal}
 use Rattle.sched_tool.specs.declared.refusal.Refusal.TheVariants.{Usage, CannotRead, Script as ScriptRefused, Table, OutOfMemory}
+use Rattle.plan_ast.specs.declared.queries.Query.{Query}
+use Rattle.sched_tool.specs.declared.refusal.QueryFault.{QueryFault}
+use Rattle.sched_tool.specs.declared.refusal.QueryFault.TheVariants.{NotBuilt, Refused}
 use Rattle.sched_tool.specs.declared.refusal.ScriptFault.{ScriptFault}
 use Rattle.sched_tool.specs.declared.refusal.ScriptFault.TheVariants as script_fault
 use Rattle.sched_tool.specs.declared.refusal.TableFault.{TableFault}
 use Rattle.sched_tool.specs.declared.refusal.TableFault.TheVariants as table_fault
 
 -- an accepted subject has no query that is refused
-found_not_refused : (subject : Subject) (number : ℕ) (r : PlanRefusal) → AllFound subject.tables subject.queries → IsFirstRefused subject number r → ⊥
-found_not_refused subject number r found first =
+answerable_not_refused : (tables : List NamedTable) (query : Query) (fault : QueryFault) → IsAnswerable tables query → IsQueryRefused tables query fault → ⊥
+answerable_not_refused tables query (Refused r) can why =
+    let none : refusal_of tables query ≡ None = can.found in
+    let some : refusal_of tables query ≡ Some r = why in
+    cc
+answerable_not_refused tables query NotBuilt can why = why.1 can.built
+
+found_not_refused : (subject : Subject) (number : ℕ) (fault : QueryFault) → AllAnswerable subject.tables subject.queries → IsFirstRefused subject number fault → ⊥
+found_not_refused subject number fault all first =
     let within = slice_get_within subject.queries number first.query first.is in
     let at : get_or subject.queries number first.query ≡ first.query = get_or_from_slice_get subject.queries number first.query first.query first.is in
-    let none : refusal_of subject.tables first.query ≡ None = ap (refusal_of subject.tables) (sym at) ∙ found number first.query within in
-    let some : refusal_of subject.tables first.query ≡ Some r = first.refused in
-    cc
+    answerable_not_refused subject.tables first.query fault (subst (IsAnswerable subject.tables) at (all number first.query within)) first.refused
 
 module _ (a b : Outside) (agree : Agree a b) where
   -- what a file holds is of both kinds
@@ -94,7 +101,7 @@ module _ (a b : Outside) (agree : Agree a b) where
       not_table entry held.0 fault held.1 (subst (λ n. IsTableRefused b n fault) y.1.2 y.0)
 
   -- a script that is read isn't refused before its queries are
-  script_not_unread : (file : List ℕ) (script : Script) (fault : ScriptFault) → HoldsScript a file script → IsScriptRefused b file fault → (subject : Subject) × HoldsSubject b file subject × ((number : ℕ) × (r : PlanRefusal) × (fault ≡ script_fault.Query number r) × IsFirstRefused subject number r)
+  script_not_unread : (file : List ℕ) (script : Script) (fault : ScriptFault) → HoldsScript a file script → IsScriptRefused b file fault → (subject : Subject) × HoldsSubject b file subject × ((number : ℕ) × (r : QueryFault) × (fault ≡ script_fault.Query number r) × IsFirstRefused subject number r)
   script_not_unread file script script_fault.TooLong x y = absurd (not_too_much file (λ bytes. ReadsScript bytes script) x y)
   script_not_unread file script (script_fault.Unread r) x y =
       let both = same_bytes file (λ bytes. ReadsScript bytes script) (λ bytes. RefusesScript bytes r) x y.1 in
@@ -108,7 +115,7 @@ module _ (a b : Outside) (agree : Agree a b) where
   accepted_not_refused file subject (ScriptRefused fault) x finding y =
       let query = script_not_unread file x.held.script fault x.held.held y in
       let same = subject_is file subject query.0 x.held query.1 in
-      found_not_refused query.0 query.2.0 query.2.1 (subst (λ s. AllFound s.tables s.queries) same x.found) query.2.3
+      found_not_refused query.0 query.2.0 query.2.1 (subst (λ s. AllAnswerable s.tables s.queries) same x.answerable) query.2.3
   accepted_not_refused file subject (Table name fault) x finding y = subject_not_table file subject name fault x.held y
   accepted_not_refused file subject OutOfMemory x finding y = finding
 

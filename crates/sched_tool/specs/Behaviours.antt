@@ -4,12 +4,12 @@ use Rattle.std.specs.List.{enumerate_from}
 use Rattle.plan_ast.specs.Answer.{answer_of}
 use Rattle.plan_ast.specs.Subject.{Subject}
 use Rattle.sched_tool.specs.Outsides.{known, Outside}
-use Rattle.sched_tool.specs.PrintedAnswers.{answers_bytes, line}
+use Rattle.report_text.specs.AnswersText.{answers_bytes, line}
 use Rattle.sched_tool.specs.Refusals.{IsCheckRefused}
 use Rattle.sched_tool.specs.Subjects.{IsAccepted, IsRead}
 use Rattle.sched_tool.specs.Words.{check, Meaning}
-use Rattle.sched_tool.specs.declared.answers_text.QueryReply.{QueryReply}
-use Rattle.sched_tool.specs.declared.answers_text.Reply.TheVariants.{Answer}
+use Rattle.report_text.specs.declared.replies.QueryReply.{QueryReply}
+use Rattle.report_text.specs.declared.replies.Reply.TheVariants.{Answer}
 use Rattle.sched_tool.specs.declared.refusal.Refusal.{Refusal}
 use Rattle.sched_tool.specs.declared.refusal.Refusal.TheVariants.{Usage, CannotRead, Script, Table, OutOfMemory}
 

@@ -2,11 +2,12 @@
 use Rattle.std.specs.Prelude.{ℕ, List, ◌++◌, codes, decimal}
 use Rattle.csv_tables.specs.declared.refusal.TableRefusal.{TableRefusal}
 use Rattle.csv_tables.specs.declared.refusal.TableRefusal.TheVariants as table
-use Rattle.plan_ast.specs.declared.checks.PlanRefusal.{PlanRefusal}
-use Rattle.plan_ast.specs.declared.checks.PlanRefusal.TheVariants as plan
-use Rattle.sched_tool.specs.PrintedAnswers.{line}
-use Rattle.sched_tool.specs.declared.read_script.ScriptRefusal.{ScriptRefusal}
-use Rattle.sched_tool.specs.declared.read_script.ScriptRefusal.TheVariants as script
+use Rattle.plan_ast.specs.declared.refusals.PlanRefusal.{PlanRefusal}
+use Rattle.plan_ast.specs.declared.refusals.PlanRefusal.TheVariants as plan
+use Rattle.report_text.specs.AnswersText.{line}
+use Rattle.script_json.specs.Paths.{refusal_text}
+use Rattle.sched_tool.specs.declared.refusal.QueryFault.{QueryFault}
+use Rattle.sched_tool.specs.declared.refusal.QueryFault.TheVariants as query_fault
 use Rattle.sched_tool.specs.declared.refusal.ScriptFault.{ScriptFault}
 use Rattle.sched_tool.specs.declared.refusal.ScriptFault.TheVariants as script_fault
 use Rattle.sched_tool.specs.declared.refusal.TableFault.{TableFault}
@@ -14,25 +15,36 @@ use Rattle.sched_tool.specs.declared.refusal.TableFault.TheVariants as table_fau
 use Rattle.sched_tool.specs.declared.refusal.Refusal.{Refusal}
 use Rattle.sched_tool.specs.declared.refusal.Refusal.TheVariants.{Usage, CannotRead, Script, Table, OutOfMemory}
 
--- why bytes are no script
-abbrev pub script_text : ScriptRefusal → List ℕ
-script_text script.NotThisForm = codes "not this form"
-script_text script.OutOfMemory = codes "out of memory"
+-- which name of a query isn't there
+abbrev pub name_text : PlanRefusal → List ℕ
+name_text (plan.UnknownTable name) = codes "unknown table " ++ name
+name_text (plan.UnknownColumn name) = codes "unknown column " ++ name
+name_text plan.OutOfMemory = codes "out of memory"
 
 -- why a query can't be answered
-abbrev pub query_text : PlanRefusal → List ℕ
-query_text (plan.UnknownTable name) = codes "unknown table " ++ name
-query_text (plan.UnknownColumn name) = codes "unknown column " ++ name
-query_text plan.OutOfMemory = codes "out of memory"
+abbrev pub query_text : QueryFault → List ℕ
+query_text (query_fault.Refused refusal) = name_text refusal
+query_text query_fault.NotBuilt = codes "not built"
 
 abbrev pub script_fault_text : ScriptFault → List ℕ
 script_fault_text script_fault.TooLong = codes "too long"
-script_fault_text (script_fault.Unread refusal) = script_text refusal
-script_fault_text (script_fault.Query number refusal) = codes "query " ++ (decimal number ++ (codes ": " ++ query_text refusal))
+script_fault_text (script_fault.Unread refusal) = refusal_text refusal
+script_fault_text (script_fault.Query number fault) = codes "query " ++ (decimal number ++ (codes ": " ++ query_text fault))
+
+-- a place in a table
+abbrev pub place_text : ℕ → ℕ → List ℕ
+place_text row field = decimal row ++ (codes " field " ++ decimal field)
 
 -- why bytes are no table
 abbrev pub table_text : TableRefusal → List ℕ
-table_text table.NotThisForm = codes "not this form"
+table_text table.NoHeader = codes "no header"
+table_text table.TooManyColumns = codes "too many columns"
+table_text (table.BadName field) = codes "bad name field " ++ decimal field
+table_text (table.TwiceNamed field) = codes "named twice field " ++ decimal field
+table_text (table.Ragged row) = codes "ragged record " ++ decimal row
+table_text (table.NotANumber row field) = codes "not a number record " ++ place_text row field
+table_text (table.OutOfRange row field) = codes "out of range record " ++ place_text row field
+table_text table.TooManyRows = codes "too many rows"
 table_text table.OutOfMemory = codes "out of memory"
 
 abbrev pub table_fault_text : TableFault → List ℕ

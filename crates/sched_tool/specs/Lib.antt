@@ -2,10 +2,8 @@ pub mod Behaviours
 pub mod Commands
 pub mod ErrorLines
 pub mod Outsides
-pub mod PrintedAnswers
 pub mod ReadFaults
 pub mod Refusals
-pub mod Scripts
 pub mod Statuses
 pub mod Subjects
 pub mod Words

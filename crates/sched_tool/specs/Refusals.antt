@@ -1,17 +1,20 @@
 -- Why a script, its tables and its queries are refused.
-use Rattle.std.specs.Prelude.{◌≡◌, ◌≢◌, ◌⊎◌, ℕ, List, take, Some, slice_get}
+use Rattle.std.specs.Prelude.{◌≡◌, ◌≢◌, ◌⊎◌, ℕ, List, take, Some, None, slice_get}
 use Rattle.csv_tables.specs.Refusals.{RefusesTable}
 use Rattle.csv_tables.specs.declared.refusal.TableRefusal.TheVariants as table
+use Rattle.pipe_ops.specs.Built.{IsBuilt}
 use Rattle.plan_ast.specs.Names.{refusal_of}
 use Rattle.plan_ast.specs.Subject.{Subject}
-use Rattle.plan_ast.specs.declared.checks.PlanRefusal.{PlanRefusal}
-use Rattle.plan_ast.specs.declared.checks.PlanRefusal.TheVariants as plan
+use Rattle.plan_ast.specs.declared.queries.NamedTable.{NamedTable}
 use Rattle.plan_ast.specs.declared.queries.Query.{Query}
+use Rattle.plan_ast.specs.declared.refusals.PlanRefusal.TheVariants as plan
 use Rattle.sched_tool.specs.Outsides.{Outside}
-use Rattle.sched_tool.specs.Scripts.{RefusesScript}
-use Rattle.sched_tool.specs.Subjects.{AllFound, Holds, HoldsSubject, HoldsTooMuch, IsNext, IsNextTable, IsRead}
-use Rattle.sched_tool.specs.declared.read_script.ScriptRefusal.TheVariants as script
-use Rattle.sched_tool.specs.declared.read_script.TableEntry.{TableEntry}
+use Rattle.script_json.specs.Scripts.{RefusesScript}
+use Rattle.sched_tool.specs.Subjects.{AllAnswerable, Holds, HoldsSubject, HoldsTooMuch, IsNext, IsNextTable, IsRead}
+use Rattle.script_json.specs.declared.refusal.ScriptRefusal.TheVariants as script
+use Rattle.script_json.specs.declared.script.TableEntry.{TableEntry}
+use Rattle.sched_tool.specs.declared.refusal.QueryFault.{QueryFault}
+use Rattle.sched_tool.specs.declared.refusal.QueryFault.TheVariants as query_fault
 use Rattle.sched_tool.specs.declared.refusal.ScriptFault.{ScriptFault}
 use Rattle.sched_tool.specs.declared.refusal.ScriptFault.TheVariants as script_fault
 use Rattle.sched_tool.specs.declared.refusal.TableFault.{TableFault}
@@ -19,20 +22,25 @@ use Rattle.sched_tool.specs.declared.refusal.TableFault.TheVariants as table_fau
 use Rattle.sched_tool.specs.declared.refusal.Refusal.{Refusal}
 use Rattle.sched_tool.specs.declared.refusal.Refusal.TheVariants.{Usage, CannotRead, Script, Table, OutOfMemory}
 
--- the first query that is refused has this number, and this is its refusal
-pub record IsFirstRefused (subject : Subject) (number : ℕ) (refusal : PlanRefusal) : Type 0 where
+-- why a query can't be answered over tables: a name in it isn't there, or else its form isn't answered yet
+abbrev pub IsQueryRefused : List NamedTable → Query → QueryFault → Type 0
+IsQueryRefused tables query (query_fault.Refused refusal) = refusal_of tables query ≡ Some refusal
+IsQueryRefused tables query query_fault.NotBuilt = (refusal_of tables query ≡ None) × ¬ (IsBuilt query)
+
+-- the first query that can't be answered has this number, and this is why
+pub record IsFirstRefused (subject : Subject) (number : ℕ) (fault : QueryFault) : Type 0 where
   pub query : Query
   pub is : slice_get subject.queries number ≡ Some query
-  pub refused : refusal_of subject.tables query ≡ Some refusal
-  pub first : AllFound subject.tables (take number subject.queries)
+  pub refused : IsQueryRefused subject.tables query fault
+  pub first : AllAnswerable subject.tables (take number subject.queries)
 
 -- why the script in a file is refused; that memory ran out is no cause
 abbrev pub IsScriptRefused : Outside → List ℕ → ScriptFault → Type 0
 IsScriptRefused outside file script_fault.TooLong = HoldsTooMuch outside file
 IsScriptRefused outside file (script_fault.Unread refusal) =
     (refusal ≢ script.OutOfMemory) × Holds outside file (λ bytes. RefusesScript bytes refusal)
-IsScriptRefused outside file (script_fault.Query number refusal) =
-    (subject : Subject) × HoldsSubject outside file subject × IsFirstRefused subject number refusal
+IsScriptRefused outside file (script_fault.Query number fault) =
+    (subject : Subject) × HoldsSubject outside file subject × IsFirstRefused subject number fault
 
 -- why the table in a file is refused; that memory ran out is no cause
 abbrev pub IsTableRefused : Outside → List ℕ → TableFault → Type 0
@@ -65,13 +73,16 @@ AreTablesRefused outside entries refusal = (refusal ≡ OutOfMemory)
     ⊎ ((entry : TableEntry) × IsNext outside entries entry × IsEntryRefused outside entry refusal)
 
 -- the refusal of `check` that a refused query brings
-abbrev pub query_refusal : ℕ → PlanRefusal → Refusal
-query_refusal number (plan.UnknownTable name) = Script (script_fault.Query number (plan.UnknownTable name))
-query_refusal number (plan.UnknownColumn name) = Script (script_fault.Query number (plan.UnknownColumn name))
-query_refusal number plan.OutOfMemory = OutOfMemory
+abbrev pub query_refusal : ℕ → QueryFault → Refusal
+query_refusal number (query_fault.Refused plan.OutOfMemory) = OutOfMemory
+query_refusal number (query_fault.Refused (plan.UnknownTable name)) =
+    Script (script_fault.Query number (query_fault.Refused (plan.UnknownTable name)))
+query_refusal number (query_fault.Refused (plan.UnknownColumn name)) =
+    Script (script_fault.Query number (query_fault.Refused (plan.UnknownColumn name)))
+query_refusal number query_fault.NotBuilt = Script (script_fault.Query number query_fault.NotBuilt)
 
 -- why the queries of a subject are refused: the first that is, or memory ran out
 abbrev pub AreQueriesRefused : Subject → Refusal → Type 0
 AreQueriesRefused subject refusal = (refusal ≡ OutOfMemory)
-    ⊎ ((number : ℕ) × (fault : PlanRefusal) × (refusal ≡ Script (script_fault.Query number fault))
+    ⊎ ((number : ℕ) × (fault : QueryFault) × (refusal ≡ Script (script_fault.Query number fault))
     × IsFirstRefused subject number fault)

@@ -1,14 +1,15 @@
 -- Scripts and tables in files: which subject a script is, and which files are read.
 use Rattle.std.specs.Prelude.{◌≡◌, ◌≤◌, ◌<◌, ◌⊎◌, ℕ, List, [], ◌∷◌, ◌++◌, length, All, None}
 use Rattle.csv_tables.specs.Loading.{LoadsTable}
+use Rattle.pipe_ops.specs.Built.{IsBuilt}
 use Rattle.plan_ast.specs.Names.{refusal_of}
 use Rattle.plan_ast.specs.Subject.{Subject}
 use Rattle.plan_ast.specs.declared.queries.NamedTable.{NamedTable}
 use Rattle.plan_ast.specs.declared.queries.Query.{Query}
 use Rattle.sched_tool.specs.Outsides.{Outside}
-use Rattle.sched_tool.specs.Scripts.{ReadsScript}
-use Rattle.sched_tool.specs.declared.read_script.Script.{Script}
-use Rattle.sched_tool.specs.declared.read_script.TableEntry.{TableEntry}
+use Rattle.script_json.specs.Scripts.{ReadsScript}
+use Rattle.script_json.specs.declared.script.Script.{Script}
+use Rattle.script_json.specs.declared.script.TableEntry.{TableEntry}
 
 -- a file holds bytes of this kind, and no more than a file may have
 pub record Holds (outside : Outside) (file : List ℕ) (IsKind : List ℕ → Type 0) : Type 0 where
@@ -48,14 +49,18 @@ pub record HoldsSubject (outside : Outside) (file : List ℕ) (subject : Subject
   pub tables : HoldTables outside script.tables subject.tables
   pub queries : subject.queries ≡ script.queries
 
--- each name in each query is there
-abbrev pub AllFound : List NamedTable → List Query → Type 0
-AllFound tables queries = All (λ query. refusal_of tables query ≡ None) queries
+-- a query can be answered over tables: each name in it is there, and it has a form that is answered
+pub record IsAnswerable (tables : List NamedTable) (query : Query) : Type 0 where
+  pub found : refusal_of tables query ≡ None
+  pub built : IsBuilt query
+
+abbrev pub AllAnswerable : List NamedTable → List Query → Type 0
+AllAnswerable tables queries = All (IsAnswerable tables) queries
 
 -- the script, its tables and its queries are accepted: this is the subject
 pub record IsAccepted (outside : Outside) (file : List ℕ) (subject : Subject) : Type 0 where
   pub held : HoldsSubject outside file subject
-  pub found : AllFound subject.tables subject.queries
+  pub answerable : AllAnswerable subject.tables subject.queries
 
 -- the table of this entry is the next to be read: those of the entries before it were read
 pub record IsNext (outside : Outside) (entries : List TableEntry) (entry : TableEntry) : Type 0 where

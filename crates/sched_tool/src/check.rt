@@ -1,22 +1,22 @@
 //! The command `check`: the answers to the queries of a script, one after another.
-ghost use Rattle.std.specs.Prelude.{◌≡◌, ◌≤◌, ℕ, List, All, IfErr, IfOk, OnOk, length, map};
-ghost use Rattle.plan_ast.specs.Checks.{IsCheckedFor, IsOneSum, query_of};
+ghost use Rattle.std.specs.Prelude.{◌≡◌, ◌≤◌, ◌⊎◌, ℕ, List, All, IfErr, IfOk, OnOk, length, map};
+ghost use Rattle.pipe_ops.specs.Built.{IsBuilt};
+ghost use Rattle.plan_ast.specs.Bounds.{IsInBounds};
+ghost use Rattle.plan_ast.specs.Checks.{IsCheckedFor, query_of};
 ghost use Rattle.sched_tool.specs.Behaviours.{OneAnswer, check_behaviour, check_text, replies_of};
 ghost use Rattle.sched_tool.specs.Commands.{Gives, GivesUp};
 ghost use Rattle.sched_tool.specs.Outsides.{possible};
-ghost use Rattle.sched_tool.specs.PrintedAnswers.{CanBePrinted};
-ghost use Rattle.sched_tool.specs.Refusals.{AreQueriesRefused, query_refusal};
-ghost use Rattle.sched_tool.specs.Subjects.{AllFound};
-ghost use Rattle.sched_tool.specs.declared.read_script.TheConstants.{MOST_QUERIES};
+ghost use Rattle.sched_tool.specs.Refusals.{AreQueriesRefused, IsQueryRefused, query_refusal};
+ghost use Rattle.sched_tool.specs.Subjects.{AllAnswerable, IsAnswerable};
 
-use super::answers_text::{QueryReply, Reply, answers_text};
 use super::output::Output;
-use super::plain_answer::plain_answer;
-use super::read_script::Script;
-use super::refusal::{Refusal, ScriptFault};
+use super::refusal::{QueryFault, Refusal, ScriptFault};
 use super::subject::{open_script, open_tables};
 use outside_io::Files;
+use pipe_ops::{is_built, plain_answer};
 use plan_ast::{Checked, NamedTable, PlanRefusal, Query, check};
+use report_text::{QueryReply, Reply, answers_text};
+use script_json::Script;
 use std::alloc::{AllocError, Global};
 
 /// `check` of the script in a file: the answer to each query, and `end`.
@@ -48,38 +48,54 @@ fn check_queries(
     tables: &[NamedTable],
     queries: &[Query],
 ) -> Result<Vec<Checked>, Refusal>
-    requires form { All IsOneSum queries.now }
-    requires few { length queries.now ≤ MOST_QUERIES }
+    requires in_bounds { All IsInBounds queries.now }
+    requires few { length queries.now ≤ 4096 }
     ensures same { IfOk result (λ checked. map query_of checked.items ≡ queries.now) }
     ensures placed { IfOk result (λ checked. All (IsCheckedFor tables.now) checked.items) }
-    ensures found { OnOk result (AllFound tables.now queries.now) }
+    ensures answerable { OnOk result (AllAnswerable tables.now queries.now) }
     ensures err { IfErr result (AreQueriesRefused (record { tables = tables.now; queries = queries.now })) }
 {
     let mut all = Vec::with_capacity(alloc, queries.len())?;
     for (number, query) in queries.iter().enumerate() {
-        match check(alloc, query, tables) {
+        match check_query(alloc, tables, query) {
             Ok(checked) => all.push(checked)?,
-            Err(refusal) => return Err(refusal_of_query(number as u32, refusal)),
+            Err(fault) => return Err(refusal_of_query(number as u32, fault)),
         }
     }
     Ok(all)
 }
 
-// The refusal of `check` that a refused query brings.
-fn refusal_of_query(number: u32, refusal: PlanRefusal) -> Refusal
-    ensures { result ≡ query_refusal number refusal }
+// Checks a query against the tables: first its names, and then whether its form is answered.
+fn check_query(alloc: Global, tables: &[NamedTable], query: &Query) -> Result<Checked, QueryFault>
+    requires { IsInBounds query.now }
+    ensures same_query { IfOk result (λ checked. query_of checked ≡ query.now) }
+    ensures placed { IfOk result (IsCheckedFor tables.now) }
+    ensures answerable { OnOk result (IsAnswerable tables.now query.now) }
+    ensures refused { IfErr result (λ fault. (fault ≡ QueryFault.Refused PlanRefusal.OutOfMemory)
+        ⊎ IsQueryRefused tables.now query.now fault) }
 {
-    match refusal {
-        PlanRefusal::OutOfMemory => Refusal::OutOfMemory,
-        refusal => Refusal::Script(ScriptFault::Query { number, refusal }),
+    match check(alloc, query, tables) {
+        Ok(checked) if is_built(query) => Ok(checked),
+        Ok(_) => Err(QueryFault::NotBuilt),
+        Err(refusal) => Err(QueryFault::Refused(refusal)),
+    }
+}
+
+// The refusal of `check` that a refused query brings.
+fn refusal_of_query(number: u32, fault: QueryFault) -> Refusal
+    ensures { result ≡ query_refusal number fault }
+{
+    match fault {
+        QueryFault::Refused(PlanRefusal::OutOfMemory) => Refusal::OutOfMemory,
+        fault => Refusal::Script(ScriptFault::Query { number, fault }),
     }
 }
 
 // Answers each query, and writes the answers out.
 fn text_of(alloc: Global, tables: &[NamedTable], checked: &[Checked]) -> Result<Vec<u8>, AllocError>
     requires placed { All (IsCheckedFor tables.now) checked.now }
-    requires form { All (λ c. IsOneSum (query_of c)) checked.now }
-    requires few { length checked.now ≤ MOST_QUERIES }
+    requires built { All (λ c. IsBuilt (query_of c)) checked.now }
+    requires few { length checked.now ≤ 4096 }
     ensures { IfOk result (λ text. text.items ≡ check_text (record { tables = tables.now; queries = map query_of checked.now })) }
 {
     let replies = answer_queries(alloc, tables, checked)?;
@@ -95,11 +111,10 @@ fn answer_queries(
     checked: &[Checked],
 ) -> Result<Vec<QueryReply>, AllocError>
     requires placed { All (IsCheckedFor tables.now) checked.now }
-    requires form { All (λ c. IsOneSum (query_of c)) checked.now }
-    requires few { length checked.now ≤ MOST_QUERIES }
-    ensures answers { IfOk result (λ replies. replies.items
+    requires built { All (λ c. IsBuilt (query_of c)) checked.now }
+    requires few { length checked.now ≤ 4096 }
+    ensures { IfOk result (λ replies. replies.items
         ≡ replies_of (record { tables = tables.now; queries = map query_of checked.now })) }
-    ensures printed { IfOk result (λ replies. All CanBePrinted replies.items) }
 {
     let mut replies = Vec::with_capacity(alloc, checked.len())?;
     for (query, checked) in checked.iter().enumerate() {

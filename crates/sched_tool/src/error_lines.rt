@@ -1,6 +1,5 @@
 //! The lines that say why there is no answer: each refusal as text is its line, without the line's end.
-use super::read_script::ScriptRefusal;
-use super::refusal::{Refusal, ScriptFault, TableFault};
+use super::refusal::{QueryFault, Refusal, ScriptFault, TableFault};
 use csv_tables::TableRefusal;
 use plan_ast::PlanRefusal;
 use std::fmt;
@@ -34,10 +33,8 @@ impl fmt::Display for ScriptFault {
     fn fmt<W: fmt::Write>(&self, f: &mut fmt::Formatter<W>) -> fmt::Result {
         match self {
             ScriptFault::TooLong => write!(f, "too long"),
-            ScriptFault::Unread(refusal) => write!(f, "{}", ScriptText(refusal)),
-            ScriptFault::Query { number, refusal } => {
-                write!(f, "query {number}: {}", QueryText(refusal))
-            }
+            ScriptFault::Unread(refusal) => write!(f, "{refusal}"),
+            ScriptFault::Query { number, fault } => write!(f, "query {number}: {fault}"),
         }
     }
 }
@@ -56,24 +53,6 @@ impl fmt::Display for TableFault {
     }
 }
 
-// Why bytes are no script, as text.
-#[derive(Clone, Copy)]
-struct ScriptText<'a>(&'a ScriptRefusal);
-
-impl fmt::Display for ScriptText<'_> {
-    ghost use Rattle.std.specs.Prelude.{Some};
-    ghost use Rattle.sched_tool.specs.ErrorLines.{script_text};
-
-    ghost output = { λ text. Some (script_text text.0.now) };
-
-    fn fmt<W: fmt::Write>(&self, f: &mut fmt::Formatter<W>) -> fmt::Result {
-        match self.0 {
-            ScriptRefusal::NotThisForm => write!(f, "not this form"),
-            ScriptRefusal::OutOfMemory => write!(f, "out of memory"),
-        }
-    }
-}
-
 // Why bytes are no table, as text.
 #[derive(Clone, Copy)]
 struct TableText<'a>(&'a TableRefusal);
@@ -86,21 +65,46 @@ impl fmt::Display for TableText<'_> {
 
     fn fmt<W: fmt::Write>(&self, f: &mut fmt::Formatter<W>) -> fmt::Result {
         match self.0 {
-            TableRefusal::NotThisForm => write!(f, "not this form"),
+            TableRefusal::NoHeader => write!(f, "no header"),
+            TableRefusal::TooManyColumns => write!(f, "too many columns"),
+            TableRefusal::BadName(field) => write!(f, "bad name field {field}"),
+            TableRefusal::TwiceNamed(field) => write!(f, "named twice field {field}"),
+            TableRefusal::Ragged(row) => write!(f, "ragged record {row}"),
+            TableRefusal::NotANumber(row, field) => {
+                write!(f, "not a number record {row} field {field}")
+            }
+            TableRefusal::OutOfRange(row, field) => {
+                write!(f, "out of range record {row} field {field}")
+            }
+            TableRefusal::TooManyRows => write!(f, "too many rows"),
             TableRefusal::OutOfMemory => write!(f, "out of memory"),
         }
     }
 }
 
-// Why a query can't be answered, as text.
-#[derive(Clone, Copy)]
-struct QueryText<'a>(&'a PlanRefusal);
-
-impl fmt::Display for QueryText<'_> {
+impl fmt::Display for QueryFault {
     ghost use Rattle.std.specs.Prelude.{Some};
     ghost use Rattle.sched_tool.specs.ErrorLines.{query_text};
 
-    ghost output = { λ text. Some (query_text text.0.now) };
+    ghost output = { λ fault. Some (query_text fault) };
+
+    fn fmt<W: fmt::Write>(&self, f: &mut fmt::Formatter<W>) -> fmt::Result {
+        match self {
+            QueryFault::Refused(refusal) => write!(f, "{}", NameText(refusal)),
+            QueryFault::NotBuilt => write!(f, "not built"),
+        }
+    }
+}
+
+// Which name of a query isn't there, as text.
+#[derive(Clone, Copy)]
+struct NameText<'a>(&'a PlanRefusal);
+
+impl fmt::Display for NameText<'_> {
+    ghost use Rattle.std.specs.Prelude.{Some};
+    ghost use Rattle.sched_tool.specs.ErrorLines.{name_text};
+
+    ghost output = { λ text. Some (name_text text.0.now) };
 
     fn fmt<W: fmt::Write>(&self, f: &mut fmt::Formatter<W>) -> fmt::Result {
         match self.0 {

@@ -1,19 +1,16 @@
 //! The program: the words after its name are read to a command, which reads its files and writes one text.
 //!
-//! It stands on the outside (`outside_io`), on tables and their reading (`col_table`, `csv_tables`), and on
-//! queries (`plan_ast`). Scripts, the answers of the one form that is known so far, and their text are its own.
+//! It stands on the outside (`outside_io`), on scripts (`script_json`) and tables (`csv_tables`) that are read,
+//! on queries and their check (`plan_ast`), on their answers (`pipe_ops`) and on the text of these (`report_text`).
 //!
 //! The one fact that it promises is the contract of `command`: for the words, and for what the files hold where
 //! that is told, it says which text is written and with which status, and the cause of every other ending.
 #![tactic(auto)]
 
-mod answers_text;
 mod check;
 mod command;
 mod error_lines;
 mod output;
-mod plain_answer;
-mod read_script;
 mod refusal;
 mod status;
 mod subject;

@@ -1,10 +1,10 @@
 //! Why there is no answer.
 ghost use Rattle.std.specs.Prelude.{◌≡◌};
 
-use super::read_script::ScriptRefusal;
 use col_table::Text;
 use csv_tables::TableRefusal;
 use plan_ast::PlanRefusal;
+use script_json::ScriptRefusal;
 use std::alloc::{AllocError, AllocFailed};
 
 /// Why a script is refused.
@@ -15,7 +15,16 @@ pub enum ScriptFault {
     /// The bytes are no script. Memory is never the reason.
     Unread(ScriptRefusal),
     /// The query of this number, counted from 0, can't be answered. Memory is never the reason.
-    Query { number: u32, refusal: PlanRefusal },
+    Query { number: u32, fault: QueryFault },
+}
+
+/// Why a query can't be answered.
+#[derive(Debug, Drop)]
+pub enum QueryFault {
+    /// A name in it isn't there.
+    Refused(PlanRefusal),
+    /// It joins tables or puts out groups, which isn't answered yet.
+    NotBuilt,
 }
 
 /// Why a table is refused.

@@ -1,18 +1,17 @@
 //! The script and the tables of a command, read from their files.
 ghost use Rattle.std.specs.Prelude.{◌≡◌, ◌≤◌, ℕ, List, All, IfErr, IfOk, OnOk, length};
-ghost use Rattle.plan_ast.specs.Checks.{IsOneSum};
+ghost use Rattle.plan_ast.specs.Bounds.{IsInBounds};
 ghost use Rattle.sched_tool.specs.Outsides.{possible};
 ghost use Rattle.sched_tool.specs.ReadFaults.{FaultsAt};
 ghost use Rattle.sched_tool.specs.Subjects.{HoldsScript, HoldsTable, HoldTables};
 ghost use Rattle.sched_tool.specs.Refusals.{AreTablesRefused, IsCheckRefused, IsEntryRefused};
-ghost use Rattle.sched_tool.specs.declared.read_script.TheConstants.{MOST_QUERIES};
 
-use super::read_script::{Script, ScriptRefusal, TableEntry, read_script};
 use super::refusal::{Refusal, ScriptFault, TableFault};
 use col_table::{ListOf, Text};
 use csv_tables::{TableRefusal, load};
 use outside_io::{Files, MOST_BYTES, ReadRefusal, read_whole};
 use plan_ast::NamedTable;
+use script_json::{Script, ScriptRefusal, TableEntry, read_script};
 use std::alloc::Global;
 
 /// Reads the script that a file holds.
@@ -20,7 +19,8 @@ pub fn open_script<F: Files>(alloc: Global, files: &mut F, file: &str) -> Result
     ensures kept { (any : List ℕ) → F.content files.new any ≡ F.content files.old any }
     ensures ok { IfOk result (HoldsScript (possible (F.content files.old)) file.now) }
     ensures no_fault { OnOk result (F.failed files.new ≡ F.failed files.old) }
-    ensures form { IfOk result (λ script. All IsOneSum script.queries × (length script.queries ≤ MOST_QUERIES)) }
+    ensures in_bounds { IfOk result (λ script. All IsInBounds script.queries) }
+    ensures few { IfOk result (λ script. length script.queries ≤ 4096) }
     ensures err { IfErr result (IsCheckRefused (possible (F.content files.old)) file.now) }
     ensures faults { IfErr result (λ refusal. FaultsAt refusal (F.failed files.old) (F.failed files.new)) }
 {

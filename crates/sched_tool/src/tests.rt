@@ -45,6 +45,17 @@ fn run(
     Ok((status, written))
 }
 
+// The status of `check` over a script and a table, and what it writes.
+fn check(alloc: Global, script: &[u8], table: &[u8]) -> Result<(u8, String), AllocError> {
+    run(
+        alloc,
+        &["check", "s.json"],
+        (script, table),
+        (&[], &[]),
+        1000,
+    )
+}
+
 #[test]
 fn reads_words(rt: HostRuntime) -> Result<(), Fail> {
     let cases: [(&[&str], u8, &str); 8] = [
@@ -66,56 +77,172 @@ fn reads_words(rt: HostRuntime) -> Result<(), Fail> {
     Ok(())
 }
 
+// A script of one query over the table `t`.
+fn script_of(alloc: Global, query: &str) -> Result<String, AllocError> {
+    format!(in alloc;
+        "{{\"version\":1,\"tables\":[{{\"name\":\"t\",\"file\":\"t.csv\"}}],\"queries\":[{query}]}}"
+    )
+}
+
 #[test]
-fn answers_or_refuses_what_files_hold(rt: HostRuntime) -> Result<(), Fail> {
-    let of_column_z =
-        r#"{"version":1,"tables":[{"name":"t","file":"t.csv"}],"queries":[{"scan":"t","output":{"totals":[{"fn":"sum","col":"z"}]}}]}"#;
-    let of_another_file =
-        r#"{"version":1,"tables":[{"name":"t","file":"u.csv"}],"queries":[{"scan":"t","output":{"totals":[{"fn":"sum","col":"v"}]}}]}"#;
-    let cases: [(&str, &str, u8, &str); 9] = [
+fn answers_rows_and_totals(rt: HostRuntime) -> Result<(), Fail> {
+    let cases = [
         (
-            of_column_z,
+            r#"{"scan":"t","where":[{"col":"v","op":">=","value":10}],"output":{"rows":["k","v"]}}"#,
             TABLE,
-            5,
-            "error: script: query 0: unknown column z\n",
+            "query 0 lines 2\nrow 1,10\nrow 1,20\nend\n",
         ),
         (
-            SCRIPT,
+            r#"{"scan":"t","where":[{"col":"k","op":"=","value":9}],"output":{"totals":[{"fn":"count"},{"fn":"min","col":"v"},{"fn":"max","col":"v"}]}}"#,
+            TABLE,
+            "query 0 lines 1\ntotal 0,-,-\nend\n",
+        ),
+        (
+            r#"{"scan":"t","output":{"totals":[{"fn":"sum","col":"v"}]}}"#,
             "v\n9223372036854775807\n9223372036854775807\n",
-            0,
             "query 0 lines 1\ntotal 18446744073709551614\nend\n",
         ),
-        (SCRIPT, "v\n", 0, "query 0 lines 1\ntotal 0\nend\n"),
         (
-            r#"{"version":1,"quer"#,
-            TABLE,
-            5,
-            "error: script: not this form\n",
+            r#"{"scan":"t","output":{"totals":[{"fn":"sum","col":"v"}]}},{"scan":"t","after":1,"output":{"rows":["v"]}}"#,
+            "v\n\"3\"\n-1\n",
+            "query 0 lines 1\ntotal 2\nquery 1 lines 2\nrow -1\nrow 3\nend\n",
         ),
-        ("[]", TABLE, 5, "error: script: not this form\n"),
-        (
-            SCRIPT,
-            "k,v\n1,x\n",
-            6,
-            "error: table t.csv: not this form\n",
-        ),
-        (
-            SCRIPT,
-            "v\n9223372036854775808\n",
-            6,
-            "error: table t.csv: not this form\n",
-        ),
-        (SCRIPT, "", 6, "error: table t.csv: not this form\n"),
-        (of_another_file, TABLE, 3, "error: cannot read u.csv\n"),
     ];
-    for (script, table, status, text) in cases {
-        let (answered, written) = run(
-            rt.alloc(),
-            &["check", "s.json"],
-            (script.as_bytes(), table.as_bytes()),
-            (&[], &[]),
-            1000,
+    for (query, table, text) in cases {
+        let script = script_of(rt.alloc(), query)?;
+        let (status, written) = check(rt.alloc(), script.as_bytes(), table.as_bytes())?;
+        assert_eq!(rt; written.as_str(), text);
+        assert_eq!(rt; status, 0);
+    }
+    Ok(())
+}
+
+#[test]
+fn refuses_scripts(rt: HostRuntime) -> Result<(), Fail> {
+    let cases = [
+        (r#"{"version":1,"quer"#, "not json"),
+        (r#"{"version":2}"#, "version unknown"),
+        (
+            r#"{"version":1,"x":1,"tables":[],"queries":[]}"#,
+            "unknown key in $",
+        ),
+        ("[]", "wrong shape $"),
+    ];
+    for (script, cause) in cases {
+        let text = format!(in rt.alloc(); "error: script: {cause}\n")?;
+        let (status, written) = check(rt.alloc(), script.as_bytes(), TABLE.as_bytes())?;
+        assert_eq!(rt; written.as_str(), text.as_str());
+        assert_eq!(rt; status, 5);
+    }
+    Ok(())
+}
+
+#[test]
+fn refuses_queries(rt: HostRuntime) -> Result<(), Fail> {
+    let cases = [
+        (
+            r#"{"scan":"t","where":[{"col":"k","op":"~","value":1}],"output":{"rows":["k"]}}"#,
+            "bad text $.queries[0].where[0].op",
+        ),
+        (
+            r#"{"scan":"t","output":{"totals":[{"fn":"sum","col":"z"}]}}"#,
+            "query 0: unknown column z",
+        ),
+        (
+            r#"{"scan":"u","output":{"rows":["k"]}}"#,
+            "query 0: unknown table u",
+        ),
+        (
+            r#"{"scan":"t","output":{"rows":["k"]}},{"scan":"t","after":2,"output":{"rows":["k"]}}"#,
+            "query 1: after too large",
+        ),
+        (
+            r#"{"scan":"t","output":{"groups":{"by":["k"],"aggs":[{"fn":"count"}]}}},{"scan":"u","output":{"rows":["k"]}}"#,
+            "query 0: not built",
+        ),
+        (
+            r#"{"scan":"t","joins":[{"table":"t","left":"k","right":"z"}],"output":{"rows":["k"]}}"#,
+            "query 0: unknown column z",
+        ),
+        (
+            r#"{"scan":"t","output":{"rows":["k"]}},{"scan":"t","joins":[{"table":"t","left":"k","right":"k"}],"output":{"rows":["k"]}}"#,
+            "query 1: not built",
+        ),
+    ];
+    for (query, cause) in cases {
+        let script = script_of(rt.alloc(), query)?;
+        let text = format!(in rt.alloc(); "error: script: {cause}\n")?;
+        let (status, written) = check(rt.alloc(), script.as_bytes(), TABLE.as_bytes())?;
+        assert_eq!(rt; written.as_str(), text.as_str());
+        assert_eq!(rt; status, 5);
+    }
+    Ok(())
+}
+
+#[test]
+fn refuses_tables(rt: HostRuntime) -> Result<(), Fail> {
+    let cases = [
+        ("", "no header"),
+        ("a,\u{1}\n", "bad name field 2"),
+        ("a,b,a\n", "named twice field 3"),
+        ("a,b,c\n1,2\n", "ragged record 1"),
+        ("v\n1\nx\n", "not a number record 2 field 1"),
+        ("v\n9223372036854775808\n", "out of range record 1 field 1"),
+        (
+            "a,a1,a2,a3,a4,a5,a6,a7,a8,a9,b,b1,b2,b3,b4,b5,b6,b7,b8,b9,c,c1,c2,c3,c4,c5,c6,c7,c8,c9,d,d1,d2\n",
+            "too many columns",
+        ),
+    ];
+    for (table, cause) in cases {
+        let text = format!(in rt.alloc(); "error: table t.csv: {cause}\n")?;
+        let (status, written) = check(rt.alloc(), SCRIPT.as_bytes(), table.as_bytes())?;
+        assert_eq!(rt; written.as_str(), text.as_str());
+        assert_eq!(rt; status, 6);
+    }
+    Ok(())
+}
+
+// The first refusal counts: a script's before a table's, a table's before a query's, and the first of each.
+#[test]
+fn refuses_in_order(rt: HostRuntime) -> Result<(), Fail> {
+    let query = r#"{"scan":"x","output":{"rows":["k"]}}"#;
+    let cases = [
+        (
+            r#"{"name":"t","file":"t.csv"},{"name":"u","file":"u.csv"}"#,
+            "v\n",
+            3,
+            "error: cannot read u.csv\n",
+        ),
+        (
+            r#"{"name":"t","file":"t.csv"},{"name":"u","file":"u.csv"}"#,
+            "",
+            6,
+            "error: table t.csv: no header\n",
+        ),
+        (
+            r#"{"name":"u","file":"u.csv"},{"name":"t","file":"t.csv"}"#,
+            "",
+            3,
+            "error: cannot read u.csv\n",
+        ),
+        (
+            r#"{"name":"t","file":"t.csv"},{"name":"t","file":"u.csv"}"#,
+            "",
+            5,
+            "error: script: named twice $.tables[1].name\n",
+        ),
+        (
+            r#"{"name":"t","file":"t.csv"},{"name":"u","file":"t.csv"}"#,
+            "v\n",
+            5,
+            "error: script: query 0: unknown table x\n",
+        ),
+    ];
+    for (tables, table, status, text) in cases {
+        let script = format!(in rt.alloc();
+            "{{\"version\":1,\"tables\":[{tables}],\"queries\":[{query}]}}"
         )?;
+        let (answered, written) = check(rt.alloc(), script.as_bytes(), table.as_bytes())?;
         assert_eq!(rt; written.as_str(), text);
         assert_eq!(rt; answered, status);
     }
@@ -178,17 +305,6 @@ fn padded(alloc: Global, text: &str, with: u8, len: usize) -> Result<Vec<u8>, Al
     let mut bytes = vec![in alloc; with; len]?;
     bytes.as_mut_slice()[..text.len()].copy_from_slice(text.as_bytes());
     Ok(bytes)
-}
-
-// The status of `check` over a script and a table, and what it writes.
-fn check(alloc: Global, script: &[u8], table: &[u8]) -> Result<(u8, String), AllocError> {
-    run(
-        alloc,
-        &["check", "s.json"],
-        (script, table),
-        (&[], &[]),
-        1000,
-    )
 }
 
 #[test]

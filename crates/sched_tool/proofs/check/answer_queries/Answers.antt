@@ -1,18 +1,17 @@
-use Rattle.std.proofs.Common.{◌<◌, ◌≡◌, ◌++◌, ◌∷◌, [], All, ap, length, subst, sym, ◌∙◌, arith}
-use Rattle.std.proofs.lemmas.List.Elements.{All-push}
-use Rattle.plan_ast.specs.Checks.{IsOneSum, query_of}
-use Rattle.sched_tool.specs.PrintedAnswers.{CanBePrinted}
+use Rattle.std.proofs.Common.{◌<◌, ◌≡◌, ◌++◌, ◌∷◌, [], ap, length, subst, sym, ◌∙◌, arith}
+use Rattle.pipe_ops.specs.Built.{IsBuilt}
 use Rattle.plan_ast.specs.Answer.{answer_of}
+use Rattle.plan_ast.specs.Checks.{query_of}
 use Rattle.plan_ast.specs.declared.answers.Answer.{Answer}
-use Rattle.sched_tool.specs.declared.answers_text.QueryReply.{QueryReply}
-use Rattle.sched_tool.specs.declared.answers_text.Reply.TheVariants as reply
+use Rattle.report_text.specs.declared.replies.QueryReply.{QueryReply}
+use Rattle.report_text.specs.declared.replies.Reply.TheVariants as reply
 use Rattle.sched_tool.proofs.QueriesLemmas.{replies_of-more}
 use Rattle.sched_tool.proofs.check.answer_queries.Goals as goal
 
-pub plain_answer-requires-clause-one_sum : goal.plain_answer-requires-clause-one_sum
-plain_answer-requires-clause-one_sum c =
+pub plain_answer-requires-clause-built : goal.plain_answer-requires-clause-built
+plain_answer-requires-clause-built c =
     let lt : c.loop-query.query < length c.args.checked.now = omega arith in
-    subst (λ checked. IsOneSum (query_of checked)) (sym c.index-checked-query.is) (c.requires.form c.loop-query.query c.index-checked-query.result lt)
+    subst (λ checked. IsBuilt (query_of checked)) (sym c.index-checked-query.is) (c.requires.built c.loop-query.query c.index-checked-query.result lt)
 
 pub loop-query-preserved : goal.loop-query-preserved
 loop-query-preserved c =
@@ -20,8 +19,5 @@ loop-query-preserved c =
     let next : QueryReply = record { query = c.loop-query.query; reply = reply.Answer c.in_ok-plain_answer.field-0 } in
     let items : c.push.new.self.items ≡ c.loop-query.replies.items ++ next ∷ [] = c.in_ok-push.ensures.items in
     let numbered : Answer → QueryReply = λ answer. record { query = c.loop-query.query; reply = reply.Answer answer } in
-    let told : next ≡ numbered (answer_of c.args.tables.now (query_of c.index-checked-query.result)) = ap numbered c.in_ok-plain_answer.ensures.answer in
-    record {
-      answers = items ∙ ap (λ v. v ++ next ∷ []) c.loop-query.invariant.answers ∙ replies_of-more c.args.tables.now c.args.checked.now c.loop-query.query c.index-checked-query.result next lt c.index-checked-query.is told;
-      printed = subst (All CanBePrinted) (sym items) (All-push CanBePrinted c.loop-query.replies.items next c.loop-query.invariant.printed c.in_ok-plain_answer.ensures.one_total);
-    }
+    let told : next ≡ numbered (answer_of c.args.tables.now (query_of c.index-checked-query.result)) = ap numbered c.in_ok-plain_answer.ensures in
+    items ∙ ap (λ v. v ++ next ∷ []) c.loop-query.invariant ∙ replies_of-more c.args.tables.now c.args.checked.now c.loop-query.query c.index-checked-query.result next lt c.index-checked-query.is told

@@ -1,25 +1,35 @@
-use Rattle.std.proofs.Common.{◌≡◌, All, ap, inl, map, subst, sym, ◌∙◌}
+use Rattle.std.proofs.Common.{◌≡◌, ap, inl, map, subst, sym, ◌∙◌}
 use Rattle.std.proofs.lemmas.Result.{err_from_is_err_and}
-use Rattle.plan_ast.specs.Checks.{IsOneSum, query_of}
+use Rattle.plan_ast.specs.Checks.{query_of}
 use Rattle.plan_ast.specs.Subject.{Subject}
 use Rattle.sched_tool.specs.Outsides.{possible}
-use Rattle.sched_tool.specs.Subjects.{AllFound, HoldsSubject, HoldTables}
-use Rattle.sched_tool.proofs.QueriesLemmas.{All-query_of}
-use Rattle.sched_tool.proofs.RefusalLemmas.{FaultsAt-queries, queries_refused}
+use Rattle.sched_tool.specs.ReadFaults.{FaultsAt}
+use Rattle.sched_tool.specs.Refusals.{AreTablesRefused}
+use Rattle.sched_tool.specs.Subjects.{AllAnswerable, HoldsSubject, HoldTables}
+use Rattle.sched_tool.proofs.QueriesLemmas.{AllBuilt}
+use Rattle.sched_tool.proofs.RefusalLemmas.{FaultsAt-queries, queries_refused, tables_refused}
 use Rattle.sched_tool.proofs.SubjectsLemmas.{same_content}
 use Rattle.sched_tool.proofs.check.check_script.Goals as goal
-
-pub check_queries-requires-clause-form : goal.check_queries-requires-clause-form
-check_queries-requires-clause-form g c = subst (All IsOneSum) (sym c.as_slice-2.ensures) c.in_ok-tables.ensures.form.0
 
 pub text_of-requires-clause-placed : goal.text_of-requires-clause-placed
 text_of-requires-clause-placed g c =
     let tables : c.as_slice-3.result.now ≡ c.as_slice.result.now = c.as_slice-3.ensures.value ∙ sym c.as_slice.ensures.value in
     rw (tables, c.as_slice-4.ensures.value) c.in_ok-checked.ensures.placed
 
-pub text_of-requires-clause-form : goal.text_of-requires-clause-form
-text_of-requires-clause-form g c =
-    rw c.as_slice-4.ensures.value (All-query_of IsOneSum c.in_ok-checked.checked.items c.as_slice-2.result.now c.in_ok-checked.ensures.same (subst (All IsOneSum) (sym c.as_slice-2.ensures) c.in_ok-tables.ensures.form.0))
+pub text_of-requires-clause-built : goal.text_of-requires-clause-built
+text_of-requires-clause-built g c =
+    rw c.as_slice-4.ensures.value (AllBuilt c.as_slice.result.now c.in_ok-checked.checked.items c.as_slice-2.result.now c.in_ok-checked.ensures.same c.in_ok-checked.ensures.answerable)
+
+pub returns-in_err-tables-2-clause-err : goal.returns-in_err-tables-2-clause-err
+returns-in_err-tables-2-clause-err g c =
+    let p = err_from_is_err_and c.from_residual-in_err-tables-2.result c.from_residual-in_err-tables-2.ensures.1 in
+    let script = c.in_ok-tables.field-0 in
+    let refusal = c.in_err-tables-2.field-0.0 in
+    let refused = subst (λ content. AreTablesRefused (possible content) script.tables refusal) (same_content _ _ c.open_script.ensures.kept) c.in_err-tables-2.ensures.err in
+    rw (p.1, p.2) (record {
+      cause = tables_refused _ c.args.file.now script refusal c.in_ok-tables.ensures.ok refused;
+      faults = subst (λ before. FaultsAt refusal before (g.F.Files.failed c.open_tables.new.files)) c.in_ok-tables.ensures.no_fault c.in_err-tables-2.ensures.faults;
+    })
 
 pub returns-in_err-checked-clause-err : goal.returns-in_err-checked-clause-err
 returns-in_err-checked-clause-err g c =
@@ -52,9 +62,9 @@ returns-clause-ok g c =
       tables = subst (HoldTables (possible (g.F.Files.content c.args.files.now)) script.tables) (sym c.as_slice-3.ensures.value) loaded;
       queries = queries ∙ c.as_slice-2.ensures;
     } in
-    let found : AllFound subject.tables subject.queries =
-    subst (AllFound subject.tables) (sym queries) (subst (λ t. AllFound t c.as_slice-2.result.now) (sym tables) c.in_ok-checked.ensures.found) in
+    let answerable : AllAnswerable subject.tables subject.queries =
+    subst (AllAnswerable subject.tables) (sym queries) (subst (λ t. AllAnswerable t c.as_slice-2.result.now) (sym tables) c.in_ok-checked.ensures.answerable) in
     record {
       no_fault = c.in_ok-tables-2.ensures.no_fault ∙ c.in_ok-tables.ensures.no_fault;
-      text = inl (c.whole.ensures.status, (subject, record { held = held; found = found }, ap (λ v. v.items) c.whole.ensures.text ∙ c.in_ok-text.ensures));
+      text = inl (c.whole.ensures.status, (subject, record { held = held; answerable = answerable }, ap (λ v. v.items) c.whole.ensures.text ∙ c.in_ok-text.ensures));
     }

@@ -2,6 +2,7 @@ pub mod Behaviours
 pub mod Commands
 pub mod ErrorLines
 pub mod Outsides
+pub mod Programs
 pub mod ReadFaults
 pub mod Refusals
 pub mod Statuses

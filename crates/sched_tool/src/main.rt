@@ -11,6 +11,7 @@ mod check;
 mod command;
 mod error_lines;
 mod output;
+mod program;
 mod refusal;
 mod status;
 mod subject;
@@ -19,26 +20,15 @@ mod tests;
 mod words;
 
 use outside_io::{DirFiles, StdSink};
-use std::process::ExitCode;
+use program::{Ended, run_program};
 use std::rt::Env;
 use std::{env, io};
 
-fn main(rt: HostRuntime) -> ExitCode {
+fn main(rt: HostRuntime) -> Ended {
     let alloc = rt.alloc();
     let mut files = DirFiles::new(rt, alloc);
     let mut out = StdSink::new(rt);
-    let status = match words_given(&rt) {
-        Ok(words) => command::command(alloc, words.as_slice(), &mut files, &mut out),
-        // A word that is not UTF-8 is outside the grammar, as no words at all are.
-        Err(e) if e.kind() == io::ErrorKind::InvalidData => command::command(
-            alloc,
-            &[],
-            &mut files,
-            &mut out,
-        ),
-        Err(_) => command::end_without_memory(&mut out),
-    };
-    ExitCode::from(status)
+    run_program(alloc, words_given(&rt), &mut files, &mut out)
 }
 
 // The words after the program's name.

@@ -2,13 +2,12 @@
 use Rattle.std.proofs.Common.{◌≡◌, ℕ, List, Option, None, Some, ap, refl, sym, ◌∙◌}
 use Rattle.sched_tool.specs.Behaviours.{Behaviour, behaviour_of, check_behaviour, check_text, IsUsageRefused, OneAnswer, usage_behaviour}
 use Rattle.sched_tool.specs.Outsides.{Agree, known, Outside}
-use Rattle.sched_tool.specs.Statuses.{status_of}
 use Rattle.sched_tool.specs.Words.{check, Meaning}
 use Rattle.sched_tool.specs.Writing.{IsFinding}
 use Rattle.sched_tool.specs.declared.refusal.Refusal.{Refusal}
 use Rattle.sched_tool.specs.declared.refusal.Refusal.TheVariants.{Usage, CannotRead, Script, Table, OutOfMemory}
 use Rattle.sched_tool.proofs.OutsideLemmas.{known-known}
-use Rattle.sched_tool.proofs.UniqueLemmas.{accepted_not_refused, same_status, subject_is}
+use Rattle.sched_tool.proofs.UniqueLemmas.{accepted_not_refused, same_refusal, subject_is}
 
 -- the laws of a behaviour
 pub record IsLawful (does : Behaviour) : Type 1 where
@@ -18,26 +17,26 @@ pub record IsLawful (does : Behaviour) : Type 1 where
   pub one : (a b : Outside) → Agree a b → does.accepts a → (text : List ℕ) → does.answers b text → does.answers a text
   -- acceptance and refusal exclude each other
   pub apart : (a b : Outside) → Agree a b → does.accepts a → (r : Refusal) → IsFinding r → does.refuses b r → ⊥
-  -- a refusal fixes its status
-  pub status : (a b : Outside) → Agree a b → (r s : Refusal) → IsFinding r → IsFinding s → does.refuses a r → does.refuses b s → status_of r ≡ status_of s
+  -- a refusal is the only one
+  pub only : (a b : Outside) → Agree a b → (r s : Refusal) → IsFinding r → IsFinding s → does.refuses a r → does.refuses b s → r ≡ s
   -- a file that can't be read is one that is read
   pub reads : (outside : Outside) (file : List ℕ) → does.refuses outside (CannotRead file) → does.reads outside file
   -- memory may run out
   pub memory : (outside : Outside) → does.refuses outside OutOfMemory
 
-usage_status : (r : Refusal) → IsFinding r → IsUsageRefused r → status_of r ≡ 2
-usage_status Usage finding h = refl
-usage_status (CannotRead file) finding h = elim h [ ]
-usage_status (Script fault) finding h = elim h [ ]
-usage_status (Table file fault) finding h = elim h [ ]
-usage_status OutOfMemory finding h = elim finding [ ]
+only_usage : (r : Refusal) → IsFinding r → IsUsageRefused r → r ≡ Usage
+only_usage Usage finding h = refl
+only_usage (CannotRead file) finding h = elim h [ ]
+only_usage (Script fault) finding h = elim h [ ]
+only_usage (Table file fault) finding h = elim h [ ]
+only_usage OutOfMemory finding h = elim finding [ ]
 
 usage_lawful : IsLawful usage_behaviour
 usage_lawful = record {
   accepted = λ outside text answers. answers;
   one = λ a b agree accepts text answers. answers;
   apart = λ a b agree accepts r finding refuses. accepts;
-  status = λ a b agree r s x y h k. usage_status r x h ∙ sym (usage_status s y k);
+  only = λ a b agree r s x y h k. only_usage r x h ∙ sym (only_usage s y k);
   reads = λ outside file refuses. refuses;
   memory = λ outside. tt;
 }
@@ -47,7 +46,7 @@ check_lawful file = record {
   accepted = λ outside text answers. (answers.0, answers.1);
   one = λ a b agree accepts text answers. (accepts.0, accepts.1, answers.2 ∙ ap check_text (sym (subject_is a b agree file accepts.0 answers.0 accepts.1.held answers.1.held)));
   apart = λ a b agree accepts r finding refuses. accepted_not_refused a b agree file accepts.0 r accepts.1 finding refuses;
-  status = λ a b agree r s x y h k. same_status a b agree file r s x y h k;
+  only = λ a b agree r s x y h k. same_refusal a b agree file r s x y h k;
   reads = λ outside name refuses. refuses;
   memory = λ outside. tt;
 }

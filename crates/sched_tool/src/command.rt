@@ -74,12 +74,13 @@ pub fn command<F: Files, S: Sink>(alloc: Global, words: &[String], files: &mut F
         ((result ≡ 0) × WritesOne ((behaviour_asked words.now).answers (known (F.content files.old)))
         (S.written out.old) (S.written out.new)) ⊎ (result ≡ 7) }
 
-    // and one that they refuse ends with the status of the refusal, unless memory ran out.
+    // and one that they refuse ends with the status and the line of the refusal, unless memory ran out.
     ensures found { NoCountRose ((behaviour_asked words.now).reads (possible (F.content files.old)))
         (F.failed files.old) (F.failed files.new) (S.faults out.old) (S.faults out.new) →
         (refusal : Refusal) → IsFinding refusal →
         (behaviour_asked words.now).refuses (known (F.content files.old)) refusal →
-        (result ≡ status_of refusal) ⊎ (result ≡ 7) }
+        ((result ≡ status_of refusal) × Appends (S.written out.old) (S.written out.new) (error_bytes refusal))
+        ⊎ (result ≡ 7) }
 
     // What is known of the files stays.
     ensures kept { (any : List ℕ) → F.content files.new any ≡ F.content files.old any }

@@ -23,7 +23,7 @@ pub enum ScriptFault {
 pub enum QueryFault {
     /// A name in it isn't there.
     Refused(PlanRefusal),
-    /// It joins tables or puts out groups, which isn't answered yet.
+    /// Its form isn't answered yet.
     NotBuilt,
 }
 

@@ -165,7 +165,7 @@ fn refuses_queries(rt: HostRuntime) -> Result<(), Fail> {
             "query 0: unknown column z",
         ),
         (
-            r#"{"scan":"t","output":{"rows":["k"]}},{"scan":"t","joins":[{"table":"t","left":"k","right":"k"}],"output":{"rows":["k"]}}"#,
+            r#"{"scan":"t","output":{"rows":["k"]}},{"scan":"t","output":{"groups":{"by":["k"],"aggs":[{"fn":"count"}]}}}"#,
             "query 1: not built",
         ),
     ];

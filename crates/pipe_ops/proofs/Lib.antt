@@ -1,5 +1,6 @@
 pub mod AnswerLemmas
 pub mod FoldingLemmas
+pub mod JoiningLemmas
 pub mod PlacedLemmas
 pub mod RowsLemmas
 pub mod SortedLemmas

@@ -1,5 +1,4 @@
 -- The queries that are answered so far.
-use Rattle.std.specs.Prelude.{◌≡◌, []}
 use Rattle.plan_ast.specs.declared.queries.Output.{Output}
 use Rattle.plan_ast.specs.declared.queries.Output.TheVariants.{Rows, Totals, Groups}
 use Rattle.plan_ast.specs.declared.queries.Query.{Query}
@@ -10,7 +9,6 @@ IsUngrouped (Rows columns) = Unit {0}
 IsUngrouped (Totals aggs) = Unit {0}
 IsUngrouped (Groups by aggs) = ⊥
 
--- a query of one table, that puts out rows or totals
-pub record IsBuilt (query : Query) : Type 0 where
-  pub joins : query.joins ≡ []
-  pub output : IsUngrouped query.output
+-- a query that puts out rows or totals
+abbrev pub IsBuilt : Query → Type 0
+IsBuilt query = IsUngrouped query.output

@@ -1,3 +1,4 @@
 pub mod Built
 pub mod Folding
+pub mod Joining
 pub mod Placed

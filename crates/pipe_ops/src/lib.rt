@@ -8,6 +8,7 @@
 #![tactic(auto)]
 
 mod aggregates;
+mod joins;
 mod plain;
 mod rows;
 

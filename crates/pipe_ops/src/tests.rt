@@ -3,7 +3,7 @@
 use crate::{is_built, plain_answer};
 use col_table::{ListOf, Name, Table, Text};
 use plan_ast::{
-    Agg, AggValue, Answer, Filter, Func, NameRef, NamedTable, Op, Output, Query, check,
+    Agg, AggValue, Answer, Filter, Func, Join, NameRef, NamedTable, Op, Output, Query, check,
 };
 use std::process::Abort;
 use std::test::Fail;
@@ -29,20 +29,24 @@ fn agg(rt: &(impl Abort + AllocGlobal), func: Func) -> Result<Agg, Fail> {
     Ok(Agg { func, column })
 }
 
-// The table `t` with the columns `k` and `v`, whose rows come in descending order.
-fn tables(rt: &(impl Abort + AllocGlobal)) -> Result<Vec<NamedTable>, Fail> {
-    let names = vec![in rt.alloc(); name(rt, "k")?, name(rt, "v")?]?;
+// A table with these two columns.
+fn table(
+    rt: &(impl Abort + AllocGlobal),
+    named: &str,
+    columns: [&str; 2],
+    rows: &[[i64; 2]],
+) -> Result<NamedTable, Fail> {
+    let names = vec![in rt.alloc(); name(rt, columns[0])?, name(rt, columns[1])?]?;
     let mut table = Table::new(rt.alloc(), names).expect(rt, "a table");
-    for row in [[2, 5], [1, 20], [1, 10], [1, 10]] {
+    for row in rows {
         assert!(rt; table.cols() == 2);
-        table.push_row(&row).expect(rt, "a row");
+        table.push_row(row).expect(rt, "a row");
     }
-    let named = NamedTable {
-        name: name(rt, "t")?,
-        file: Text::of(String::from_str(rt.alloc(), "t.csv")?),
+    Ok(NamedTable {
+        name: name(rt, named)?,
+        file: Text::of(String::from_str(rt.alloc(), "a file")?),
         table,
-    };
-    Ok(vec![in rt.alloc(); named]?)
+    })
 }
 
 // The answer to a query of `t` with this filter.
@@ -69,7 +73,8 @@ fn answer(
     };
     assert!(rt; query.in_bounds());
     assert!(rt; is_built(&query));
-    let tables = tables(rt)?;
+    let rows = [[2, 5], [1, 20], [1, 10], [1, 10]];
+    let tables = vec![in rt.alloc(); table(rt, "t", ["k", "v"], &rows)?]?;
     let checked = check(rt.alloc(), &query, tables.as_slice()).expect(rt, "all names are there");
     Ok(plain_answer(rt.alloc(), &checked, tables.as_slice())?)
 }
@@ -126,5 +131,44 @@ fn folds_totals(rt: HostRuntime) -> Result<(), Fail> {
         };
         assert!(rt; expected);
     }
+    Ok(())
+}
+
+#[test]
+fn joins_tables(rt: HostRuntime) -> Result<(), Fail> {
+    let alloc = rt.alloc();
+    let t = table(&rt, "t", ["k", "v"], &[[1, 10], [1, 20], [2, 5]])?;
+    let u = table(&rt, "u", ["k", "w"], &[[1, 7], [2, 8]])?;
+    let tables = vec![in alloc; t, u]?;
+    let join = Join {
+        table: name(&rt, "u")?,
+        left: column(&rt, "k")?,
+        right: name(&rt, "k")?,
+        filters: ListOf::of(Vec::new(alloc)),
+    };
+    let sum = Agg {
+        func: Func::Sum,
+        column: Some(NameRef {
+            side: 1,
+            name: name(&rt, "w")?,
+        }),
+    };
+    let query = Query {
+        after: 0,
+        weight: 10,
+        cost: 100,
+        scan: name(&rt, "t")?,
+        filters: ListOf::of(Vec::new(alloc)),
+        joins: ListOf::of(vec![in alloc; join]?),
+        output: Output::Totals(ListOf::of(vec![in alloc; agg(&rt, Func::Count)?, sum]?)),
+    };
+    assert!(rt; query.in_bounds());
+    assert!(rt; is_built(&query));
+    let checked = check(alloc, &query, tables.as_slice()).expect(&rt, "all names are there");
+    let Answer::Totals(totals) = plain_answer(alloc, &checked, tables.as_slice())? else {
+        return Err("totals".into());
+    };
+    let expected = matches!(totals.as_slice(), [AggValue::Count(3), AggValue::Sum(22)]);
+    assert!(rt; expected);
     Ok(())
 }

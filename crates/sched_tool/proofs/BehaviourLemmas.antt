@@ -44,7 +44,12 @@ usage_lawful = record {
 check_lawful : (file : List ℕ) → IsLawful (check_behaviour file)
 check_lawful file = record {
   accepted = λ outside text answers. (answers.0, answers.1);
-  one = λ a b agree accepts text answers. (accepts.0, accepts.1, answers.2 ∙ ap check_text (sym (subject_is a b agree file accepts.0 answers.0 accepts.1.held answers.1.held)));
+  one = λ a b agree accepts text answers. (
+    accepts.0,
+    accepts.1,
+    answers.2
+        ∙ ap check_text (sym (subject_is a b agree file accepts.0 answers.0 accepts.1.held answers.1.held)),
+  );
   apart = λ a b agree accepts r finding refuses. accepted_not_refused a b agree file accepts.0 r accepts.1 finding refuses;
   only = λ a b agree r s x y h k. same_refusal a b agree file r s x y h k;
   reads = λ outside name refuses. refuses;

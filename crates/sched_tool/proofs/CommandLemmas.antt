@@ -20,9 +20,11 @@ use Rattle.sched_tool.specs.declared.refusal.Refusal.TheVariants.{Usage, CannotR
 pub data Ends (does : Behaviour) (outside : Outside) (before after : List (List ℕ)) (old new : SinkState) (result : ℕ) : Type 0 where
   whole : (text : List ℕ) → does.answers outside text → after ≡ before → IsWritten old new text 0 result → Ends does outside before after old new result
   part : (text : List ℕ) → does.answers_in_part outside text → after ≡ before → IsWritten old new text 7 result → Ends does outside before after old new result
-  refused : (r : Refusal) → does.refuses outside r → FaultsAt r before after → IsWritten old new (error_bytes r) (status_of r) result → Ends does outside before after old new result
+  refused : (r : Refusal) → does.refuses outside r → FaultsAt r before after → IsWritten old new (error_bytes r) (status_of r) result
+      → Ends does outside before after old new result
   -- memory ran out for the line of a refusal
-  unsaid : (r : Refusal) → does.refuses outside r → FaultsAt r before after → IsWritten old new (error_bytes OutOfMemory) 7 result → Ends does outside before after old new result
+  unsaid : (r : Refusal) → does.refuses outside r → FaultsAt r before after → IsWritten old new (error_bytes OutOfMemory) 7 result
+      → Ends does outside before after old new result
 
 -- how a command ended, from what it gave and how that was told
 pub Ends-from : (does : Behaviour) (outside : Outside) (before after : List (List ℕ)) (old new : SinkState) (result : ℕ) (ended : Result Output Refusal)
@@ -125,7 +127,8 @@ module _ (does : Behaviour) (outside : Outside) (before after : List (List ℕ))
   at_answered (unsaid r cause faults (inr w)) is = absurd (omega (arith, w.0, is))
 
   -- a status other than 0, 4 and 7
-  refused_at : Ends does outside before after old new result → result ≢ 0 → result ≢ 4 → result ≢ 7 → (r : Refusal) × does.refuses outside r × FaultsAt r before after × (result ≡ status_of r) × Appends old.written new.written (error_bytes r)
+  refused_at : Ends does outside before after old new result → result ≢ 0 → result ≢ 4 → result ≢ 7
+      → (r : Refusal) × does.refuses outside r × FaultsAt r before after × (result ≡ status_of r) × Appends old.written new.written (error_bytes r)
   refused_at (whole text answers none (inl w)) not_zero not_four not_seven = absurd (not_zero w.0)
   refused_at (whole text answers none (inr w)) not_zero not_four not_seven = absurd (not_four w.0)
   refused_at (part text answers none (inl w)) not_zero not_four not_seven = absurd (not_seven w.0)
@@ -149,14 +152,21 @@ module _ (does : Behaviour) (outside : Outside) (before after : List (List ℕ))
       }
 
   -- 3
-  pub at_cannot_read : IsLawful does → Ends does outside before after old new result → result ≡ 3 → (file : List ℕ) × does.reads outside file × OnlyFailed before after file × Appends old.written new.written (error_bytes (CannotRead file))
+  pub at_cannot_read : IsLawful does → Ends does outside before after old new result → result ≡ 3
+      → (file : List ℕ) × does.reads outside file × OnlyFailed before after file × Appends old.written new.written (error_bytes (CannotRead file))
   at_cannot_read laws ends is =
       let w = refused_at ends (λ h. omega (arith, h, is)) (λ h. omega (arith, h, is)) (λ h. omega (arith, h, is)) in
-      let named = names_file w.0 (sym w.3 ∙ is) in
-      (named.0, laws.reads outside named.0 (subst (does.refuses outside) named.1 w.1), subst (λ r. FaultsAt r before after) named.1 w.2, subst (λ r. Appends old.written new.written (error_bytes r)) named.1 w.4)
+      let named = names_file w.0 (sym w.3 ∙ is) in (
+        named.0,
+        laws.reads outside named.0 (subst (does.refuses outside) named.1 w.1),
+        subst (λ r. FaultsAt r before after) named.1 w.2,
+        subst
+            (λ r. Appends old.written new.written (error_bytes r)) named.1 w.4,
+      )
 
   -- 4
-  pub at_cannot_write : Ends does outside before after old new result → result ≡ 4 → CountedOne old.faults new.faults × ((text : List ℕ) × IsTextOf does outside before after text × AppendsPrefix old.written new.written text)
+  pub at_cannot_write : Ends does outside before after old new result → result ≡ 4
+      → CountedOne old.faults new.faults × ((text : List ℕ) × IsTextOf does outside before after text × AppendsPrefix old.written new.written text)
   at_cannot_write (whole text answers none (inl w)) is = absurd (omega (arith, w.0, is))
   at_cannot_write (whole text answers none (inr w)) is = (w.2, (text, inl (answers, none), w.1))
   at_cannot_write (part text answers none (inl w)) is = absurd (omega (arith, w.0, is))

@@ -18,7 +18,8 @@ pub CountRose-one : (old new : ℕ) → CountedOne old new → CountRose old new
 CountRose-one old new one = omega (arith, one)
 
 -- a refusal goes with one fault at most, of the file that it names
-pub OneFaultAtMost-at : (reads : List ℕ → Type 0) (old new : List (List ℕ)) (r : Refusal) → FaultsAt r old new → ((file : List ℕ) → r ≡ CannotRead file → reads file) → OneFaultAtMost reads old new
+pub OneFaultAtMost-at : (reads : List ℕ → Type 0) (old new : List (List ℕ)) (r : Refusal) → FaultsAt r old new
+    → ((file : List ℕ) → r ≡ CannotRead file → reads file) → OneFaultAtMost reads old new
 OneFaultAtMost-at reads old new Usage faults read = inl faults
 OneFaultAtMost-at reads old new (CannotRead file) faults read = inr (file, read file refl, faults)
 OneFaultAtMost-at reads old new (Script fault) faults read = inl faults

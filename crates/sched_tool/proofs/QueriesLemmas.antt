@@ -21,21 +21,35 @@ use Rattle.sched_tool.specs.declared.refusal.QueryFault.{QueryFault}
 use Rattle.sched_tool.specs.declared.refusal.QueryFault.TheVariants.{NotBuilt, Refused}
 
 -- the queries checked so far, and the next
-pub same_more : (queries : List Query) (all : List Checked) (checked : Checked) (number : ℕ) (query : Query) → number < length queries → query ≡ get_or queries number query → map query_of all ≡ take number queries → query_of checked ≡ query → map query_of (all ++ checked ∷ []) ≡ take (number + 1) queries
+pub same_more : (queries : List Query) (all : List Checked) (checked : Checked) (number : ℕ) (query : Query) → number < length queries
+    → query ≡ get_or queries number query → map query_of all ≡ take number queries → query_of checked ≡ query
+    → map query_of (all ++ checked ∷ []) ≡ take (number + 1) queries
 same_more queries all checked number query short is before same =
-    map-append query_of all (checked ∷ []) ∙ ap (λ v. v ++ query_of checked ∷ []) before ∙ ap (λ v. take number queries ++ v ∷ []) (same ∙ is) ∙ sym (take_more queries number query short)
+    map-append query_of all (checked ∷ []) ∙ ap (λ v. v ++ query_of checked ∷ []) before ∙ ap (λ v. take number queries ++ v ∷ []) (same ∙ is)
+    ∙ sym (take_more queries number query short)
 
 -- the queries that can be answered so far, and the next
-pub AllAnswerable-more : (tables : List NamedTable) (queries : List Query) (number : ℕ) (query : Query) → number < length queries → query ≡ get_or queries number query → AllAnswerable tables (take number queries) → IsAnswerable tables query → AllAnswerable tables (take (number + 1) queries)
+pub AllAnswerable-more : (tables : List NamedTable) (queries : List Query) (number : ℕ) (query : Query) → number < length queries
+    → query ≡ get_or queries number query → AllAnswerable tables (take number queries) → IsAnswerable tables query
+    → AllAnswerable tables (take (number + 1) queries)
 AllAnswerable-more tables queries number query short is before next =
-    subst (All (IsAnswerable tables)) (ap (λ q. take number queries ++ q ∷ []) is ∙ sym (take_more queries number query short)) (All-push (IsAnswerable tables) (take number queries) query before next)
+    subst (All (IsAnswerable tables)) (ap (λ q. take number queries ++ q ∷ []) is ∙ sym (take_more queries number query short))
+    (All-push (IsAnswerable tables) (take number queries) query before next)
 
-module _ (subject : Subject) (number : ℕ) (query : Query) (short : number < length subject.queries) (is : query ≡ get_or subject.queries number query) (before : AllAnswerable subject.tables (take number subject.queries)) where
+module _ (subject : Subject) (number : ℕ) (query : Query) (short : number < length subject.queries) (is : query ≡ get_or subject.queries number query)
+    (before : AllAnswerable subject.tables (take number subject.queries)) where
   first_is : (fault : QueryFault) → IsQueryRefused subject.tables query fault → IsFirstRefused subject number fault
-  first_is fault why = record { query = query; is = slice_get-get_or subject.queries number query short ∙ ap (λ v. Some v) (sym is); refused = why; first = before }
+  first_is fault why = record {
+    query = query;
+    is = slice_get-get_or subject.queries number query short
+        ∙ ap (λ v. Some v) (sym is);
+    refused = why;
+    first = before;
+  }
 
   -- the first query that is refused
-  pub first_refused : (fault : QueryFault) → ((fault ≡ Refused OutOfMemory) ⊎ IsQueryRefused subject.tables query fault) → AreQueriesRefused subject (query_refusal number fault)
+  pub first_refused : (fault : QueryFault) → ((fault ≡ Refused OutOfMemory) ⊎ IsQueryRefused subject.tables query fault)
+      → AreQueriesRefused subject (query_refusal number fault)
   first_refused (Refused (UnknownTable name)) (inl e) = absurd (cc)
   first_refused (Refused (UnknownTable name)) (inr why) = inr (number, Refused (UnknownTable name), refl, first_is (Refused (UnknownTable name)) why)
   first_refused (Refused (UnknownColumn name)) (inl e) = absurd (cc)
@@ -45,10 +59,12 @@ module _ (subject : Subject) (number : ℕ) (query : Query) (short : number < le
   first_refused NotBuilt (inr why) = inr (number, NotBuilt, refl, first_is NotBuilt why)
 
 -- checked queries have a form that is answered if their queries can be answered
-pub AllBuilt : (tables : List NamedTable) (all : List Checked) (queries : List Query) → map query_of all ≡ queries → AllAnswerable tables queries → All (λ c. IsBuilt (query_of c)) all
+pub AllBuilt : (tables : List NamedTable) (all : List Checked) (queries : List Query) → map query_of all ≡ queries → AllAnswerable tables queries
+    → All (λ c. IsBuilt (query_of c)) all
 AllBuilt tables all queries same answerable k d short =
     let count : length all ≡ length queries = sym (length-map all query_of) ∙ ap length same in
-    let at : get_or queries k (query_of d) ≡ query_of (get_or all k d) = ap (λ v. get_or v k (query_of d)) (sym same) ∙ get_or-map query_of all k d (query_of d) short in
+    let at : get_or queries k (query_of d) ≡ query_of (get_or all k d) = ap (λ v. get_or v k (query_of d)) (sym same)
+    ∙ get_or-map query_of all k d (query_of d) short in
     subst IsBuilt at (answerable k (query_of d) (omega arith)).built
 
 -- one more query is numbered by the count of those before it
@@ -57,12 +73,16 @@ enumerate_from-push n [] x = ap (λ k. (k, x) ∷ []) (omega arith)
 enumerate_from-push n (y ∷ xs) x = ap (λ v. (n, y) ∷ v) (enumerate_from-push (n + 1) xs x ∙ ap (λ k. enumerate_from (n + 1) xs ++ (k, x) ∷ []) (omega arith))
 
 -- the replies so far, and the next
-pub replies_of-more : (tables : List NamedTable) (all : List Checked) (number : ℕ) (checked : Checked) (reply : QueryReply) → number < length all → checked ≡ get_or all number checked → reply ≡ record { query = number; reply = Answer (answer_of tables (query_of checked)) } → replies_of (record { tables = tables; queries = map query_of (take number all) }) ++ reply ∷ [] ≡ replies_of (record { tables = tables; queries = map query_of (take (number + 1) all) })
+pub replies_of-more : (tables : List NamedTable) (all : List Checked) (number : ℕ) (checked : Checked) (reply : QueryReply) → number < length all
+    → checked ≡ get_or all number checked → reply ≡ record { query = number; reply = Answer (answer_of tables (query_of checked)) }
+    → replies_of (record { tables = tables; queries = map query_of (take number all) }) ++ reply ∷ [] ≡ replies_of
+    (record { tables = tables; queries = map query_of (take (number + 1) all) })
 replies_of-more tables all number checked reply short is replied =
     let numbered : ℕ × Query → QueryReply = λ q. record { query = q.0; reply = Answer (answer_of tables q.1) } in
     let before = map query_of (take number all) in
     let count : 0 + length before ≡ number = omega (arith, length-map (take number all) query_of, length-take-le number all (omega arith)) in
-    let queries : map query_of (take (number + 1) all) ≡ before ++ query_of checked ∷ [] = ap (map query_of) (take_more all number checked short) ∙ map-append query_of (take number all) (get_or all number checked ∷ []) ∙ ap (λ c. before ++ query_of c ∷ []) (sym is) in
+    let queries : map query_of (take (number + 1) all) ≡ before ++ query_of checked ∷ [] = ap (map query_of) (take_more all number checked short)
+    ∙ map-append query_of (take number all) (get_or all number checked ∷ []) ∙ ap (λ c. before ++ query_of c ∷ []) (sym is) in
     let said : reply ≡ numbered (0 + length before, query_of checked) = replied ∙ ap (λ k. numbered (k, query_of checked)) (sym count) in
     ap (λ r. map numbered (enumerate_from 0 before) ++ r ∷ []) said
     ∙ sym (map-append numbered (enumerate_from 0 before) ((0 + length before, query_of checked) ∷ []))

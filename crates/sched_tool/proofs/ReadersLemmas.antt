@@ -28,7 +28,8 @@ pub one_script : (bytes : List ℕ) (a b : Script) → ReadsScript bytes a → R
 one_script bytes a b x y = same_ok a b (HasOneVerdict-any bytes (Ok a) (Ok b) x y)
 
 -- they have one refusal at most
-pub one_script_refusal : (bytes : List ℕ) (r s : ScriptRefusal) → r ≢ script_refusal.OutOfMemory → s ≢ script_refusal.OutOfMemory → RefusesScript bytes r → RefusesScript bytes s → r ≡ s
+pub one_script_refusal : (bytes : List ℕ) (r s : ScriptRefusal) → r ≢ script_refusal.OutOfMemory → s ≢ script_refusal.OutOfMemory → RefusesScript bytes r
+    → RefusesScript bytes s → r ≡ s
 one_script_refusal bytes r s cause other x y = same_err r s (HasOneVerdict-any bytes (Err r) (Err s) (x, cause) (y, other))
 
 -- and none if they are a script
@@ -38,12 +39,14 @@ read_not_refused bytes a r x cause y = ok_is_no_err a r (HasOneVerdict-any bytes
 -- ---- tables
 
 -- bytes have one refusal as a table at most
-pub one_table_refusal : (bytes : List ℕ) (r s : TableRefusal) → r ≢ table_refusal.OutOfMemory → s ≢ table_refusal.OutOfMemory → RefusesTable bytes r → RefusesTable bytes s → r ≡ s
+pub one_table_refusal : (bytes : List ℕ) (r s : TableRefusal) → r ≢ table_refusal.OutOfMemory → s ≢ table_refusal.OutOfMemory → RefusesTable bytes r
+    → RefusesTable bytes s → r ≡ s
 one_table_refusal bytes r s cause other (inl memory) y = absurd (cause memory)
 one_table_refusal bytes r s cause other (inr x) (inl memory) = absurd (other memory)
 one_table_refusal bytes r s cause other (inr x) (inr y) = one_refusal (records_of bytes) r s x y
 
 -- and none if they are a table
-pub loaded_not_refused : (bytes : List ℕ) (table : NamedRows) (r : TableRefusal) → LoadsTable bytes table → r ≢ table_refusal.OutOfMemory → RefusesTable bytes r → ⊥
+pub loaded_not_refused : (bytes : List ℕ) (table : NamedRows) (r : TableRefusal) → LoadsTable bytes table → r ≢ table_refusal.OutOfMemory → RefusesTable bytes r
+    → ⊥
 loaded_not_refused bytes table r loads cause (inl memory) = cause memory
 loaded_not_refused bytes table r loads cause (inr x) = not_both (records_of bytes) table r loads x

@@ -10,18 +10,21 @@ use Rattle.script_json.specs.declared.script.TableEntry.{TableEntry}
 use Rattle.sched_tool.specs.declared.refusal.Refusal.{Refusal}
 use Rattle.sched_tool.specs.declared.refusal.Refusal.TheVariants as refusal
 
-entry_refused : (outside : Outside) (file : List ℕ) (script : Script) (entry : TableEntry) (r : Refusal) → HoldsScript outside file script → IsNext outside script.tables entry → IsEntryRefused outside entry r → IsCheckRefused outside file r
+entry_refused : (outside : Outside) (file : List ℕ) (script : Script) (entry : TableEntry) (r : Refusal) → HoldsScript outside file script
+    → IsNext outside script.tables entry → IsEntryRefused outside entry r → IsCheckRefused outside file r
 entry_refused outside file script entry refusal.Usage held next h = h
 entry_refused outside file script entry (refusal.CannotRead name) held next h = inr (entry, record { script = script; held = held; next = next }, h)
 entry_refused outside file script entry (refusal.Script fault) held next h = elim h [ ]
 entry_refused outside file script entry (refusal.Table name fault) held next h = (h.0, (entry, record { script = script; held = held; next = next }, h.1))
 entry_refused outside file script entry refusal.OutOfMemory held next h = tt
 
-pub tables_refused : (outside : Outside) (file : List ℕ) (script : Script) (r : Refusal) → HoldsScript outside file script → AreTablesRefused outside script.tables r → IsCheckRefused outside file r
+pub tables_refused : (outside : Outside) (file : List ℕ) (script : Script) (r : Refusal) → HoldsScript outside file script
+    → AreTablesRefused outside script.tables r → IsCheckRefused outside file r
 tables_refused outside file script r held (inl is) = subst (IsCheckRefused outside file) (sym is) tt
 tables_refused outside file script r held (inr h) = entry_refused outside file script h.0 r held h.1 h.2
 
-pub queries_refused : (outside : Outside) (file : List ℕ) (subject : Subject) (r : Refusal) → HoldsSubject outside file subject → AreQueriesRefused subject r → IsCheckRefused outside file r
+pub queries_refused : (outside : Outside) (file : List ℕ) (subject : Subject) (r : Refusal) → HoldsSubject outside file subject → AreQueriesRefused subject r
+    → IsCheckRefused outside file r
 queries_refused outside file subject r held (inl is) = subst (IsCheckRefused outside file) (sym is) tt
 queries_refused outside file subject r held (inr h) = subst (IsCheckRefused outside file) (sym h.2) (subject, held, h.3)
 

@@ -15,15 +15,18 @@ some_longer zero = (0 ∷ [], omega arith)
 some_longer (suc n) = let rest : (bytes : List ℕ) × (n < length bytes) = some_longer n in (0 ∷ rest.0, omega arith)
 
 -- bytes that a file may hold, if what is known of it is too long
-longer_bytes : (content : Option (List ℕ)) (limit : ℕ) → IfSome content (λ file. limit < length file) → (bytes : List ℕ) × IfSome content (λ file. bytes ≡ file) × (limit < length bytes)
+longer_bytes : (content : Option (List ℕ)) (limit : ℕ) → IfSome content (λ file. limit < length file)
+    → (bytes : List ℕ) × IfSome content (λ file. bytes ≡ file) × (limit < length bytes)
 longer_bytes None limit h = let longer = some_longer limit in (longer.0, tt, longer.1)
 longer_bytes (Some file) limit h = (file, refl, h)
 
-pub holds_too_much : (content : List ℕ → Option (List ℕ)) (file : List ℕ) → IfSome (content file) (λ bytes. 67_108_864 < length bytes) → HoldsTooMuch (possible content) file
+pub holds_too_much : (content : List ℕ → Option (List ℕ)) (file : List ℕ) → IfSome (content file) (λ bytes. 67_108_864 < length bytes)
+    → HoldsTooMuch (possible content) file
 holds_too_much content file long = let bytes = longer_bytes (content file) 67_108_864 long in record { bytes = bytes.0; held = bytes.1; long = bytes.2 }
 
 -- one more table
-pub HoldTables-push : (outside : Outside) (entries : List TableEntry) (entry : TableEntry) (tables : List NamedTable) (table : NamedTable) → HoldTables outside entries tables → HoldsTable outside entry table → HoldTables outside (entries ++ entry ∷ []) (tables ++ table ∷ [])
+pub HoldTables-push : (outside : Outside) (entries : List TableEntry) (entry : TableEntry) (tables : List NamedTable) (table : NamedTable)
+    → HoldTables outside entries tables → HoldsTable outside entry table → HoldTables outside (entries ++ entry ∷ []) (tables ++ table ∷ [])
 HoldTables-push outside [] entry [] table all one = (one, tt)
 HoldTables-push outside [] entry (t ∷ ts) table all one = elim all [ ]
 HoldTables-push outside (e ∷ es) entry [] table all one = elim all [ ]

@@ -36,7 +36,8 @@ answerable_not_refused tables query (Refused r) can why =
     cc
 answerable_not_refused tables query NotBuilt can why = why.1 can.built
 
-found_not_refused : (subject : Subject) (number : ℕ) (fault : QueryFault) → AllAnswerable subject.tables subject.queries → IsFirstRefused subject number fault → ⊥
+found_not_refused : (subject : Subject) (number : ℕ) (fault : QueryFault) → AllAnswerable subject.tables subject.queries → IsFirstRefused subject number fault
+    → ⊥
 found_not_refused subject number fault all first =
     let within = slice_get_within subject.queries number first.query first.is in
     let at : get_or subject.queries number first.query ≡ first.query = get_or_from_slice_get subject.queries number first.query first.query first.is in
@@ -59,7 +60,8 @@ not_before subject n m f g before x y =
     let answerable = subst (IsAnswerable subject.tables) (taken ∙ at) (y.first n x.query (omega arith)) in
     answerable_not_refused subject.tables x.query f answerable x.refused
 
-one_place : (subject : Subject) (n m : ℕ) (f g : QueryFault) → n ≡ m → IsFirstRefused subject n f → IsFirstRefused subject m g → script_fault.Query n f ≡ script_fault.Query m g
+one_place : (subject : Subject) (n m : ℕ) (f g : QueryFault) → n ≡ m → IsFirstRefused subject n f → IsFirstRefused subject m g
+    → script_fault.Query n f ≡ script_fault.Query m g
 one_place subject n m f g same x y =
     let here : slice_get subject.queries m ≡ Some x.query = subst (λ k. slice_get subject.queries k ≡ Some x.query) same x.is in
     let both : Some x.query ≡ Some y.query = sym here ∙ y.is in
@@ -68,7 +70,8 @@ one_place subject n m f g same x y =
     λ i. script_fault.Query (same i) (fault i)
 
 -- one query is the first that is refused, for one reason
-one_first : (subject : Subject) (n m : ℕ) (f g : QueryFault) → IsFirstRefused subject n f → IsFirstRefused subject m g → script_fault.Query n f ≡ script_fault.Query m g
+one_first : (subject : Subject) (n m : ℕ) (f g : QueryFault) → IsFirstRefused subject n f → IsFirstRefused subject m g
+    → script_fault.Query n f ≡ script_fault.Query m g
 one_first subject n m f g x y =
     elim (cases_lt n m) [
       | inl before ↦ absurd (not_before subject n m f g before x y)
@@ -115,7 +118,8 @@ module _ (a b : Outside) (agree : Agree a b) where
       λ i. record { tables = tables i; queries = (x.queries ∙ ap (λ v. v.queries) script ∙ sym y.queries) i }
 
   -- a table is held for each entry
-  table_held : (before : List TableEntry) (entry : TableEntry) (after : List TableEntry) (tables : List NamedTable) → HoldTables a (before ++ entry ∷ after) tables → (table : NamedTable) × HoldsTable a entry table
+  table_held : (before : List TableEntry) (entry : TableEntry) (after : List TableEntry) (tables : List NamedTable)
+      → HoldTables a (before ++ entry ∷ after) tables → (table : NamedTable) × HoldsTable a entry table
   table_held [] entry after [] x = elim x [ ]
   table_held [] entry after (t ∷ ts) x = (t, x.0)
   table_held (e ∷ es) entry after [] x = elim x [ ]
@@ -128,7 +132,8 @@ module _ (a b : Outside) (agree : Agree a b) where
       loaded_not_refused both.0 table.table r both.1 y.0 both.2
 
   -- no table of a subject is refused
-  subject_not_table : (file : List ℕ) (subject : Subject) (name : List ℕ) (fault : TableFault) → HoldsSubject a file subject → IsCheckRefused b file (Table name fault) → ⊥
+  subject_not_table : (file : List ℕ) (subject : Subject) (name : List ℕ) (fault : TableFault) → HoldsSubject a file subject
+      → IsCheckRefused b file (Table name fault) → ⊥
   subject_not_table file subject name fault x y =
       let entry = y.1.0 in
       let next = y.1.1 in
@@ -138,7 +143,9 @@ module _ (a b : Outside) (agree : Agree a b) where
       not_table entry held.0 fault held.1 (subst (λ n. IsTableRefused b n fault) y.1.2 y.0)
 
   -- a script that is read isn't refused before its queries are
-  script_not_unread : (file : List ℕ) (script : Script) (fault : ScriptFault) → HoldsScript a file script → IsScriptRefused b file fault → (subject : Subject) × HoldsSubject b file subject × ((number : ℕ) × (r : QueryFault) × (fault ≡ script_fault.Query number r) × IsFirstRefused subject number r)
+  script_not_unread : (file : List ℕ) (script : Script) (fault : ScriptFault) → HoldsScript a file script → IsScriptRefused b file fault
+      → (subject : Subject) × HoldsSubject b file subject × ((number : ℕ) × (r : QueryFault) × (fault ≡ script_fault.Query number r)
+      × IsFirstRefused subject number r)
   script_not_unread file script script_fault.TooLong x y = absurd (not_too_much file (λ bytes. ReadsScript bytes script) x y)
   script_not_unread file script (script_fault.Unread r) x y =
       let both = same_bytes file (λ bytes. ReadsScript bytes script) (λ bytes. RefusesScript bytes r) x y.1 in
@@ -192,7 +199,8 @@ same_tail : (e f : TableEntry) (es fs : List TableEntry) → e ∷ es ≡ f ∷ 
 same_tail e f es fs is = cc
 
 -- the tables of two entries are refused, each after those before it were read: it is one entry
-same_entry : (a b : Outside) → Agree a b → (u v : List TableEntry) (e f : TableEntry) (after rest : List TableEntry) (ss ts : List NamedTable) (p q : TableFault) → u ++ e ∷ after ≡ v ++ f ∷ rest → HoldTables a u ss → HoldTables b v ts → IsTableRefused a e.file p → IsTableRefused b f.file q → e ≡ f
+same_entry : (a b : Outside) → Agree a b → (u v : List TableEntry) (e f : TableEntry) (after rest : List TableEntry) (ss ts : List NamedTable)
+    (p q : TableFault) → u ++ e ∷ after ≡ v ++ f ∷ rest → HoldTables a u ss → HoldTables b v ts → IsTableRefused a e.file p → IsTableRefused b f.file q → e ≡ f
 same_entry a b agree [] [] e f after rest ss ts p q is x y one other = same_head e f after rest is
 same_entry a b agree [] (g ∷ v) e f after rest ss [] p q is x y one other = elim y [ ]
 same_entry a b agree [] (g ∷ v) e f after rest ss (t ∷ ts) p q is x y one other =
@@ -207,7 +215,8 @@ same_entry a b agree (g ∷ u) (h ∷ v) e f after rest (s ∷ ss) (t ∷ ts) p 
     same_entry a b agree u v e f after rest ss ts p q (same_tail g h (u ++ e ∷ after) (v ++ f ∷ rest) is) x.1 y.1 one other
 
 -- one table of a script is refused, for one reason
-same_table : (a b : Outside) → Agree a b → (file name other : List ℕ) (p q : TableFault) → IsCheckRefused a file (Table name p) → IsCheckRefused b file (Table other q) → ◌≡◌ {A = Refusal} (Table name p) (Table other q)
+same_table : (a b : Outside) → Agree a b → (file name other : List ℕ) (p q : TableFault) → IsCheckRefused a file (Table name p)
+    → IsCheckRefused b file (Table other q) → ◌≡◌ {A = Refusal} (Table name p) (Table other q)
 same_table a b agree file name other p q x y =
     let e = x.1.0 in
     let f = y.1.0 in
@@ -215,19 +224,22 @@ same_table a b agree file name other p q x y =
     let one = subst (λ n. IsTableRefused a n p) x.1.2 x.0 in
     let next = subst (λ n. IsTableRefused b n q) y.1.2 y.0 in
     let entries = sym x.1.1.next.is ∙ ap (λ s. s.tables) script ∙ y.1.1.next.is in
-    let same = same_entry a b agree x.1.1.next.before y.1.1.next.before e f x.1.1.next.after y.1.1.next.after x.1.1.next.loaded y.1.1.next.loaded p q entries x.1.1.next.tables y.1.1.next.tables one next in
+    let same = same_entry a b agree x.1.1.next.before y.1.1.next.before e f x.1.1.next.after y.1.1.next.after x.1.1.next.loaded y.1.1.next.loaded p q
+    entries x.1.1.next.tables y.1.1.next.tables one next in
     let named : name ≡ other = x.1.2 ∙ ap (λ k. k.file) same ∙ sym y.1.2 in
     let fault = same_table_fault a b agree other p q (subst (λ n. IsTableRefused a n p) named x.0) y.0 in
     λ i. Table (named i) (fault i)
 
 -- a table isn't refused if its script is
-table_not_script : (a b : Outside) → Agree a b → (file name : List ℕ) (fault : TableFault) (cause : ScriptFault) → IsCheckRefused a file (Table name fault) → IsScriptRefused b file cause → ⊥
+table_not_script : (a b : Outside) → Agree a b → (file name : List ℕ) (fault : TableFault) (cause : ScriptFault) → IsCheckRefused a file (Table name fault)
+    → IsScriptRefused b file cause → ⊥
 table_not_script a b agree file name fault cause x y =
     let query = script_not_unread a b agree file x.1.1.script cause x.1.1.held y in
     subject_not_table b a (Agree-swap a b agree) file query.0 name fault query.1 x
 
 -- `check` is refused for one reason
-pub same_refusal : (a b : Outside) → Agree a b → (file : List ℕ) (r s : Refusal) → IsFinding r → IsFinding s → IsCheckRefused a file r → IsCheckRefused b file s → r ≡ s
+pub same_refusal : (a b : Outside) → Agree a b → (file : List ℕ) (r s : Refusal) → IsFinding r → IsFinding s → IsCheckRefused a file r → IsCheckRefused b file s
+    → r ≡ s
 same_refusal a b agree file Usage s x y h k = elim h [ ]
 same_refusal a b agree file (CannotRead name) s x y h k = elim x [ ]
 same_refusal a b agree file OutOfMemory s x y h k = elim x [ ]

@@ -13,7 +13,7 @@ use Rattle.report_text.specs.declared.replies.Reply.TheVariants.{Answer}
 use Rattle.sched_tool.specs.declared.refusal.Refusal.{Refusal}
 use Rattle.sched_tool.specs.declared.refusal.Refusal.TheVariants.{Usage, CannotRead, Script, Table, OutOfMemory}
 
--- the behaviour of a command. Each command has one, and the contract of `command` speaks of nothing else.
+-- the behaviour of a command: each has one, and the contract of `command` speaks of nothing else
 pub record Behaviour : Type 1 where
   -- its words, and what its files hold, are accepted
   pub accepts : Outside → Type 0
@@ -50,7 +50,8 @@ usage_behaviour = record {
 -- the one-thread answer to each query, numbered from 0
 abbrev pub replies_of : Subject → List QueryReply
 replies_of subject =
-    map (λ q. record { query = q.0; reply = Answer (answer_of subject.tables q.1) }) (enumerate_from 0 subject.queries)
+    map (λ q. record { query = q.0; reply = Answer (answer_of subject.tables q.1) })
+    (enumerate_from 0 subject.queries)
 
 -- what `check` writes for a subject
 abbrev pub check_text : Subject → List ℕ
@@ -60,7 +61,8 @@ check_text subject = answers_bytes (replies_of subject) ++ line (codes "end")
 abbrev pub check_behaviour : List ℕ → Behaviour
 check_behaviour file = record {
   accepts = λ outside. (subject : Subject) × IsAccepted outside file subject;
-  answers = λ outside text. (subject : Subject) × IsAccepted outside file subject × (text ≡ check_text subject);
+  answers = λ outside text.
+      (subject : Subject) × IsAccepted outside file subject × (text ≡ check_text subject);
   answers_in_part = λ outside text. ⊥;
   refuses = λ outside. IsCheckRefused outside file;
   reads = λ outside. IsRead outside file;
@@ -68,7 +70,8 @@ check_behaviour file = record {
 
 -- an accepted script has one answer where its files are known
 abbrev pub OneAnswer : Type 0
-OneAnswer = (content : List ℕ → Option (List ℕ)) (file a b : List ℕ) → (check_behaviour file).answers (known content) a
+OneAnswer = (content : List ℕ → Option (List ℕ)) (file a b : List ℕ)
+    → (check_behaviour file).answers (known content) a
     → (check_behaviour file).answers (known content) b → a ≡ b
 
 -- ---- all commands

@@ -23,13 +23,16 @@ asked words = meaning_of (map string_bytes words)
 abbrev pub behaviour_asked : List (String Global) → Behaviour
 behaviour_asked words = behaviour_of (asked words)
 
--- a command gave a text: it answers the command whole, at status 0, or but for memory, at 7; no read met a fault
-pub record Gives (does : Behaviour) (outside : Outside) (old new : List (List ℕ)) (output : Output) : Type 0 where
+-- a command gave a text, and no read met a fault: it answers the command whole, at status 0, or in
+-- part, at 7
+pub record Gives (does : Behaviour) (outside : Outside) (old new : List (List ℕ)) (output : Output)
+    : Type 0 where
   pub no_fault : new ≡ old
   pub text : ((output.status ≡ 0) × does.answers outside output.text.items)
       ⊎ ((output.status ≡ 7) × does.answers_in_part outside output.text.items)
 
 -- a command gave up for this reason, and reads met the faults that go with it
-pub record GivesUp (does : Behaviour) (outside : Outside) (old new : List (List ℕ)) (refusal : Refusal) : Type 0 where
+pub record GivesUp (does : Behaviour) (outside : Outside) (old new : List (List ℕ))
+    (refusal : Refusal) : Type 0 where
   pub cause : does.refuses outside refusal
   pub faults : FaultsAt refusal old new

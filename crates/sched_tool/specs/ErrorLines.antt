@@ -29,7 +29,8 @@ query_text query_fault.NotBuilt = codes "not built"
 abbrev pub script_fault_text : ScriptFault → List ℕ
 script_fault_text script_fault.TooLong = codes "too long"
 script_fault_text (script_fault.Unread refusal) = refusal_text refusal
-script_fault_text (script_fault.Query number fault) = codes "query " ++ (decimal number ++ (codes ": " ++ query_text fault))
+script_fault_text (script_fault.Query number fault) =
+    codes "query " ++ (decimal number ++ (codes ": " ++ query_text fault))
 
 -- a place in a table
 abbrev pub place_text : ℕ → ℕ → List ℕ
@@ -55,7 +56,8 @@ abbrev pub error_text : Refusal → List ℕ
 error_text Usage = codes "error: usage"
 error_text (CannotRead file) = codes "error: cannot read " ++ file
 error_text (Script fault) = codes "error: script: " ++ script_fault_text fault
-error_text (Table file fault) = codes "error: table " ++ (file ++ (codes ": " ++ table_fault_text fault))
+error_text (Table file fault) =
+    codes "error: table " ++ (file ++ (codes ": " ++ table_fault_text fault))
 error_text OutOfMemory = codes "error: out of memory"
 
 -- the line that is written for a refusal

@@ -22,10 +22,11 @@ use Rattle.sched_tool.specs.declared.refusal.TableFault.TheVariants as table_fau
 use Rattle.sched_tool.specs.declared.refusal.Refusal.{Refusal}
 use Rattle.sched_tool.specs.declared.refusal.Refusal.TheVariants.{Usage, CannotRead, Script, Table, OutOfMemory}
 
--- why a query can't be answered over tables: a name in it isn't there, or else its form isn't answered yet
+-- why a query can't be answered: a name in it isn't there, or else its form isn't answered yet
 abbrev pub IsQueryRefused : List NamedTable → Query → QueryFault → Type 0
 IsQueryRefused tables query (query_fault.Refused refusal) = refusal_of tables query ≡ Some refusal
-IsQueryRefused tables query query_fault.NotBuilt = (refusal_of tables query ≡ None) × ¬ (IsBuilt query)
+IsQueryRefused tables query query_fault.NotBuilt =
+    (refusal_of tables query ≡ None) × ¬ (IsBuilt query)
 
 -- the first query that can't be answered has this number, and this is why
 pub record IsFirstRefused (subject : Subject) (number : ℕ) (fault : QueryFault) : Type 0 where
@@ -64,7 +65,8 @@ abbrev pub IsEntryRefused : Outside → TableEntry → Refusal → Type 0
 IsEntryRefused outside entry Usage = ⊥
 IsEntryRefused outside entry (CannotRead name) = name ≡ entry.file
 IsEntryRefused outside entry (Script fault) = ⊥
-IsEntryRefused outside entry (Table name fault) = IsTableRefused outside name fault × (name ≡ entry.file)
+IsEntryRefused outside entry (Table name fault) =
+    IsTableRefused outside name fault × (name ≡ entry.file)
 IsEntryRefused outside entry OutOfMemory = Unit {0}
 
 -- why the tables of a script are refused: the next to be read is, or memory ran out

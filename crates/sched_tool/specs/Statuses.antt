@@ -3,7 +3,7 @@ use Rattle.std.specs.Prelude.{ℕ, List, [], ◌∷◌}
 use Rattle.sched_tool.specs.declared.refusal.Refusal.{Refusal}
 use Rattle.sched_tool.specs.declared.refusal.Refusal.TheVariants.{Usage, CannotRead, Script, Table, OutOfMemory}
 
--- the status of a refusal; 0 is that of a command that is answered, and 4 that of one whose writing failed
+-- the status of a refusal; 0 is that of an answer, and 4 that of a write that failed
 abbrev pub status_of : Refusal → ℕ
 status_of Usage = 2
 status_of (CannotRead file) = 3

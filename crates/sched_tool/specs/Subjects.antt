@@ -63,7 +63,8 @@ pub record IsAccepted (outside : Outside) (file : List ℕ) (subject : Subject) 
   pub answerable : AllAnswerable subject.tables subject.queries
 
 -- the table of this entry is the next to be read: those of the entries before it were read
-pub record IsNext (outside : Outside) (entries : List TableEntry) (entry : TableEntry) : Type 0 where
+pub record IsNext (outside : Outside) (entries : List TableEntry) (entry : TableEntry)
+    : Type 0 where
   pub before : List TableEntry
   pub after : List TableEntry
   pub is : entries ≡ before ++ entry ∷ after
@@ -79,4 +80,5 @@ pub record IsNextTable (outside : Outside) (file : List ℕ) (entry : TableEntry
 -- a file is read: it is that of the script, or that of the table that is the next to be read
 abbrev pub IsRead : Outside → List ℕ → List ℕ → Type 0
 IsRead outside script file =
-    (file ≡ script) ⊎ ((entry : TableEntry) × IsNextTable outside script entry × (file ≡ entry.file))
+    (file ≡ script)
+    ⊎ ((entry : TableEntry) × IsNextTable outside script entry × (file ≡ entry.file))

@@ -14,5 +14,6 @@ is_file_word (first ∷ rest) = not (first == 45) || (length rest == 0)
 abbrev pub meaning_of : List (List ℕ) → Option Meaning
 meaning_of [] = None
 meaning_of (command ∷ []) = None
-meaning_of (command ∷ file ∷ []) = if bytes_eq command (codes "check") && is_file_word file then Some (check file) else None
+meaning_of (command ∷ file ∷ []) =
+    if bytes_eq command (codes "check") && is_file_word file then Some (check file) else None
 meaning_of (command ∷ file ∷ more ∷ rest) = None

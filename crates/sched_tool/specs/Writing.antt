@@ -20,19 +20,20 @@ pub record SinkState : Type 0 where
 abbrev pub WritesOne : (List ℕ → Type 0) → Option (List ℕ) → Option (List ℕ) → Type 0
 WritesOne IsText old new = (text : List ℕ) × IsText text × Appends old new text
 
--- the text was written and this is its status, or one write failed after a beginning of the text and the status is 4
+-- the text was written, and this is its status; or one write failed, after a beginning of the text,
+-- and the status is 4
 abbrev pub IsWritten : SinkState → SinkState → List ℕ → ℕ → ℕ → Type 0
 IsWritten old new text status result =
     ((result ≡ status) × Appends old.written new.written text × (new.faults ≡ old.faults))
     ⊎ ((result ≡ 4) × AppendsPrefix old.written new.written text × CountedOne old.faults new.faults)
 
--- a refusal was told by its line, or by the line that says that memory ran out if there was none for its own
+-- a refusal was told by its line, or, if memory ran out for that, by the line that says so
 pub record IsRefusalWritten (old new : SinkState) (refusal : Refusal) (result : ℕ) : Type 0 where
   pub told : Refusal
   pub is : (told ≡ refusal) ⊎ (told ≡ OutOfMemory)
   pub written : IsWritten old new (error_bytes told) (status_of told) result
 
--- a refusal that rests on the words and on what the files hold, and neither on a fault nor on memory
+-- a refusal that rests on the words and on what the files hold, not on a fault or on memory
 abbrev pub IsFinding : Refusal → Type 0
 IsFinding Usage = Unit {0}
 IsFinding (CannotRead file) = ⊥
@@ -41,7 +42,8 @@ IsFinding (Table file fault) = Unit {0}
 IsFinding OutOfMemory = ⊥
 
 -- a refusal is told: it has its cause, the status is its own, and its line was written
-pub record TellsRefusal (does : Behaviour) (outside : Outside) (old new : Option (List ℕ)) (result : ℕ) : Type 0 where
+pub record TellsRefusal (does : Behaviour) (outside : Outside) (old new : Option (List ℕ))
+    (result : ℕ) : Type 0 where
   pub refusal : Refusal
   pub finding : IsFinding refusal
   pub cause : does.refuses outside refusal
@@ -50,10 +52,12 @@ pub record TellsRefusal (does : Behaviour) (outside : Outside) (old new : Option
 
 -- a text that says that memory ran out: the line that says so, or an answer in part
 abbrev pub IsMemoryText : Behaviour → Outside → List ℕ → Type 0
-IsMemoryText does outside text = (text ≡ error_bytes OutOfMemory) ⊎ does.answers_in_part outside text
+IsMemoryText does outside text =
+    (text ≡ error_bytes OutOfMemory) ⊎ does.answers_in_part outside text
 
 -- the line of a refusal that has its cause, and reads met the faults that go with it
-pub record IsRefusalLine (does : Behaviour) (outside : Outside) (old new : List (List ℕ)) (text : List ℕ) : Type 0 where
+pub record IsRefusalLine (does : Behaviour) (outside : Outside) (old new : List (List ℕ))
+    (text : List ℕ) : Type 0 where
   pub refusal : Refusal
   pub cause : does.refuses outside refusal
   pub faults : FaultsAt refusal old new

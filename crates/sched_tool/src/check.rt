@@ -21,8 +21,8 @@ use std::alloc::{AllocError, Global};
 
 /// `check` of the script in a file: the answer to each query, and `end`.
 ///
-/// The script is read first, then each of its tables; then each query is checked, and last each is answered.
-/// The first refusal ends it.
+/// The script is read first, then each of its tables; then each query is checked, and last each is
+/// answered. The first refusal ends it.
 pub fn check_script<F: Files>(alloc: Global, files: &mut F, file: &str) -> Result<Output, Refusal>
     ensures kept { (any : List ℕ) → F.content files.new any ≡ F.content files.old any }
     ensures ok { IfOk result (Gives (check_behaviour file.now) (possible (F.content files.old))
@@ -53,7 +53,8 @@ fn check_queries(
     ensures same { IfOk result (λ checked. map query_of checked.items ≡ queries.now) }
     ensures placed { IfOk result (λ checked. All (IsCheckedFor tables.now) checked.items) }
     ensures answerable { OnOk result (AllAnswerable tables.now queries.now) }
-    ensures err { IfErr result (AreQueriesRefused (record { tables = tables.now; queries = queries.now })) }
+    ensures err { IfErr result
+        (AreQueriesRefused (record { tables = tables.now; queries = queries.now })) }
 {
     let mut all = Vec::with_capacity(alloc, queries.len())?;
     for (number, query) in queries.iter().enumerate() {
@@ -96,7 +97,8 @@ fn text_of(alloc: Global, tables: &[NamedTable], checked: &[Checked]) -> Result<
     requires placed { All (IsCheckedFor tables.now) checked.now }
     requires built { All (λ c. IsBuilt (query_of c)) checked.now }
     requires few { length checked.now ≤ 4096 }
-    ensures { IfOk result (λ text. text.items ≡ check_text (record { tables = tables.now; queries = map query_of checked.now })) }
+    ensures { IfOk result (λ text. text.items
+        ≡ check_text (record { tables = tables.now; queries = map query_of checked.now })) }
 {
     let replies = answer_queries(alloc, tables, checked)?;
     let mut text = answers_text(alloc, replies.as_slice())?;

@@ -20,32 +20,35 @@ use super::words::{Command, read_words};
 use outside_io::{Files, Sink, write_all};
 use std::alloc::{AllocError, Global};
 
-/// Does what the words after the program's name ask for, writes one text, and answers the status that the
-/// program ends with. `check` reads the script and its tables, and writes the answers to its queries.
+/// Does what the words after the program's name ask for, writes one text, and answers the status
+/// that the program ends with. `check` reads the script and its tables, and writes the answers to
+/// its queries.
 ///
-/// The first refusal in this order is told, by its line in place of all else: the words are outside the
-/// grammar (2); the script can't be read (3) or is refused (5); table by table in the script's order, the
-/// table can't be read (3) or is refused (6); a query is refused (5). Running out of memory ends the command
-/// where it happens (7). If a write fails, the status is 4, and a beginning of the text was written.
+/// The first refusal in this order is told, by its line in place of all else: the words are outside
+/// the grammar (2); the script can't be read (3) or is refused (5); table by table in the script's
+/// order, the table can't be read (3) or is refused (6); a query is refused (5). Running out of
+/// memory ends the command where it happens (7). If a write fails, the status is 4, and a beginning
+/// of the text was written.
 pub fn command<F: Files, S: Sink>(alloc: Global, words: &[String], files: &mut F, out: &mut S) -> u8
     // 0: the command is answered.
     ensures answered { result ≡ 0 →
         WritesOne ((behaviour_asked words.now).answers (possible (F.content files.old)))
         (S.written out.old) (S.written out.new) }
 
-    // 2, 5, 6: the words, the script or one of its queries, or a table is refused for the reason told.
+    // 2, 5, 6: the words, the script or one of its queries, or a table is refused for this reason.
     ensures refused { Contains (2 ∷ 5 ∷ 6 ∷ []) result →
         TellsRefusal (behaviour_asked words.now) (possible (F.content files.old))
         (S.written out.old) (S.written out.new) result }
 
-    // 3: the file that is told is one that the command reads, and its reading failed, the only one to do so.
+    // 3: the file named is one that the command reads, and the one read that failed is of it.
     ensures cannot_read { result ≡ 3 → (file : List ℕ)
         × (behaviour_asked words.now).reads (possible (F.content files.old)) file
         × OnlyFailed (F.failed files.old) (F.failed files.new) file
         × Appends (S.written out.old) (S.written out.new) (error_bytes (Refusal.CannotRead file)) }
 
     // 4: one write failed, after a beginning of a text of the command was written.
-    ensures cannot_write { result ≡ 4 → CountedOne (S.faults out.old) (S.faults out.new) × ((text : List ℕ)
+    ensures cannot_write { result ≡ 4 → CountedOne (S.faults out.old) (S.faults out.new)
+        × ((text : List ℕ)
         × IsTextOf (behaviour_asked words.now) (possible (F.content files.old))
         (F.failed files.old) (F.failed files.new) text
         × AppendsPrefix (S.written out.old) (S.written out.new) text) }
@@ -58,28 +61,32 @@ pub fn command<F: Files, S: Sink>(alloc: Global, words: &[String], files: &mut F
     // There is no other status.
     ensures statuses { Contains statuses result }
 
-    // No write met a fault at a status other than 4. No read met one at 0, 2, 5 and 6, and at any status reads
-    // met one at most, of a file that the command reads.
+    // No write failed at a status other than 4. No read failed at 0, 2, 5 and 6, and at any status
+    // one at most, of a file that the command reads.
     ensures no_write_fault { result ≢ 4 → S.faults out.new ≡ S.faults out.old }
-    ensures no_read_fault { Contains (0 ∷ 2 ∷ 5 ∷ 6 ∷ []) result → F.failed files.new ≡ F.failed files.old }
+    ensures no_read_fault { Contains (0 ∷ 2 ∷ 5 ∷ 6 ∷ []) result →
+        F.failed files.new ≡ F.failed files.old }
     ensures read_faults { OneFaultAtMost
         ((behaviour_asked words.now).reads (possible (F.content files.old)))
         (F.failed files.old) (F.failed files.new) }
 
-    // If no count of faults rose, a command that is accepted by what the files are known to hold is answered,
-    // unless memory ran out,
+    // If no count of faults rose, a command is answered that is accepted by what the files are
+    // known to hold, unless memory ran out,
     ensures accepted { NoCountRose ((behaviour_asked words.now).reads (possible (F.content files.old)))
         (F.failed files.old) (F.failed files.new) (S.faults out.old) (S.faults out.new) →
         (behaviour_asked words.now).accepts (known (F.content files.old)) →
-        ((result ≡ 0) × WritesOne ((behaviour_asked words.now).answers (known (F.content files.old)))
+        ((result ≡ 0)
+        × WritesOne ((behaviour_asked words.now).answers (known (F.content files.old)))
         (S.written out.old) (S.written out.new)) ⊎ (result ≡ 7) }
 
-    // and one that they refuse ends with the status and the line of the refusal, unless memory ran out.
+    // and one that they refuse ends with the status and the line of that refusal, unless memory ran
+    // out.
     ensures found { NoCountRose ((behaviour_asked words.now).reads (possible (F.content files.old)))
         (F.failed files.old) (F.failed files.new) (S.faults out.old) (S.faults out.new) →
         (refusal : Refusal) → IsFinding refusal →
         (behaviour_asked words.now).refuses (known (F.content files.old)) refusal →
-        ((result ≡ status_of refusal) × Appends (S.written out.old) (S.written out.new) (error_bytes refusal))
+        ((result ≡ status_of refusal)
+        × Appends (S.written out.old) (S.written out.new) (error_bytes refusal))
         ⊎ (result ≡ 7) }
 
     // What is known of the files stays.
@@ -141,10 +148,12 @@ fn write_refusal<S: Sink>(alloc: Global, out: &mut S, refusal: &Refusal) -> u8
     }
 }
 
-/// Writes that memory ran out, and answers the status of that, or 4 if the writing fails. It takes no memory.
+/// Writes that memory ran out, and answers the status of that, or 4 if the writing fails. It takes
+/// no memory.
 pub fn end_without_memory<S: Sink>(out: &mut S) -> u8
     ensures { IsWritten (record { written = S.written out.old; faults = S.faults out.old })
-        (record { written = S.written out.new; faults = S.faults out.new }) (error_bytes Refusal.OutOfMemory) 7 result }
+        (record { written = S.written out.new; faults = S.faults out.new })
+        (error_bytes Refusal.OutOfMemory) 7 result }
 {
     write_text(out, OUT_OF_MEMORY_LINE.as_bytes(), OUT_OF_MEMORY)
 }

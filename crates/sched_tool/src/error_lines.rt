@@ -1,4 +1,5 @@
-//! The lines that say why there is no answer: each refusal as text is its line, without the line's end.
+//! The lines that say why there is no answer: as text, a refusal is its line without the line's
+//! end.
 use super::refusal::{QueryFault, Refusal, ScriptFault, TableFault};
 use csv_tables::TableRefusal;
 use plan_ast::PlanRefusal;

@@ -1,10 +1,13 @@
-//! The program: the words after its name are read to a command, which reads its files and writes one text.
+//! The program: the words after its name are read to a command, which reads its files and writes
+//! one text.
 //!
-//! It stands on the outside (`outside_io`), on scripts (`script_json`) and tables (`csv_tables`) that are read,
-//! on queries and their check (`plan_ast`), on their answers (`pipe_ops`) and on the text of these (`report_text`).
+//! It stands on the outside (`outside_io`), on scripts (`script_json`) and tables (`csv_tables`)
+//! that are read, on queries and their check (`plan_ast`), on their answers (`pipe_ops`) and on the
+//! text of these (`report_text`).
 //!
-//! The one fact that it promises is the contract of `command`: for the words, and for what the files hold where
-//! that is told, it says which text is written and with which status, and the cause of every other ending.
+//! The one fact that it promises is the contract of `command`: for the words, and for what is known
+//! of the files, it says which text is written and with which status, and the cause of every other
+//! ending.
 #![tactic(auto)]
 
 mod check;

@@ -3,8 +3,8 @@ ghost use Rattle.std.specs.Prelude.{◌≡◌};
 
 use super::status::ANSWERED;
 
-/// A text, and the status that the program ends with once the text is written: 0 if every query is answered,
-/// and 7 if a query ran out of memory.
+/// A text, and the status that the program ends with once the text is written: 0 if every query is
+/// answered, and 7 if a query ran out of memory.
 #[derive(Debug, Drop)]
 pub struct Output {
     pub text: Vec<u8>,

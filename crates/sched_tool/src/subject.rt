@@ -22,7 +22,8 @@ pub fn open_script<F: Files>(alloc: Global, files: &mut F, file: &str) -> Result
     ensures in_bounds { IfOk result (λ script. All IsInBounds script.queries) }
     ensures few { IfOk result (λ script. length script.queries ≤ 4096) }
     ensures err { IfErr result (IsCheckRefused (possible (F.content files.old)) file.now) }
-    ensures faults { IfErr result (λ refusal. FaultsAt refusal (F.failed files.old) (F.failed files.new)) }
+    ensures faults { IfErr result
+        (λ refusal. FaultsAt refusal (F.failed files.old) (F.failed files.new)) }
 {
     let name = Text::of(String::from_str(alloc, file)?);
     let bytes = match read_whole(alloc, files, file, MOST_BYTES) {
@@ -38,17 +39,19 @@ pub fn open_script<F: Files>(alloc: Global, files: &mut F, file: &str) -> Result
     }
 }
 
-/// Reads the tables of a script in the order of its entries. The first that is refused ends the reading.
+/// Reads the tables of a script in the order of its entries. The first that is refused ends it.
 pub fn open_tables<F: Files>(
     alloc: Global,
     files: &mut F,
     entries: ListOf<TableEntry>,
 ) -> Result<Vec<NamedTable>, Refusal>
     ensures kept { (any : List ℕ) → F.content files.new any ≡ F.content files.old any }
-    ensures ok { IfOk result (λ tables. HoldTables (possible (F.content files.old)) entries tables.items) }
+    ensures ok { IfOk result
+        (λ tables. HoldTables (possible (F.content files.old)) entries tables.items) }
     ensures no_fault { OnOk result (F.failed files.new ≡ F.failed files.old) }
     ensures err { IfErr result (AreTablesRefused (possible (F.content files.old)) entries) }
-    ensures faults { IfErr result (λ refusal. FaultsAt refusal (F.failed files.old) (F.failed files.new)) }
+    ensures faults { IfErr result
+        (λ refusal. FaultsAt refusal (F.failed files.old) (F.failed files.new)) }
 {
     let mut tables = Vec::with_capacity(alloc, entries.as_slice().len())?;
     for entry in entries.into_vec() {
@@ -67,7 +70,8 @@ fn open_table<F: Files>(
     ensures ok { IfOk result (HoldsTable (possible (F.content files.old)) entry) }
     ensures no_fault { OnOk result (F.failed files.new ≡ F.failed files.old) }
     ensures err { IfErr result (IsEntryRefused (possible (F.content files.old)) entry) }
-    ensures faults { IfErr result (λ refusal. FaultsAt refusal (F.failed files.old) (F.failed files.new)) }
+    ensures faults { IfErr result
+        (λ refusal. FaultsAt refusal (F.failed files.old) (F.failed files.new)) }
 {
     let TableEntry { name, file } = entry;
     let bytes = match read_whole(alloc, files, file.as_str(), MOST_BYTES) {

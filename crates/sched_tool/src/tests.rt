@@ -12,8 +12,8 @@ const TABLE: &str = "k,v\n1,10\n1,20\n2,5\n";
 
 const ANSWER: &str = "query 0 lines 1\ntotal 35\nend\n";
 
-// The status of a command and what it writes, over `s.json` and `t.csv`, where these calls of reads and of
-// writes fail, and a write takes so many bytes.
+// The status of a command and what it writes, over `s.json` and `t.csv`. These calls of reads and
+// of writes fail, and a write takes so many bytes.
 fn run(
     alloc: Global,
     words: &[&str],
@@ -202,7 +202,7 @@ fn refuses_tables(rt: HostRuntime) -> Result<(), Fail> {
     Ok(())
 }
 
-// The first refusal counts: a script's before a table's, a table's before a query's, and the first of each.
+// The first refusal counts: a script's before a table's, a table's before a query's.
 #[test]
 fn refuses_in_order(rt: HostRuntime) -> Result<(), Fail> {
     let query = r#"{"scan":"x","output":{"rows":["k"]}}"#;

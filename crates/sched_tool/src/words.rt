@@ -10,10 +10,12 @@ pub enum Command<'a> {
     Check(&'a str),
 }
 
-/// Reads the words after the program's name: `check` and a file, which has at least one byte and is `-`
-/// or does not begin with `-`. All other lists of words are outside the grammar. It takes no memory.
+/// Reads the words after the program's name: `check` and a file, which has at least one byte and is
+/// `-` or does not begin with `-`. All other lists of words are outside the grammar. It takes no
+/// memory.
 pub fn read_words(words: &[String]) -> Option<Command<'_>>
-    ensures { MatchOption result (asked words.now ≡ None) (λ command. asked words.now ≡ Some (asked_by command)) }
+    ensures { MatchOption result (asked words.now ≡ None)
+        (λ command. asked words.now ≡ Some (asked_by command)) }
 {
     match words {
         [command, file] if command.as_str() == "check" && is_file_word(file.as_str()) => {

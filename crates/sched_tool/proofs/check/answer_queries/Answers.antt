@@ -20,4 +20,5 @@ loop-query-preserved c =
     let items : c.push.new.self.items ≡ c.loop-query.replies.items ++ next ∷ [] = c.in_ok-push.ensures.items in
     let numbered : Answer → QueryReply = λ answer. record { query = c.loop-query.query; reply = reply.Answer answer } in
     let told : next ≡ numbered (answer_of c.args.tables.now (query_of c.index-checked-query.result)) = ap numbered c.in_ok-plain_answer.ensures in
-    items ∙ ap (λ v. v ++ next ∷ []) c.loop-query.invariant ∙ replies_of-more c.args.tables.now c.args.checked.now c.loop-query.query c.index-checked-query.result next lt c.index-checked-query.is told
+    items ∙ ap (λ v. v ++ next ∷ []) c.loop-query.invariant
+    ∙ replies_of-more c.args.tables.now c.args.checked.now c.loop-query.query c.index-checked-query.result next lt c.index-checked-query.is told

@@ -15,14 +15,18 @@ pub returns-in-Err-clause-err : goal.returns-in-Err-clause-err
 returns-in-Err-clause-err c =
     let lt : c.loop-number.number < length c.args.queries.now = omega arith in
     subst (AreQueriesRefused (record { tables = c.args.tables.now; queries = c.args.queries.now })) (sym c.refusal_of_query.ensures)
-    (first_refused (record { tables = c.args.tables.now; queries = c.args.queries.now }) c.loop-number.number c.index-queries-number.result lt c.index-queries-number.is c.loop-number.invariant.answerable c.in-Err.fault c.in-Err.ensures.refused)
+    (first_refused
+    (record { tables = c.args.tables.now; queries = c.args.queries.now }) c.loop-number.number c.index-queries-number.result lt c.index-queries-number.is
+    c.loop-number.invariant.answerable c.in-Err.fault c.in-Err.ensures.refused)
 
 pub loop-number-preserved : goal.loop-number-preserved
 loop-number-preserved c =
     let lt : c.loop-number.number < length c.args.queries.now = omega arith in
     let items : c.push.new.self.items ≡ c.loop-number.all.items ++ c.in-Ok.checked ∷ [] = c.in_ok-push-in-Ok.ensures.items in
     rw items record {
-      same = same_more c.args.queries.now c.loop-number.all.items c.in-Ok.checked c.loop-number.number c.index-queries-number.result lt c.index-queries-number.is c.loop-number.invariant.same c.in-Ok.ensures.same_query;
+      same = same_more c.args.queries.now c.loop-number.all.items c.in-Ok.checked c.loop-number.number c.index-queries-number.result lt
+          c.index-queries-number.is c.loop-number.invariant.same c.in-Ok.ensures.same_query;
       placed = All-push (IsCheckedFor c.args.tables.now) c.loop-number.all.items c.in-Ok.checked c.loop-number.invariant.placed c.in-Ok.ensures.placed;
-      answerable = AllAnswerable-more c.args.tables.now c.args.queries.now c.loop-number.number c.index-queries-number.result lt c.index-queries-number.is c.loop-number.invariant.answerable c.in-Ok.ensures.answerable;
+      answerable = AllAnswerable-more c.args.tables.now c.args.queries.now c.loop-number.number c.index-queries-number.result lt c.index-queries-number.is
+          c.loop-number.invariant.answerable c.in-Ok.ensures.answerable;
     }

@@ -18,7 +18,8 @@ returns g c =
     let old : SinkState = record { written = g.S.Sink.written c.args.out.now; faults = g.S.Sink.faults c.args.out.now } in
     let new : SinkState = record { written = g.S.Sink.written c.tell.new.out; faults = g.S.Sink.faults c.tell.new.out } in
     let result = c.tell.result in
-    let ended : Ends does may before after old new result = Ends-from does may before after old new result c.run_command-ended.result c.run_command-ended.ensures.ok c.run_command-ended.ensures.err c.tell.ensures.answered c.tell.ensures.refused in
+    let ended : Ends does may before after old new result = Ends-from does may before after old new result c.run_command-ended.result
+    c.run_command-ended.ensures.ok c.run_command-ended.ensures.err c.tell.ensures.answered c.tell.ensures.refused in
     record {
       answered = at_answered does may before after old new result ended;
       refused = at_refused does may before after old new result ended;

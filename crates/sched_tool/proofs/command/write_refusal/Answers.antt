@@ -10,7 +10,12 @@ returns-in-Ok g c =
     let new : SinkState = record { written = g.S.Sink.written c.write_text.new.out; faults = g.S.Sink.faults c.write_text.new.out } in
     let line : c.as_bytes.result.now ≡ error_bytes c.args.refusal.now = c.as_bytes.ensures.value ∙ c.in-Ok.ensures.ok in
     let with_line = subst (λ bytes. IsWritten old new bytes c.status_of.result c.write_text.result) line c.write_text.ensures in
-    record { told = c.args.refusal.now; is = inl refl; written = subst (λ status. IsWritten old new (error_bytes c.args.refusal.now) status c.write_text.result) c.status_of.ensures with_line }
+    record {
+      told = c.args.refusal.now;
+      is = inl refl;
+      written = subst (λ status. IsWritten old new
+          (error_bytes c.args.refusal.now) status c.write_text.result) c.status_of.ensures with_line;
+    }
 
 pub returns-in-Err : goal.returns-in-Err
 returns-in-Err g c = record { told = OutOfMemory; is = inr refl; written = c.end_without_memory.ensures }

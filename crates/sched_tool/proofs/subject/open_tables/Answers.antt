@@ -12,7 +12,8 @@ use Rattle.sched_tool.proofs.subject.open_tables.Goals as goal
 pub returns-in_err-open_table-clause-faults : goal.returns-in_err-open_table-clause-faults
 returns-in_err-open_table-clause-faults g c =
     let p = err_from_is_err_and c.from_residual-in_err-open_table.result c.from_residual-in_err-open_table.ensures.1 in
-    rw (p.1, p.2) (subst (λ before. FaultsAt c.in_err-open_table.field-0.0 before (g.F.Files.failed c.open_table.new.files)) c.loop-entry.invariant.no_fault c.in_err-open_table.ensures.faults)
+    rw (p.1, p.2) (subst (λ before. FaultsAt c.in_err-open_table.field-0.0 before
+    (g.F.Files.failed c.open_table.new.files)) c.loop-entry.invariant.no_fault c.in_err-open_table.ensures.faults)
 
 pub returns-in_err-open_table-clause-kept : goal.returns-in_err-open_table-clause-kept
 returns-in_err-open_table-clause-kept g c = λ any. c.open_table.ensures.kept any ∙ c.loop-entry.invariant.kept any
@@ -31,7 +32,8 @@ returns-in_err-open_table-clause-err g c =
         loaded = c.loop-entry.tables.items;
         tables = c.loop-entry.invariant.tables;
       },
-      subst (λ content. IsEntryRefused (possible content) c.in-Some.entry c.in_err-open_table.field-0.0) (same_content _ _ c.loop-entry.invariant.kept) c.in_err-open_table.ensures.err,
+      subst (λ content. IsEntryRefused (possible content) c.in-Some.entry c.in_err-open_table.field-0.0)
+          (same_content _ _ c.loop-entry.invariant.kept) c.in_err-open_table.ensures.err,
     ))
 
 pub loop-entry-preserved : goal.loop-entry-preserved
@@ -39,17 +41,20 @@ loop-entry-preserved g c =
     let rest = into_iter_items c.next.new.self in
     let step : into_iter_items c.loop-entry.entry-iterator ≡ c.in-Some.entry ∷ rest = c.in-Some.ensures.steps.0 in
     let items : c.push.new.self.items ≡ c.loop-entry.tables.items ++ c.in_ok-open_table.field-0 ∷ [] = c.in_ok-push.ensures.items in
-    let one = subst (λ content. HoldsTable (possible content) c.in-Some.entry c.in_ok-open_table.field-0) (same_content _ _ c.loop-entry.invariant.kept) c.in_ok-open_table.ensures.ok in
+    let one = subst (λ content. HoldsTable (possible content) c.in-Some.entry c.in_ok-open_table.field-0)
+    (same_content _ _ c.loop-entry.invariant.kept) c.in_ok-open_table.ensures.ok in
     record {
       kept = λ any. c.open_table.ensures.kept any ∙ c.loop-entry.invariant.kept any;
       no_fault = c.in_ok-open_table.ensures.no_fault ∙ c.loop-entry.invariant.no_fault;
       split = c.loop-entry.invariant.split ∙ ap (λ v. c.loop-entry.yielded ++ v) step ∙ sym (append_assoc c.loop-entry.yielded (c.in-Some.entry ∷ []) rest);
-      tables = rw items (HoldTables-push _ c.loop-entry.yielded c.in-Some.entry c.loop-entry.tables.items c.in_ok-open_table.field-0 c.loop-entry.invariant.tables one);
+      tables = rw items
+          (HoldTables-push _ c.loop-entry.yielded c.in-Some.entry c.loop-entry.tables.items c.in_ok-open_table.field-0 c.loop-entry.invariant.tables one);
     }
 
 pub returns-clause-ok : goal.returns-clause-ok
 returns-clause-ok g c =
     let left = into_iter_items c.loop-entry.entry-iterator in
     let none : left ≡ [] = nil_from_length left (omega (arith, c.in-None.ensures.steps.0, c.loop-entry.entry-iterator.rest.ok.0)) in
-    let all : c.args.entries ≡ c.loop-entry.yielded = c.loop-entry.invariant.split ∙ ap (λ v. c.loop-entry.yielded ++ v) none ∙ append-nil c.loop-entry.yielded in
+    let all : c.args.entries ≡ c.loop-entry.yielded = c.loop-entry.invariant.split ∙ ap (λ v. c.loop-entry.yielded ++ v) none
+    ∙ append-nil c.loop-entry.yielded in
     subst (λ entries. HoldTables (possible (g.F.Files.content c.args.files.now)) entries c.loop-entry.tables.items) (sym all) c.loop-entry.invariant.tables

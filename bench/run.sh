@@ -1,7 +1,8 @@
 #!/bin/sh
-# Times `sched_tool check`, which here mostly loads a table, against the plain loader of load.cpp: every program runs once on
-# every input in each round. It prints the medians of the CPU seconds, user and system, with their ratio, and the greatest
-# memory. It is no test. It needs a C++ compiler and /usr/bin/time, and a machine that is otherwise idle.
+# Times `sched_tool check`, which here mostly loads a table, against the plain loader of load.cpp. In
+# each round every program runs once on every input. It prints the medians of the CPU seconds, user
+# and system, with their ratio, and the greatest memory. It is no test. It needs a C++ compiler and
+# /usr/bin/time, and a machine that is otherwise idle.
 #
 #   bench/run.sh [ROUNDS]        15 rounds by default
 
@@ -9,7 +10,6 @@ set -eu
 export LC_ALL=C
 rounds=${1:-15}
 here=$(CDPATH='' cd -- "$(dirname -- "$0")" && pwd)
-program=$here/../crates/sched_tool/out/sched_tool
 work=$(mktemp -d)
 trap 'rm -rf "$work"' EXIT
 
@@ -49,7 +49,12 @@ median() {
 }
 
 "${CXX:-c++}" -O2 -std=c++17 -o "$work/load" "$here/load.cpp"
-"$here/../sched_tool" >/dev/null || [ -x "$program" ]
+
+# The launcher proves and builds the program if that is not done yet. Without words the program ends with 2.
+status=0
+"$here/../sched_tool" >/dev/null || status=$?
+[ "$status" -eq 2 ]
+program=$(ls -t "$here"/../out/sched_tool-* | head -n 1)
 
 inputs='1048576x3 1048576x8'
 for input in $inputs; do

@@ -20,7 +20,6 @@ use std::process::{ExitCode, Termination};
 
 /// The end of the program. `main` answers one and can't make one, so the process ends with the status that
 /// `run_program` answered.
-#[derive(Drop)]
 pub struct Ended {
     status: u8,
 }
@@ -29,7 +28,8 @@ impl Termination for Ended {
     fn report<R: Eprint>(self, _rt: &R) -> ExitCode
         ensures { exit_status result ≡ end_status self }
     {
-        ExitCode::from(self.status)
+        let Ended { status: code } = self;
+        ExitCode::from(code)
     }
 }
 

@@ -107,6 +107,11 @@ fn answers_rows_and_totals(rt: HostRuntime) -> Result<(), Fail> {
             "v\n\"3\"\n-1\n",
             "query 0 lines 1\ntotal 2\nquery 1 lines 2\nrow -1\nrow 3\nend\n",
         ),
+        (
+            r#"{"scan":"t","joins":[{"table":"t","left":"v","right":"v"}],"output":{"totals":[{"fn":"count"}]}}"#,
+            "v\n1\n1\n1\n",
+            "query 0 lines 1\ntotal 9\nend\n",
+        ),
     ];
     for (query, table, text) in cases {
         let script = script_of(rt.alloc(), query)?;
@@ -127,6 +132,10 @@ fn refuses_scripts(rt: HostRuntime) -> Result<(), Fail> {
             "unknown key in $",
         ),
         ("[]", "wrong shape $"),
+        (
+            r#"{"version":1,"tables":[1,2,3,4,5,6,7,8,9],"queries":[]}"#,
+            "too many $.tables",
+        ),
     ];
     for (script, cause) in cases {
         let text = format!(in rt.alloc(); "error: script: {cause}\n")?;
@@ -143,6 +152,10 @@ fn refuses_queries(rt: HostRuntime) -> Result<(), Fail> {
         (
             r#"{"scan":"t","where":[{"col":"k","op":"~","value":1}],"output":{"rows":["k"]}}"#,
             "bad text $.queries[0].where[0].op",
+        ),
+        (
+            r#"{"scan":"t","after":16385,"output":{"rows":["k"]}}"#,
+            "wrong number $.queries[0].after",
         ),
         (
             r#"{"scan":"t","output":{"totals":[{"fn":"sum","col":"z"}]}}"#,
@@ -334,6 +347,24 @@ fn refuses_files_past_the_limit(rt: HostRuntime) -> Result<(), Fail> {
     let table = padded(rt.alloc(), TABLE, b'\n', 67_108_865)?;
     let (status, written) = check(rt.alloc(), SCRIPT.as_bytes(), table.as_slice())?;
     assert_eq!(rt; written.as_str(), "error: table t.csv: too long\n");
+    assert_eq!(rt; status, 6);
+    Ok(())
+}
+
+// A table of one column and so many rows.
+fn rows(alloc: Global, count: usize) -> Result<String, AllocError> {
+    let mut text = String::from_str(alloc, "v\n")?;
+    for _ in 0..count {
+        text.push_str("1\n")?;
+    }
+    Ok(text)
+}
+
+#[test]
+fn refuses_a_row_too_many(rt: HostRuntime) -> Result<(), Fail> {
+    let table = rows(rt.alloc(), 1_048_577)?;
+    let (status, written) = check(rt.alloc(), SCRIPT.as_bytes(), table.as_bytes())?;
+    assert_eq!(rt; written.as_str(), "error: table t.csv: too many rows\n");
     assert_eq!(rt; status, 6);
     Ok(())
 }

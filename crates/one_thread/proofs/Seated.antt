@@ -6,7 +6,7 @@ use mathlib.Core.Logic.{∥∥₁_map}
 use Rattle.slot_history.specs.declared.shape.Shape.{Shape}
 use Rattle.slot_history.specs.declared.shape.TheConstants.{MOST_SLOTS, MOST_WORKERS}
 use Rattle.slot_history.specs.declared.act.Act.{Act}
-use Rattle.slot_history.specs.declared.act.Act.TheVariants.{Install, Release, Tell}
+use Rattle.slot_history.specs.declared.act.Act.TheVariants.{Install, Release, Announce}
 use Rattle.slot_history.specs.declared.act.Entry.{Entry}
 use Rattle.slot_history.specs.declared.place.Place.{Place}
 use Rattle.slot_history.specs.declared.place.Place.TheVariants.{Free, Announcing}
@@ -362,7 +362,7 @@ none-of l all i x is = sym (get_or_from_slice_get l i x x is) ∙ all i x (slice
 
 -- an announcer that told every worker
 pub tell-done : {O Sub : Type 0} (o : O) (D : Desk Sub) (log : List Logged) (x : Announcer) → let d = D.shape in let w = D.worker in let h = calls_of log in
-    IsAnnouncer d w (own_place (seen_by o D log)) x → x.told + 1 ≡ d.workers → IsDone (seen_by o D (call w Tell ∷ log)) (record x { told = x.told + 1 })
+    IsAnnouncer d w (own_place (seen_by o D log)) x → x.told + 1 ≡ d.workers → IsDone (seen_by o D (call w Announce ∷ log)) (record x { told = x.told + 1 })
 tell-done o D log x ok all =
     let d = D.shape in
     let w = D.worker in
@@ -371,14 +371,14 @@ tell-done o D log x ok all =
       worker = ok.worker;
       workers = ok.workers;
       told = all;
-      free = place-trail d w (entry w Tell ∷ h) ∙ place-mine d (entry w Tell) h w refl ∙ ap (moved d Tell) at
+      free = place-trail d w (entry w Announce ∷ h) ∙ place-mine d (entry w Announce) h w refl ∙ ap (moved d Announce) at
           ∙ ap (λ b. cond b Free (Announcing x.slot x.again (x.told + 1))) (eq-eqb (x.told + 1) d.workers all);
-      opened = ap (last_opened d w) (trail-call w Tell h)
+      opened = ap (last_opened d w) (trail-call w Announce h)
           ∙ ap (λ b. cond (b && false) (Some (slot_of (place_of d h w), (held_at (place_of d h w)).again)) (last_opened d w h)) (eq-eqb w w refl)
           ∙ announcer-opened d w x.slot x.again h x.told at;
     }
 
-pub seat-done : {O B Sub : Type 0} {o : O} {b : Ghosts B Sub} (s : Seat b) {new : Story} → MakesCall (object s) (worker s) Tell new → (x : Announcer)
+pub seat-done : {O B Sub : Type 0} {o : O} {b : Ghosts B Sub} (s : Seat b) {new : Story} → MakesCall (object s) (worker s) Announce new → (x : Announcer)
     → IsAnnouncer (start s).shape (worker s) (place s) x → x.told + 1 ≡ (start s).shape.workers
     → IsDone (seen_by o (desk s) new.log) (record x { told = x.told + 1 })
 seat-done {o = o} s m x ok all = subst (λ l. IsDone (seen_by o (desk s) l) (record x { told = x.told + 1 })) (sym (grows s m))

@@ -1,8 +1,8 @@
 //! What makes the steps of calls on one thread.
 use slot_history::place::Place;
 use slot_history::shape::Shape;
+use slot_station::ghost_list::GhostList;
 use slot_station::log::{Exchange, Logged};
-use slot_station::notes::Notes;
 use slot_station::reply::{Admit, Claim, Leave, Look, Mark, Pay, Reserve, Shut, Sweep};
 use slot_station::token::Announcer;
 use std::alloc::{AllocError, Global};
@@ -14,7 +14,7 @@ use std::alloc::{AllocError, Global};
 pub trait SlotObject: Drop {
     ghost use Rattle.std.specs.Prelude.{◌≡◌, ℕ, ◌+◌, ◌<◌, ◌≤◌, ◌⊎◌, Bool, true, [], ◌∷◌, None, IsSome, IfOk};
     ghost use Rattle.slot_history.specs.declared.shape.TheConstants.{STAGES, PARTS, MOST_CLAIM, MOST_TOTAL};
-    ghost use Rattle.slot_history.specs.declared.act.Act.TheVariants.{Enter, Arrivals, Finished, Note as NoteDone, Total, Install, Release, Tell, TakeReturn, TakeChange};
+    ghost use Rattle.slot_history.specs.declared.act.Act.TheVariants.{Enter, Arrivals, Finished, NoteDone, SetTotal, Install, Release, Announce, TakeReturn, TakeChange};
     ghost use Rattle.slot_history.specs.declared.place.Held.{Held};
     ghost use Rattle.slot_history.specs.declared.place.Place.TheVariants.{Free, Entered, Inside, Used, Asking, Owing, Holding, Announcing};
     ghost use Rattle.slot_history.specs.States.{can_leave, next_id};
@@ -48,7 +48,7 @@ pub trait SlotObject: Drop {
         ensures { result ≡ place_in (story self.now) worker };
 
     /// The log, when the object ends.
-    fn into_log(self) -> Notes<Logged>
+    fn into_log(self) -> GhostList<Logged>
         ensures { result ≡ (story self).log };
 
     /// A worker exchanged a cell, its own or another's, and has this note of it now.
@@ -155,7 +155,7 @@ pub trait SlotObject: Drop {
         requires place { (s : ℕ) × (h : Held) × (place_in (story self.old) worker ≡ Holding s h)
             × IsSome h.query }
         requires number { total ≤ MOST_TOTAL }
-        ensures { MakesCall (story self.old) worker (Total total) (story self.new) };
+        ensures { MakesCall (story self.old) worker (SetTotal total) (story self.new) };
 
     /// The worker opens the slot that it holds.
     fn install(&mut self, worker: u32, id: u32) -> Announcer
@@ -177,7 +177,7 @@ pub trait SlotObject: Drop {
         requires worker { worker < (story self.old).shape.workers }
         requires place { (s : ℕ) × (again : Bool) × (told : ℕ)
             × (place_in (story self.old) worker ≡ Announcing s again told) }
-        ensures made { MakesCall (story self.old) worker Tell (story self.new) }
+        ensures made { MakesCall (story self.old) worker Announce (story self.new) }
         ensures counted { IsCounted (place_in (story self.old) worker) };
 
     /// The worker takes its return notices of a part.

@@ -4,7 +4,7 @@ use mathlib.Core.Bool.{true≢false}
 use Rattle.slot_history.specs.declared.shape.Shape.{Shape}
 use Rattle.slot_history.specs.declared.shape.TheConstants.{STAGES, MOST_CLAIM, MOST_TOTAL}
 use Rattle.slot_history.specs.declared.act.Act.{Act}
-use Rattle.slot_history.specs.declared.act.Act.TheVariants.{Total, Note as NoteDone, AdmitGot, AdmitLost}
+use Rattle.slot_history.specs.declared.act.Act.TheVariants.{SetTotal, NoteDone, AdmitGot, AdmitLost}
 use Rattle.slot_history.specs.declared.place.Place.{Place}
 use Rattle.slot_history.specs.declared.place.Held.{Held}
 use Rattle.slot_history.specs.declared.place.Place.TheVariants.{Free, Entered, Inside as At, Used, Owing, Holding}
@@ -291,14 +291,14 @@ held-shown a (Finishing id u h) = refl
 
 pub total-after : (o : Inside) (ok : Kept o) (w : ℕ) → w < o.shape.workers → (t : ℕ)
     → ((s : ℕ) × (h : Held) × ((now_of o).places w ≡ Holding s h) × IsSome h.query) → t ≤ MOST_TOTAL → (places : List Place) (log : List Logged)
-    → Wrote o w (Total t) places log
+    → Wrote o w (SetTotal t) places log
     → IsObject o.shape o.slots.items o.owing.items places o.returns.items o.changes.items o.admitted o.finished log
 total-after o ok w low t at most places log wrote =
     let S = now_of o in let k = slot_of (S.places w) in
-    writes o ok w low (Total t) (Total t) refl (at.0, at.1, at.2, at.3, most) places log wrote
+    writes o ok w low (SetTotal t) (SetTotal t) refl (at.0, at.1, at.2, at.3, most) places log wrote
     (λ v p f. refl, λ v p f. refl, λ n. refl, λ n. refl) k refl o.slots.items o.owing.items (
-      slots-kept o.shape o.slots.items S.slots k (held_on (Total t) (S.slots k)) ok.slots_are (held-shown (Total t) (S.slots k)),
-      debts-kept o.shape o.owing.items S.slots k (held_on (Total t) (S.slots k)) ok.debts_are (λ v h. owes-held (Total t) (S.slots k) v),
+      slots-kept o.shape o.slots.items S.slots k (held_on (SetTotal t) (S.slots k)) ok.slots_are (held-shown (SetTotal t) (S.slots k)),
+      debts-kept o.shape o.owing.items S.slots k (held_on (SetTotal t) (S.slots k)) ok.debts_are (λ v h. owes-held (SetTotal t) (S.slots k) v),
     )
 
 pub note-after : (o : Inside) (ok : Kept o) (w : ℕ) → w < o.shape.workers → (n : ℕ)

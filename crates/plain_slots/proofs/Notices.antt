@@ -2,7 +2,7 @@
 use Rattle.std.proofs.Common.{◌≡◌, ℕ, ◌+◌, ◌*◌, ◌/◌, ◌%◌, ◌^◌, ◌<◌, Bool, true, false, List, length, set, get_or, slice_set, slice_index, bit_or, refl, sym, ap, ◌∙◌, subst, arith}
 use Rattle.std.proofs.lemmas.Grind.{get_or_default_zero}
 use Rattle.slot_history.specs.declared.shape.TheConstants.{PARTS, MOST_SLOTS, MOST_WORKERS}
-use Rattle.slot_history.specs.declared.act.Act.TheVariants.{Tell, TakeReturn, TakeChange}
+use Rattle.slot_history.specs.declared.act.Act.TheVariants.{Announce, TakeReturn, TakeChange}
 use Rattle.slot_history.specs.declared.place.Place.{Place}
 use Rattle.slot_history.specs.declared.place.Place.TheVariants.{Announcing}
 use Rattle.slot_history.specs.Sets.{upd}
@@ -96,7 +96,7 @@ announce-with : (o : Inside) (ok : Kept o) (w : ℕ) (low : w < o.shape.workers)
     → ((s k : ℕ) → p ≡ Announcing s false k → (returns ≡ o.returns.items)
     × (changes ≡ slice_set o.changes.items (k * PARTS + s / 64)
     (bit_or (slice_index o.changes.items (k * PARTS + s / 64)) (1 * 2 ^ (s % 64) % 2 ^ 64))))
-    → (places : List Place) (log : List Logged) → Wrote o w Tell places log
+    → (places : List Place) (log : List Logged) → Wrote o w Announce places log
     → IsObject o.shape o.slots.items o.owing.items places returns changes o.admitted o.finished log
 announce-with o ok w low p s k true at is returns changes then_ else_ places log wrote =
     let S = now_of o in let j = slot_of (S.places w) in
@@ -104,7 +104,7 @@ announce-with o ok w low p s k true at is returns changes then_ else_ places log
     let r = within-at o ok w s k true there in
     let part : s / 64 < PARTS = let a = r.0 in let b = ok.shape.slots.1 in omega arith in
     let e = then_ s k at in
-    follow o ok w low Tell Tell refl (s, true, k, there) places log wrote o.slots.items o.owing.items returns changes o.admitted o.finished (
+    follow o ok w low Announce Announce refl (s, true, k, there) places log wrote o.slots.items o.owing.items returns changes o.admitted o.finished (
       slots-kept o.shape o.slots.items S.slots j (S.slots j) ok.slots_are refl,
       debts-kept o.shape o.owing.items S.slots j (S.slots j) ok.debts_are (λ v h. refl),
       subst (λ q. HasMasks o.shape (told true q S.returns) returns) (sym there)
@@ -120,7 +120,7 @@ announce-with o ok w low p s k false at is returns changes then_ else_ places lo
     let r = within-at o ok w s k false there in
     let part : s / 64 < PARTS = let a = r.0 in let b = ok.shape.slots.1 in omega arith in
     let e = else_ s k at in
-    follow o ok w low Tell Tell refl (s, false, k, there) places log wrote o.slots.items o.owing.items returns changes o.admitted o.finished (
+    follow o ok w low Announce Announce refl (s, false, k, there) places log wrote o.slots.items o.owing.items returns changes o.admitted o.finished (
       slots-kept o.shape o.slots.items S.slots j (S.slots j) ok.slots_are refl,
       debts-kept o.shape o.owing.items S.slots j (S.slots j) ok.debts_are (λ v h. refl),
       subst (λ q. HasMasks o.shape (told true q S.returns) returns) (sym there) (subst (HasMasks o.shape S.returns) (sym e.0) ok.returns_are),
@@ -138,7 +138,7 @@ pub announce-after : (o : Inside) (ok : Kept o) (w : ℕ) (low : w < o.shape.wor
     → ((s k : ℕ) → p ≡ Announcing s false k → (returns ≡ o.returns.items)
     × (changes ≡ slice_set o.changes.items (k * PARTS + s / 64)
     (bit_or (slice_index o.changes.items (k * PARTS + s / 64)) (1 * 2 ^ (s % 64) % 2 ^ 64))))
-    → (places : List Place) (log : List Logged) → Wrote o w Tell places log
+    → (places : List Place) (log : List Logged) → Wrote o w Announce places log
     → IsObject o.shape o.slots.items o.owing.items places returns changes o.admitted o.finished log
 announce-after o ok w low p at returns changes then_ else_ places log wrote = announce-with o ok w low p at.0 at.2 at.1 at.3 at.4 returns changes then_
     else_ places log wrote

@@ -19,9 +19,9 @@ use slot_history::act::{Act, Entry};
 use slot_history::place::Place;
 use slot_history::shape::Shape;
 use slot_station::answers::{cell_index, finaliser, mask_index};
+use slot_station::ghost_list::GhostList;
 use slot_station::log::Logged;
 use slot_station::moves::place_after;
-use slot_station::notes::Notes;
 use slot_station::reply::{Admit, Mark, Pay, Reserve, Sweep};
 use slot_station::token::Holder;
 
@@ -29,7 +29,7 @@ use slot_station::token::Holder;
 pub(crate) fn step(
     shape: &Shape,
     places: &mut Vec<Place>,
-    log: &mut Notes<Logged>,
+    log: &mut GhostList<Logged>,
     worker: u32,
     act: &Act,
 )
@@ -40,7 +40,7 @@ pub(crate) fn step(
 {
     let place = &mut places[worker as usize];
     *place = place_after(shape, act, *place);
-    log.note(&Logged::Call(Entry { worker, act: *act }));
+    log.push(&Logged::Call(Entry { worker, act: *act }));
 }
 
 /// Marks a worker that is at the slot.

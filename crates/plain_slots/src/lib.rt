@@ -37,7 +37,7 @@ pub use one_thread::{OneSeat, OneTable, SlotObject, seat};
 pub use slot_history::{act, laws, place, shape};
 pub use slot_station::{
     Admit, Announcer, Claim, Coordinator, Debt, Fits, History, Holder, Leave, Look, MakeRefusal,
-    Mark, Memo, Note, Pay, Reserve, Shut, Spent, Station, StepWork, Steps, Sweep, log, note, notes,
-    reply, run_uncounted, station, steps, token,
+    Mark, Memo, Note, Pay, Reserve, Shut, Spent, Station, StepWork, Steps, Sweep, ghost_list, log,
+    note, reply, run_uncounted, station, steps, token,
 };
 pub use table::{PlainSeat, PlainTable};

@@ -6,9 +6,9 @@ use slot_history::act::Act;
 use slot_history::place::Place;
 use slot_history::shape::{PARTS, Shape};
 use slot_station::answers::{cell_index, claimed_by, left_by, mask_index, next_to_ask, shut_by};
+use slot_station::ghost_list::GhostList;
 use slot_station::log::{Exchange, Logged};
 use slot_station::moves::{held_at, is_at, slot_at};
-use slot_station::notes::Notes;
 use slot_station::reply::{Admit, Claim, Leave, Look, Mark, Pay, Reserve, Shut, Sweep};
 use slot_station::token::Announcer;
 use std::alloc::{AllocError, Global};
@@ -29,7 +29,7 @@ pub struct PlainObject {
     changes: Vec<u64>,
     admitted: u32,
     finished: u32,
-    log: Notes<Logged>,
+    log: GhostList<Logged>,
 }
 
 impl Model for PlainObject {
@@ -58,7 +58,7 @@ impl SlotObject for PlainObject {
             changes: vec![in alloc; 0; workers * PARTS as usize]?,
             admitted: 0,
             finished: 0,
-            log: Notes::new(alloc)?,
+            log: GhostList::new(alloc)?,
         })
     }
 
@@ -70,7 +70,7 @@ impl SlotObject for PlainObject {
         self.places[worker as usize]
     }
 
-    fn into_log(self) -> Notes<Logged> {
+    fn into_log(self) -> GhostList<Logged> {
         let PlainObject {
             shape: _,
             slots: _,
@@ -86,7 +86,7 @@ impl SlotObject for PlainObject {
     }
 
     fn exchanged(&mut self, exchange: Exchange) {
-        self.log.note(&Logged::Exchanged(exchange));
+        self.log.push(&Logged::Exchanged(exchange));
     }
 
     fn enter(&mut self, worker: u32, s: u32) {
@@ -257,7 +257,7 @@ impl SlotObject for PlainObject {
             &mut self.places,
             &mut self.log,
             worker,
-            &Act::Note(k),
+            &Act::NoteDone(k),
         );
     }
 
@@ -267,7 +267,7 @@ impl SlotObject for PlainObject {
             &mut self.places,
             &mut self.log,
             worker,
-            &Act::Total(total),
+            &Act::SetTotal(total),
         );
     }
 
@@ -315,7 +315,7 @@ impl SlotObject for PlainObject {
             &mut self.places,
             &mut self.log,
             worker,
-            &Act::Tell,
+            &Act::Announce,
         );
     }
 

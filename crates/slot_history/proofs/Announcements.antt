@@ -6,7 +6,7 @@ use native.Mathlib.Decide.{ℕ_discrete}
 use Rattle.std.proofs.lemmas.Bool.{cond_both, and_from}
 use Rattle.slot_history.specs.declared.shape.Shape.{Shape}
 use Rattle.slot_history.specs.declared.act.Act.{Act}
-use Rattle.slot_history.specs.declared.act.Act.TheVariants.{ClaimRange, LeaveLeft, LeaveOwe, ReserveTaken, AdmitLost, Arrivals, Finished, Tell, TakeReturn, TakeChange}
+use Rattle.slot_history.specs.declared.act.Act.TheVariants.{ClaimRange, LeaveLeft, LeaveOwe, ReserveTaken, AdmitLost, Arrivals, Finished, Announce, TakeReturn, TakeChange}
 use Rattle.slot_history.specs.declared.place.Place.{Place}
 use Rattle.slot_history.specs.declared.place.Place.TheVariants.{Free, Announcing}
 use Rattle.slot_history.specs.Sets.{upd}
@@ -18,7 +18,7 @@ use Rattle.slot_history.proofs.Sets.{upd-same, upd-else, upd-cases}
 
 -- a worker that announces goes on with it, or makes a call that leaves its place as it is
 announcing-stays : (d : Shape) (S : ObjectState) (w : ℕ) (a : Act) (s : ℕ) (again : Bool) (k : ℕ) → IsAllowed d S w a → S.places w ≡ Announcing s again k
-    → (a ≡ Tell) ⊎ (moved d a (S.places w) ≡ S.places w)
+    → (a ≡ Announce) ⊎ (moved d a (S.places w) ≡ S.places w)
 announcing-stays d S w (ClaimRange n from to) s again k fine at = inr refl
 announcing-stays d S w LeaveLeft s again k fine at = absurd (true≢false (sym fine.0 ∙ ap can_leave at))
 announcing-stays d S w (LeaveOwe id) s again k fine at = absurd (true≢false (sym fine.0 ∙ ap can_leave at))
@@ -26,7 +26,7 @@ announcing-stays d S w (ReserveTaken t word) s again k fine at = inr refl
 announcing-stays d S w (AdmitLost q now) s again k fine at = inr refl
 announcing-stays d S w (Arrivals n) s again k fine at = inr refl
 announcing-stays d S w (Finished n) s again k fine at = inr refl
-announcing-stays d S w Tell s again k fine at = inl refl
+announcing-stays d S w Announce s again k fine at = inl refl
 announcing-stays d S w (TakeReturn part bits) s again k fine at = inr refl
 announcing-stays d S w (TakeChange part bits) s again k fine at = inr refl
 announcing-stays d S w _ s again k fine at = absurd (cc)
@@ -36,15 +36,15 @@ abbrev Comes : Bool → ObjectState → ℕ → ℕ → Type 0
 Comes again S s v = (notices_of again S v s ≡ true) ⊎ IsUntold S again s v
 
 -- the notice that an announcer tells is pending for the worker that it tells
-told-pending : (again : Bool) (S : ObjectState) (d : Shape) (w s k : ℕ) → notices_of again (next_at d S w Tell (Announcing s again k)) k s ≡ true
+told-pending : (again : Bool) (S : ObjectState) (d : Shape) (w s k : ℕ) → notices_of again (next_at d S w Announce (Announcing s again k)) k s ≡ true
 told-pending true S d w s k = ap (λ f. f s) (upd-same S.returns k _) ∙ upd-same (S.returns k) s true
 told-pending false S d w s k = ap (λ f. f s) (upd-same S.changes k _) ∙ upd-same (S.changes k) s true
 
 -- who tells one more worker goes on to the others
 tells-on : (d : Shape) (S : ObjectState) (w s : ℕ) (again : Bool) (k v : ℕ) → v < d.workers → k ≤ v
-    → Comes again (next_at d S w Tell (Announcing s again k)) s v
+    → Comes again (next_at d S w Announce (Announcing s again k)) s v
 tells-on d S w s again k v lt le = dite (ℕ_discrete v k)
-    (λ e. inl (subst (λ j. notices_of again (next_at d S w Tell (Announcing s again k)) j s ≡ true) (sym e) (told-pending again S d w s k)))
+    (λ e. inl (subst (λ j. notices_of again (next_at d S w Announce (Announcing s again k)) j s ≡ true) (sym e) (told-pending again S d w s k)))
     (λ n. let more : k + 1 ≢ d.workers = omega arith in
     inr (w, k + 1, upd-same S.places w _ ∙ ap (λ b. cond b Free (Announcing s again (k + 1))) (ne_eqb (k + 1) d.workers more), omega arith))
 
@@ -55,7 +55,7 @@ untold-next d S w a again s v fine lt (u, k, at, le) = dite (ℕ_discrete u w)
     (λ e. let here : S.places w ≡ Announcing s again k = ap S.places (sym e) ∙ at in
     ⊎_elim
     (λ tells. subst (λ b. Comes again (next d S w b) s v) (sym tells) (subst
-    (λ p. Comes again (next_at d S w Tell p) s v) (sym here) (tells-on d S w s again k v lt le)))
+    (λ p. Comes again (next_at d S w Announce p) s v) (sym here) (tells-on d S w s again k v lt le)))
     (λ stays. inr (w, k, upd-same S.places w _ ∙ stays ∙ here, le))
     (announcing-stays d S w a s again k fine here))
     (λ n. inr (u, k, upd-else S.places w _ u n ∙ at, le))
@@ -110,8 +110,8 @@ take-next again f R w part s v h = dite (ℕ_discrete v w)
 -- a pending notice stays so, or the worker takes it
 pub notice-next : (again : Bool) (d : Shape) (S : ObjectState) (w : ℕ) (a : Act) (s v : ℕ) → notices_of again S v s ≡ true
     → (notices_of again (next d S w a) v s ≡ true) ⊎ IsJoined again ((next d S w a).records v s)
-notice-next true d S w Tell s v h = inl (told-keeps true (S.places w) S.returns v s h)
-notice-next false d S w Tell s v h = inl (told-keeps false (S.places w) S.changes v s h)
+notice-next true d S w Announce s v h = inl (told-keeps true (S.places w) S.returns v s h)
+notice-next false d S w Announce s v h = inl (told-keeps false (S.places w) S.changes v s h)
 notice-next true d S w (TakeReturn part bits) s v h = take-next true S.returns S.records w part s v h
 notice-next false d S w (TakeChange part bits) s v h = take-next false S.changes S.records w part s v h
 notice-next true d S w _ s v h = inl h

@@ -5,7 +5,7 @@ use Rattle.std.specs.Prelude.{unwrap_or}
 use Rattle.slot_history.specs.declared.shape.Shape.{Shape}
 use Rattle.slot_history.specs.declared.shape.TheConstants.{STAGES}
 use Rattle.slot_history.specs.declared.act.Act.{Act}
-use Rattle.slot_history.specs.declared.act.Act.TheVariants.{Enter, ClaimRange, ClaimUsed, ShutWon, PayLast, PayDone, MarkMarked, MarkMissed, SweepLast, SweepOthers, ReserveGot, ReserveTaken, AdmitGot, Note, Total, Install, Release}
+use Rattle.slot_history.specs.declared.act.Act.TheVariants.{Enter, ClaimRange, ClaimUsed, ShutWon, PayLast, PayDone, MarkMarked, MarkMissed, SweepLast, SweepOthers, ReserveGot, ReserveTaken, AdmitGot, NoteDone, SetTotal, Install, Release}
 use Rattle.slot_history.specs.declared.act.Entry.{Entry}
 use Rattle.slot_history.specs.declared.place.Held.{Held}
 use Rattle.slot_history.specs.declared.place.Place.{Place}
@@ -123,10 +123,10 @@ book-next d S w MarkMissed B same low tab sound ok book = book-alike B S.slots (
 book-next d S w (SweepOthers n) B same low tab sound ok book = book-alike B S.slots (slot_of (S.places w)) _ (alike-ended d w (SweepOthers n) _) book
 book-next d S w (ReserveGot s) B same low tab sound ok book = book-alike B S.slots s _ (alike-reserved (S.slots s) w ok.2) book
 book-next d S w (AdmitGot q) B same low tab sound ok book = next-admitted d S w q B same low tab sound ok book
-book-next d S w (Note k) B same low tab sound ok book =
-    book-alike B S.slots (slot_of (S.places w)) _ (alike-held (Note k) _ (λ h. refl)) book
-book-next d S w (Total t) B same low tab sound ok book =
-    book-alike B S.slots (slot_of (S.places w)) _ (alike-held (Total t) _ (λ h. refl)) book
+book-next d S w (NoteDone k) B same low tab sound ok book =
+    book-alike B S.slots (slot_of (S.places w)) _ (alike-held (NoteDone k) _ (λ h. refl)) book
+book-next d S w (SetTotal t) B same low tab sound ok book =
+    book-alike B S.slots (slot_of (S.places w)) _ (alike-held (SetTotal t) _ (λ h. refl)) book
 book-next d S w (Install id) B same low tab sound ok book = next-installed d S w id B low tab sound ok book
 book-next d S w Release B same low tab sound ok book = subst (Books d S w Release B) (sym ok.2)
     (book-alike B S.slots ok.0 Empty (alike-released (S.slots ok.0) w ok.1 (holder-slot d S tab w ok.0 ok.1 low ok.2)) book)

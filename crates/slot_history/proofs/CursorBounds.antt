@@ -5,7 +5,7 @@ use Rattle.std.proofs.lemmas.Bool.{cases_Bool, not-true}
 use Rattle.slot_history.specs.declared.shape.Shape.{Shape}
 use Rattle.slot_history.specs.declared.shape.TheConstants.{MOST_CLAIM}
 use Rattle.slot_history.specs.declared.act.Act.{Act}
-use Rattle.slot_history.specs.declared.act.Act.TheVariants.{Enter, LookOpen, LookInvalid, LookVacant, ClaimRange, ClaimUsed, ShutWon, ShutLost, LeaveLeft, LeaveOwe, PayLast, PayDone, MarkMarked, MarkMissed, SweepLast, SweepOthers, ReserveGot, AdmitGot, Note, Total, Install, Release, Tell}
+use Rattle.slot_history.specs.declared.act.Act.TheVariants.{Enter, LookOpen, LookInvalid, LookVacant, ClaimRange, ClaimUsed, ShutWon, ShutLost, LeaveLeft, LeaveOwe, PayLast, PayDone, MarkMarked, MarkMissed, SweepLast, SweepOthers, ReserveGot, AdmitGot, NoteDone, SetTotal, Install, Release, Announce}
 use Rattle.slot_history.specs.declared.place.Place.{Place}
 use Rattle.slot_history.specs.declared.place.Place.TheVariants.{Free, Inside, Used, Leading, Announcing}
 use Rattle.slot_history.specs.Sets.{upd, count_of}
@@ -52,11 +52,11 @@ used-stays d S w SweepLast s ok far open_ h = absurd (true≢false (sym h ∙ ap
 used-stays d S w (SweepOthers n) s ok far open_ h = absurd (true≢false (sym h ∙ ap (is_used_at s) ok.4))
 used-stays d S w (ReserveGot t) s ok far open_ h = absurd (true≢false (sym h ∙ ap (is_used_at s) ok.0))
 used-stays d S w (AdmitGot q) s ok far open_ h = absurd (true≢false (sym h ∙ ap (is_used_at s) ok.2))
-used-stays d S w (Note k) s ok far open_ h = absurd (true≢false (sym h ∙ ap (is_used_at s) ok.2))
-used-stays d S w (Total t) s ok far open_ h = absurd (true≢false (sym h ∙ ap (is_used_at s) ok.2))
+used-stays d S w (NoteDone k) s ok far open_ h = absurd (true≢false (sym h ∙ ap (is_used_at s) ok.2))
+used-stays d S w (SetTotal t) s ok far open_ h = absurd (true≢false (sym h ∙ ap (is_used_at s) ok.2))
 used-stays d S w (Install id) s ok far open_ h = absurd (true≢false (sym h ∙ ap (is_used_at s) ok.2))
 used-stays d S w Release s ok far open_ h = absurd (true≢false (sym h ∙ ap (is_used_at s) ok.2))
-used-stays d S w Tell s ok far open_ h = absurd (true≢false (sym h ∙ ap (is_used_at s) ok.3))
+used-stays d S w Announce s ok far open_ h = absurd (true≢false (sym h ∙ ap (is_used_at s) ok.3))
 used-stays d S w _ s ok far open_ h = h
 
 -- nobody begins to claim at a shut slot
@@ -80,11 +80,11 @@ claiming-was d S w SweepLast s ok shut_ h = absurd (cc)
 claiming-was d S w (SweepOthers n) s ok shut_ h = absurd (cc)
 claiming-was d S w (ReserveGot t) s ok shut_ h = absurd (cc)
 claiming-was d S w (AdmitGot q) s ok shut_ h = absurd (true≢false (sym h ∙ ap (λ p. is_claiming_at s (moved d (AdmitGot q) p)) ok.2))
-claiming-was d S w (Note k) s ok shut_ h = absurd (true≢false (sym h ∙ ap (λ p. is_claiming_at s (moved d (Note k) p)) ok.2))
-claiming-was d S w (Total t) s ok shut_ h = absurd (true≢false (sym h ∙ ap (λ p. is_claiming_at s (moved d (Total t) p)) ok.2))
+claiming-was d S w (NoteDone k) s ok shut_ h = absurd (true≢false (sym h ∙ ap (λ p. is_claiming_at s (moved d (NoteDone k) p)) ok.2))
+claiming-was d S w (SetTotal t) s ok shut_ h = absurd (true≢false (sym h ∙ ap (λ p. is_claiming_at s (moved d (SetTotal t) p)) ok.2))
 claiming-was d S w (Install id) s ok shut_ h = absurd (cc)
 claiming-was d S w Release s ok shut_ h = absurd (cc)
-claiming-was d S w Tell s ok shut_ h = absurd (told-not-claiming d ok.0 ok.1 ok.2 s (sym (ap (λ p. is_claiming_at s (moved d Tell p)) ok.3) ∙ h))
+claiming-was d S w Announce s ok shut_ h = absurd (told-not-claiming d ok.0 ok.1 ok.2 s (sym (ap (λ p. is_claiming_at s (moved d Announce p)) ok.3) ∙ h))
 claiming-was d S w _ s ok shut_ h = h
 
 -- a bound that other places keep
@@ -221,8 +221,8 @@ bound-after d g s w SweepLast x other h = bound-last d g s w x h
 bound-after d g s w (SweepOthers n) x other h = bound-ended d g s w (SweepOthers n) x h
 bound-after d g s w (ReserveGot t) x other h = tt
 bound-after d g s w (AdmitGot q) x other h = bound-held d g s (AdmitGot q) x h
-bound-after d g s w (Note k) x other h = bound-held d g s (Note k) x h
-bound-after d g s w (Total t) x other h = bound-held d g s (Total t) x h
+bound-after d g s w (NoteDone k) x other h = bound-held d g s (NoteDone k) x h
+bound-after d g s w (SetTotal t) x other h = bound-held d g s (SetTotal t) x h
 bound-after d g s w (Install id) x other h = bound-opened d g s id x h
 bound-after d g s w Release x other h = tt
 bound-after d g s w _ x other h = h

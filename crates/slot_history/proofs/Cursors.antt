@@ -4,7 +4,7 @@ use Rattle.std.proofs.Common.{◌≡◌, ◌≢◌, ℕ, ◌+◌, ◌*◌, ◌<�
 use Rattle.slot_history.specs.declared.shape.Shape.{Shape}
 use Rattle.slot_history.specs.declared.shape.TheConstants.{MOST_CLAIM}
 use Rattle.slot_history.specs.declared.act.Act.{Act}
-use Rattle.slot_history.specs.declared.act.Act.TheVariants.{Enter, LookOpen, LookInvalid, LookVacant, ClaimRange, ClaimUsed, ShutWon, ShutLost, LeaveLeft, LeaveOwe, PayLast, PayDone, MarkMarked, MarkMissed, SweepLast, SweepOthers, ReserveGot, AdmitGot, Note, Total, Install, Release, Tell}
+use Rattle.slot_history.specs.declared.act.Act.TheVariants.{Enter, LookOpen, LookInvalid, LookVacant, ClaimRange, ClaimUsed, ShutWon, ShutLost, LeaveLeft, LeaveOwe, PayLast, PayDone, MarkMarked, MarkMissed, SweepLast, SweepOthers, ReserveGot, AdmitGot, NoteDone, SetTotal, Install, Release, Announce}
 use Rattle.slot_history.specs.declared.act.Entry.{Entry}
 use Rattle.slot_history.specs.declared.place.Place.{Place}
 use Rattle.slot_history.specs.declared.place.Place.TheVariants.{Free, Used, Leading, Asking, Holding, Announcing}
@@ -51,11 +51,11 @@ became-used d S w (SweepOthers n) s id ok e = absurd (cc)
 became-used d S w (ReserveGot t) s id ok e = absurd (cc)
 became-used d S w (AdmitGot q) s id ok e = absurd (let r : Holding ok.0 (held_after (AdmitGot q) ok.1) ≡ Used s id = sym (ap (moved d (AdmitGot q)) ok.2)
     ∙ e in cc)
-became-used d S w (Note k) s id ok e = absurd (let r : Holding ok.0 (held_after (Note k) ok.1) ≡ Used s id = sym (ap (moved d (Note k)) ok.2) ∙ e in cc)
-became-used d S w (Total t) s id ok e = absurd (let r : Holding ok.0 (held_after (Total t) ok.1) ≡ Used s id = sym (ap (moved d (Total t)) ok.2) ∙ e in cc)
+became-used d S w (NoteDone k) s id ok e = absurd (let r : Holding ok.0 (held_after (NoteDone k) ok.1) ≡ Used s id = sym (ap (moved d (NoteDone k)) ok.2) ∙ e in cc)
+became-used d S w (SetTotal t) s id ok e = absurd (let r : Holding ok.0 (held_after (SetTotal t) ok.1) ≡ Used s id = sym (ap (moved d (SetTotal t)) ok.2) ∙ e in cc)
 became-used d S w (Install jd) s id ok e = absurd (cc)
 became-used d S w Release s id ok e = absurd (cc)
-became-used d S w Tell s id ok e = absurd (told-unused d ok.0 ok.1 ok.2 s id (sym (ap (moved d Tell) ok.3) ∙ e))
+became-used d S w Announce s id ok e = absurd (told-unused d ok.0 ok.1 ok.2 s id (sym (ap (moved d Announce) ok.3) ∙ e))
 became-used d S w _ s id ok e = inl e
 
 becomes-shut : (d : Shape) (w : ℕ) (a : Act) (x : SlotState) → is_shut (slot_after d w a x) ≡ true → (is_shut x ≡ true) ⊎ ((a ≡ ShutWon) × (is_open x ≡ true))

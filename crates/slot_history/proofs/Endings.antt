@@ -4,7 +4,7 @@ use mathlib.Core.Bool.{true≢false}
 use Rattle.std.proofs.lemmas.Bool.{and_parts}
 use Rattle.slot_history.specs.declared.shape.Shape.{Shape}
 use Rattle.slot_history.specs.declared.act.Act.{Act}
-use Rattle.slot_history.specs.declared.act.Act.TheVariants.{ClaimRange, ClaimUsed, ShutWon, PayLast, PayDone, MarkMarked, MarkMissed, SweepLast, SweepOthers, ReserveGot, AdmitGot, Note, Total, Install, Release}
+use Rattle.slot_history.specs.declared.act.Act.TheVariants.{ClaimRange, ClaimUsed, ShutWon, PayLast, PayDone, MarkMarked, MarkMissed, SweepLast, SweepOthers, ReserveGot, AdmitGot, NoteDone, SetTotal, Install, Release}
 use Rattle.slot_history.specs.declared.place.Place.{Place}
 use Rattle.slot_history.specs.declared.place.Place.TheVariants.{Asking}
 use Rattle.slot_history.specs.Sets.{upd}
@@ -126,8 +126,8 @@ chains d S w (SweepOthers n) low ok = subst (Chains d S w (SweepOthers n)) (sym 
     (λ c m. chain-swept d (S.slots ok.0) w ok.0 ok.1 ok.2 ok.3 n c m ok.5 ok.6 ok.7)
 chains d S w (ReserveGot s) low ok = λ c m. low
 chains d S w (AdmitGot q) low ok = λ c m. chain-held d _ (AdmitGot q) c
-chains d S w (Note k) low ok = λ c m. chain-held d _ (Note k) c
-chains d S w (Total t) low ok = λ c m. chain-held d _ (Total t) c
+chains d S w (NoteDone k) low ok = λ c m. chain-held d _ (NoteDone k) c
+chains d S w (SetTotal t) low ok = λ c m. chain-held d _ (SetTotal t) c
 chains d S w (Install id) low ok = λ c m. chain-opened d _ id c
 chains d S w Release low ok = λ c m. tt
 chains d S w _ low ok = λ c m. c

@@ -7,7 +7,7 @@ use Rattle.std.proofs.lemmas.Bool.{cond_both, false_from_ne_true}
 use Rattle.slot_history.specs.declared.shape.Shape.{Shape}
 use Rattle.slot_history.specs.declared.shape.TheConstants.{STAGES}
 use Rattle.slot_history.specs.declared.act.Act.{Act}
-use Rattle.slot_history.specs.declared.act.Act.TheVariants.{ClaimRange, LeaveLeft, PayLast, MarkMarked, MarkMissed, SweepLast, ReserveGot, ReserveTaken, AdmitGot, AdmitLost, Arrivals, Finished, Note, Total, Tell, TakeReturn, TakeChange}
+use Rattle.slot_history.specs.declared.act.Act.TheVariants.{ClaimRange, LeaveLeft, PayLast, MarkMarked, MarkMissed, SweepLast, ReserveGot, ReserveTaken, AdmitGot, AdmitLost, Arrivals, Finished, NoteDone, SetTotal, Announce, TakeReturn, TakeChange}
 use Rattle.slot_history.specs.declared.act.Entry.{Entry}
 use Rattle.slot_history.specs.declared.place.Held.{Held}
 use Rattle.slot_history.specs.declared.place.Place.{Place}
@@ -104,14 +104,14 @@ module _ (d : Shape) (w : ℕ) (es : List Entry) (legal : IsLegal d es) (low : w
   own-call (ReserveGot t) s k ok at again = absurd (let r : reservation ≡ k = ap held_at at in true≢false (sym again ∙ sym (ap (λ j. j.again) r)))
   own-call (AdmitGot q) s k ok at again = absurd (no-query ok.0 ok.1 ok.2 ok.3
       (ap (λ j. j.again) (ap held_at (sym (ap (moved d (AdmitGot q)) ok.2) ∙ at)) ∙ again))
-  own-call (Note n) s k ok at again = let is = ap held_at (sym (ap (moved d (Note n)) ok.2) ∙ at) in
+  own-call (NoteDone n) s k ok at again = let is = ap held_at (sym (ap (moved d (NoteDone n)) ok.2) ∙ at) in
       goes-on ok.0 ok.1 k ok.2 (ap (λ j. j.again) is) (ap finalised_id is) again
-  own-call (Total n) s k ok at again = let is = ap held_at (sym (ap (moved d (Total n)) ok.2) ∙ at) in
+  own-call (SetTotal n) s k ok at again = let is = ap held_at (sym (ap (moved d (SetTotal n)) ok.2) ∙ at) in
       goes-on ok.0 ok.1 k ok.2 (ap (λ j. j.again) is) (ap finalised_id is) again
   own-call LeaveLeft s k ok at again = absurd (left-not-holding p s k at)
   own-call MarkMarked s k ok at again = absurd (let r = sym (ap (moved d MarkMarked) ok.4) ∙ at in cc)
   own-call MarkMissed s k ok at again = absurd (let r = sym (ap (moved d MarkMissed) ok.4) ∙ at in cc)
-  own-call Tell s k ok at again = absurd (told-not-holding d ok.0 ok.2 s ok.1 k (sym (ap (moved d Tell) ok.3) ∙ at))
+  own-call Announce s k ok at again = absurd (told-not-holding d ok.0 ok.2 s ok.1 k (sym (ap (moved d Announce) ok.3) ∙ at))
   own-call (ClaimRange n from to) s k ok at again = before s k at again
   own-call (ReserveTaken t word) s k ok at again = before s k at again
   own-call (AdmitLost q now) s k ok at again = before s k at again

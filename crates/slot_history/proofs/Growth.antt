@@ -3,7 +3,7 @@ use Rattle.std.proofs.Common.{◌≡◌, ℕ, ◌+◌, ◌≤◌, ◌⊎◌, tru
 use mathlib.Core.Bool.{true≢false}
 use Rattle.slot_history.specs.declared.shape.Shape.{Shape}
 use Rattle.slot_history.specs.declared.act.Act.{Act}
-use Rattle.slot_history.specs.declared.act.Act.TheVariants.{ClaimRange, ClaimUsed, ShutWon, PayLast, PayDone, MarkMarked, MarkMissed, SweepLast, SweepOthers, ReserveGot, AdmitGot, Note, Total, Install, Release}
+use Rattle.slot_history.specs.declared.act.Act.TheVariants.{ClaimRange, ClaimUsed, ShutWon, PayLast, PayDone, MarkMarked, MarkMissed, SweepLast, SweepOthers, ReserveGot, AdmitGot, NoteDone, SetTotal, Install, Release}
 use Rattle.slot_history.specs.States.{TaskSet, Ending, SlotState, Empty, Reserved, Open, Shut, Finishing, task_of, has_id, is_open, is_shut}
 use Rattle.slot_history.specs.Steps.{slot_after, claimed, shut_by, ended, finalised_by, held_on, opened}
 use Rattle.slot_history.specs.Lives.{has_task}
@@ -90,8 +90,8 @@ grows d w SweepLast x before after = grows-last x w after
 grows d w (SweepOthers n) x before after = grows-ended d w (SweepOthers n) x
 grows d w (ReserveGot s) x before after = absurd (cc)
 grows d w (AdmitGot q) x before after = grows-held x (AdmitGot q)
-grows d w (Note k) x before after = grows-held x (Note k)
-grows d w (Total t) x before after = grows-held x (Total t)
+grows d w (NoteDone k) x before after = grows-held x (NoteDone k)
+grows d w (SetTotal t) x before after = grows-held x (SetTotal t)
 grows d w (Install id) x before after = grows-opened x id before
 grows d w Release x before after = absurd (cc)
 grows d w _ x before after = grows-not x

@@ -3,7 +3,7 @@ use Rattle.std.proofs.Common.{◌≡◌, ℕ, ◌+◌, ◌/◌, ◌<◌, ◌≤�
 use Rattle.slot_history.specs.declared.shape.Shape.{Shape}
 use Rattle.slot_history.specs.declared.shape.TheConstants.{STAGES, MOST_TOTAL}
 use Rattle.slot_history.specs.declared.act.Act.{Act}
-use Rattle.slot_history.specs.declared.act.Act.TheVariants.{ClaimRange, ClaimUsed, ShutWon, PayLast, PayDone, MarkMarked, MarkMissed, SweepLast, SweepOthers, ReserveGot, AdmitGot, Note, Total, Install, Release}
+use Rattle.slot_history.specs.declared.act.Act.TheVariants.{ClaimRange, ClaimUsed, ShutWon, PayLast, PayDone, MarkMarked, MarkMissed, SweepLast, SweepOthers, ReserveGot, AdmitGot, NoteDone, SetTotal, Install, Release}
 use Rattle.slot_history.specs.declared.act.Entry.{Entry}
 use Rattle.slot_history.specs.declared.place.Held.{Held}
 use Rattle.slot_history.specs.declared.place.Place.TheVariants.{Holding}
@@ -56,12 +56,12 @@ sound-admitted x w q h none how ok = ⊎_elim
     (λ y. IsSlotSound (held_on (AdmitGot q) y)) (sym e) (record { again = k.again; stage = k.stage; noted = k.noted; total = k.total }))
     (λ r. let k : IsFinalisation r.0 h = subst IsSlotSound r.1 ok in absurd (let f : None ≡ Some (r.0 / STAGES) = sym none ∙ k.query in cc)) how
 
-sound-noted : (x : SlotState) (n : ℕ) → n ≤ STAGES → IsSlotSound x → IsSlotSound (held_on (Note n) x)
+sound-noted : (x : SlotState) (n : ℕ) → n ≤ STAGES → IsSlotSound x → IsSlotSound (held_on (NoteDone n) x)
 sound-noted (Reserved w h) n most k = record { again = k.again; stage = k.stage; noted = most; total = k.total }
 sound-noted (Finishing id w h) n most k = record { query = k.query; stage = k.stage; again = k.again; noted = most; total = k.total }
 sound-noted _ n most k = k
 
-sound-total : (x : SlotState) (t : ℕ) → t ≤ MOST_TOTAL → IsSlotSound x → IsSlotSound (held_on (Total t) x)
+sound-total : (x : SlotState) (t : ℕ) → t ≤ MOST_TOTAL → IsSlotSound x → IsSlotSound (held_on (SetTotal t) x)
 sound-total (Reserved w h) t most k = record { again = k.again; stage = k.stage; noted = k.noted; total = most }
 sound-total (Finishing id w h) t most k = record { query = k.query; stage = k.stage; again = k.again; noted = k.noted; total = most }
 sound-total _ t most k = k
@@ -86,8 +86,8 @@ sound-after d S w (ReserveGot s) low tab ok = λ k. record { again = refl; stage
 sound-after d S w (AdmitGot q) low tab ok = let at : ok.0 ≡ slot_of (S.places w) = sym (ap slot_of ok.2) in
     subst (λ j. IsSlotSound (S.slots j) → IsSlotSound (held_on (AdmitGot q) (S.slots j))) at
     (sound-admitted (S.slots ok.0) w q ok.1 ok.3 (holder-slot d S tab w ok.0 ok.1 low ok.2))
-sound-after d S w (Note n) low tab ok = sound-noted (S.slots (slot_of (S.places w))) n (let k : ok.1.stage + n ≤ STAGES = ok.6 in omega arith)
-sound-after d S w (Total t) low tab ok = sound-total (S.slots (slot_of (S.places w))) t ok.4
+sound-after d S w (NoteDone n) low tab ok = sound-noted (S.slots (slot_of (S.places w))) n (let k : ok.1.stage + n ≤ STAGES = ok.6 in omega arith)
+sound-after d S w (SetTotal t) low tab ok = sound-total (S.slots (slot_of (S.places w))) t ok.4
 sound-after d S w (Install id) low tab ok = sound-opened (S.slots (slot_of (S.places w))) id
 sound-after d S w Release low tab ok = λ k. tt
 sound-after d S w _ low tab ok = λ k. k

@@ -6,7 +6,7 @@ use mathlib.Core.Bool.{true≢false}
 use native.Mathlib.Decide.{ℕ_discrete}
 use Rattle.slot_history.specs.declared.shape.Shape.{Shape}
 use Rattle.slot_history.specs.declared.act.Act.{Act}
-use Rattle.slot_history.specs.declared.act.Act.TheVariants.{ClaimRange, ClaimUsed, ShutWon, LookInvalid, ShutLost, LeaveOwe, PayLast, PayDone, MarkMarked, MarkMissed, SweepLast, SweepOthers, ReserveGot, AdmitGot, Note, Total, Install, Release}
+use Rattle.slot_history.specs.declared.act.Act.TheVariants.{ClaimRange, ClaimUsed, ShutWon, LookInvalid, ShutLost, LeaveOwe, PayLast, PayDone, MarkMarked, MarkMissed, SweepLast, SweepOthers, ReserveGot, AdmitGot, NoteDone, SetTotal, Install, Release}
 use Rattle.slot_history.specs.declared.act.Entry.{Entry}
 use Rattle.slot_history.specs.declared.place.Held.{Held}
 use Rattle.slot_history.specs.declared.place.Place.{Place}
@@ -150,8 +150,8 @@ owes-after d w SweepLast x v alone h = owes-finalised w x v h
 owes-after d w (SweepOthers n) x v alone h = absurd (true≢false alone)
 owes-after d w (ReserveGot s) x v alone h = absurd (true≢false (sym h))
 owes-after d w (AdmitGot q) x v alone h = sym (owes-held (AdmitGot q) x v) ∙ h
-owes-after d w (Note k) x v alone h = sym (owes-held (Note k) x v) ∙ h
-owes-after d w (Total t) x v alone h = sym (owes-held (Total t) x v) ∙ h
+owes-after d w (NoteDone k) x v alone h = sym (owes-held (NoteDone k) x v) ∙ h
+owes-after d w (SetTotal t) x v alone h = sym (owes-held (SetTotal t) x v) ∙ h
 owes-after d w (Install id) x v alone h = owes-opened id x v h
 owes-after d w Release x v alone h = absurd (true≢false (sym h))
 owes-after d w _ x v alone h = h

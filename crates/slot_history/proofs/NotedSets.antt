@@ -4,7 +4,7 @@ use Rattle.std.specs.Prelude.{is_some, unwrap_or, IsSome}
 use Rattle.slot_history.specs.declared.shape.Shape.{Shape}
 use Rattle.slot_history.specs.declared.shape.TheConstants.{STAGES}
 use Rattle.slot_history.specs.declared.act.Act.{Act}
-use Rattle.slot_history.specs.declared.act.Act.TheVariants.{ClaimRange, ClaimUsed, ShutWon, PayLast, PayDone, MarkMarked, MarkMissed, SweepLast, SweepOthers, ReserveGot, AdmitGot, Note, Total, Install, Release}
+use Rattle.slot_history.specs.declared.act.Act.TheVariants.{ClaimRange, ClaimUsed, ShutWon, PayLast, PayDone, MarkMarked, MarkMissed, SweepLast, SweepOthers, ReserveGot, AdmitGot, NoteDone, SetTotal, Install, Release}
 use Rattle.slot_history.specs.declared.act.Entry.{Entry}
 use Rattle.slot_history.specs.declared.place.Held.{Held}
 use Rattle.slot_history.specs.Sets.{upd, sum_below}
@@ -38,7 +38,7 @@ room-last : (x : SlotState) (w : ℕ) → note_room (finalised_by w x) ≡ note_
 room-last (Shut t e) w = let r : STAGES * (STAGES - t.id % STAGES) - 0 ≡ STAGES * (STAGES - t.id % STAGES) = omega arith in r
 room-last _ w = refl
 
-room-total : (x : SlotState) (t : ℕ) → note_room (held_on (Total t) x) ≡ note_room x
+room-total : (x : SlotState) (t : ℕ) → note_room (held_on (SetTotal t) x) ≡ note_room x
 room-total Empty t = refl
 room-total _ t = refl
 
@@ -50,9 +50,9 @@ room-admitted (Shut t e) q = let r : note_room (Shut t e) ≤ note_room (Shut t 
 room-admitted (Finishing id u h) q = let r : note_room (Finishing id u h) ≤ note_room (Finishing id u h) + STAGES * (STAGES + 1) = omega arith in r
 
 room-noted : (x : SlotState) (w n : ℕ) (h : Held) → IsSome h.query → h.noted ≡ 0 → h.stage + n ≤ STAGES → IsHeldBy w h x → IsSlotSound x
-    → n + note_room (held_on (Note n) x) ≤ note_room x
+    → n + note_room (held_on (NoteDone n) x) ≤ note_room x
 room-noted x w n h some_query fresh most how ok = ⊎_elim
-    (λ e. subst (λ y. n + note_room (held_on (Note n) y) ≤ note_room y) (sym e)
+    (λ e. subst (λ y. n + note_room (held_on (NoteDone n) y) ≤ note_room y) (sym e)
     (let a : cond {A = ℕ} (is_some h.query) (STAGES * (STAGES + 1) - n) 0 ≡ STAGES * (STAGES + 1) - n = ap
     (λ b. cond b (STAGES * (STAGES + 1) - n) 0) some_query in
     let b : cond {A = ℕ} (is_some h.query) (STAGES * (STAGES + 1) - h.noted) 0 ≡ STAGES * (STAGES + 1) - h.noted = ap
@@ -60,7 +60,7 @@ room-noted x w n h some_query fresh most how ok = ⊎_elim
     let z : h.noted ≡ 0 = fresh in
     let r : n + cond {A = ℕ} (is_some h.query) (STAGES * (STAGES + 1) - n) 0 ≤ cond {A = ℕ} (is_some h.query) (STAGES * (STAGES + 1) - h.noted) 0 =
     omega arith in r))
-    (λ r. subst (λ y. n + note_room (held_on (Note n) y) ≤ note_room y) (sym r.1)
+    (λ r. subst (λ y. n + note_room (held_on (NoteDone n) y) ≤ note_room y) (sym r.1)
     (let k : IsFinalisation r.0 h = subst IsSlotSound r.1 ok in
     let id : ℕ = r.0 in
     let s : h.stage ≡ id % STAGES = k.stage in
@@ -120,14 +120,14 @@ pays d S w (AdmitGot q) low tab ok = λ k. let x : SlotState = S.slots (slot_of 
     let f : ℕ = S.finished in let m : ℕ = S.admitted in let z : ℕ = note_room x in
     let e : y ≤ z + STAGES * (STAGES + 1) = room-admitted x q in let r : f + y + STAGES * (STAGES + 1) * m ≤ f + z + STAGES * (STAGES + 1) * (m + 1) =
     omega arith in r
-pays d S w (Note n) low tab ok = let at : ok.0 ≡ slot_of (S.places w) = sym (ap slot_of ok.2) in
-    subst (λ j. IsSlotSound (S.slots j) → S.finished + n + note_room (held_on (Note n) (S.slots j)) + STAGES *
+pays d S w (NoteDone n) low tab ok = let at : ok.0 ≡ slot_of (S.places w) = sym (ap slot_of ok.2) in
+    subst (λ j. IsSlotSound (S.slots j) → S.finished + n + note_room (held_on (NoteDone n) (S.slots j)) + STAGES *
     (STAGES + 1) * S.admitted ≤ S.finished + note_room (S.slots j) + STAGES * (STAGES + 1) * S.admitted) at
-    (λ k. let y : ℕ = note_room (held_on (Note n) (S.slots ok.0)) in let z : ℕ = note_room (S.slots ok.0) in let f : ℕ = S.finished in let m : ℕ = S.admitted in
+    (λ k. let y : ℕ = note_room (held_on (NoteDone n) (S.slots ok.0)) in let z : ℕ = note_room (S.slots ok.0) in let f : ℕ = S.finished in let m : ℕ = S.admitted in
     let e : n + y ≤ z = room-noted (S.slots ok.0) w n ok.1 ok.3 ok.4 ok.6 (holder-slot d S tab w ok.0 ok.1 low ok.2) k in
     let r : f + n + y + STAGES * (STAGES + 1) * m ≤ f + z + STAGES * (STAGES + 1) * m = omega arith in r)
-pays d S w (Total t) low tab ok = λ k. let x : SlotState = S.slots (slot_of (S.places w)) in let e : note_room (held_on (Total t) x) ≡ note_room x =
-    room-total x t in pays-same (note_room x) (note_room (held_on (Total t) x)) S.finished S.admitted (omega arith)
+pays d S w (SetTotal t) low tab ok = λ k. let x : SlotState = S.slots (slot_of (S.places w)) in let e : note_room (held_on (SetTotal t) x) ≡ note_room x =
+    room-total x t in pays-same (note_room x) (note_room (held_on (SetTotal t) x)) S.finished S.admitted (omega arith)
 pays d S w (Install id) low tab ok = let at : ok.0 ≡ slot_of (S.places w) = sym (ap slot_of ok.2) in
     subst (λ j. IsSlotSound (S.slots j) → S.finished + note_room (opened id (S.slots j)) + STAGES * (STAGES + 1) * S.admitted ≤ S.finished + note_room
     (S.slots j) + STAGES * (STAGES + 1) * S.admitted) at

@@ -6,7 +6,7 @@ use native.Mathlib.Decide.{ℕ_discrete}
 use Rattle.std.proofs.lemmas.Bool.{and_from, and_left, false_from_ne_true}
 use Rattle.slot_history.specs.declared.shape.Shape.{Shape}
 use Rattle.slot_history.specs.declared.act.Act.{Act}
-use Rattle.slot_history.specs.declared.act.Act.TheVariants.{Enter, LookOpen, LookInvalid, LookVacant, ClaimRange, ClaimUsed, ShutWon, ShutLost, LeaveLeft, LeaveOwe, PayLast, PayDone, MarkMarked, MarkMissed, SweepLast, SweepOthers, ReserveGot, ReserveTaken, AdmitGot, AdmitLost, Arrivals, Finished, Note, Total, Install, Release, Tell, TakeReturn, TakeChange}
+use Rattle.slot_history.specs.declared.act.Act.TheVariants.{Enter, LookOpen, LookInvalid, LookVacant, ClaimRange, ClaimUsed, ShutWon, ShutLost, LeaveLeft, LeaveOwe, PayLast, PayDone, MarkMarked, MarkMissed, SweepLast, SweepOthers, ReserveGot, ReserveTaken, AdmitGot, AdmitLost, Arrivals, Finished, NoteDone, SetTotal, Install, Release, Announce, TakeReturn, TakeChange}
 use Rattle.slot_history.specs.declared.place.Held.{Held}
 use Rattle.slot_history.specs.declared.place.Place.{Place}
 use Rattle.slot_history.specs.declared.place.Place.TheVariants.{Entered, Astray, Inside, Used, Behind, Leading, Asking, Owing, Holding}
@@ -270,13 +270,13 @@ theirs d S w (AdmitGot q) v low other ok = subst (Theirs d S w (AdmitGot q) v) (
 theirs d S w (AdmitLost q now) v low other ok = λ c m k. k
 theirs d S w (Arrivals n) v low other ok = λ c m k. k
 theirs d S w (Finished n) v low other ok = λ c m k. k
-theirs d S w (Note n) v low other ok = subst (Theirs d S w (Note n) v) (sym ok.2)
-    (λ c m k. theirs-held d (S.slots ok.0) (Note n) ok.0 v w ok.1 (S.places v) other m k)
-theirs d S w (Total t) v low other ok = subst (Theirs d S w (Total t) v) (sym ok.2)
-    (λ c m k. theirs-held d (S.slots ok.0) (Total t) ok.0 v w ok.1 (S.places v) other m k)
+theirs d S w (NoteDone n) v low other ok = subst (Theirs d S w (NoteDone n) v) (sym ok.2)
+    (λ c m k. theirs-held d (S.slots ok.0) (NoteDone n) ok.0 v w ok.1 (S.places v) other m k)
+theirs d S w (SetTotal t) v low other ok = subst (Theirs d S w (SetTotal t) v) (sym ok.2)
+    (λ c m k. theirs-held d (S.slots ok.0) (SetTotal t) ok.0 v w ok.1 (S.places v) other m k)
 theirs d S w (Install id) v low other ok = subst (Theirs d S w (Install id) v) (sym ok.2)
     (λ c m k. theirs-opened d (S.slots ok.0) ok.0 v w id ok.1 (S.places v) other m k)
 theirs d S w Release v low other ok = subst (Theirs d S w Release v) (sym ok.2) (λ c m k. visits-held d (S.slots ok.0) ok.0 v w ok.1 (S.places v) other m k)
-theirs d S w Tell v low other ok = λ c m k. k
+theirs d S w Announce v low other ok = λ c m k. k
 theirs d S w (TakeReturn part bits) v low other ok = λ c m k. k
 theirs d S w (TakeChange part bits) v low other ok = λ c m k. k

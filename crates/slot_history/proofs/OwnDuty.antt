@@ -4,7 +4,7 @@ use mathlib.Core.Bool.{true≢false}
 use Rattle.std.proofs.lemmas.Bool.{cond_both, false_from_ne_true}
 use Rattle.slot_history.specs.declared.shape.Shape.{Shape}
 use Rattle.slot_history.specs.declared.act.Act.{Act}
-use Rattle.slot_history.specs.declared.act.Act.TheVariants.{Enter, LookOpen, LookInvalid, LookVacant, ClaimRange, ClaimUsed, ShutWon, ShutLost, LeaveLeft, LeaveOwe, PayLast, PayDone, MarkMarked, MarkMissed, SweepLast, SweepOthers, ReserveGot, ReserveTaken, AdmitGot, AdmitLost, Arrivals, Finished, Note, Total, Install, Release, Tell, TakeReturn, TakeChange}
+use Rattle.slot_history.specs.declared.act.Act.TheVariants.{Enter, LookOpen, LookInvalid, LookVacant, ClaimRange, ClaimUsed, ShutWon, ShutLost, LeaveLeft, LeaveOwe, PayLast, PayDone, MarkMarked, MarkMissed, SweepLast, SweepOthers, ReserveGot, ReserveTaken, AdmitGot, AdmitLost, Arrivals, Finished, NoteDone, SetTotal, Install, Release, Announce, TakeReturn, TakeChange}
 use Rattle.slot_history.specs.declared.place.Held.{Held}
 use Rattle.slot_history.specs.declared.place.Place.{Place}
 use Rattle.slot_history.specs.declared.place.Place.TheVariants.{Free, Entered, Astray, Inside, Used, Behind, Leading, Asking, Owing, Holding, Announcing}
@@ -207,11 +207,11 @@ mine d S w (AdmitGot q) low ok = subst (Mine d S w (AdmitGot q)) (sym ok.2) (λ 
 mine d S w (AdmitLost q now) low ok = λ c m. m
 mine d S w (Arrivals n) low ok = λ c m. m
 mine d S w (Finished n) low ok = λ c m. m
-mine d S w (Note k) low ok = subst (Mine d S w (Note k)) (sym ok.2) (λ c m. mine-held d (S.slots ok.0) (Note k) ok.0 w ok.1 m)
-mine d S w (Total t) low ok = subst (Mine d S w (Total t)) (sym ok.2) (λ c m. mine-held d (S.slots ok.0) (Total t) ok.0 w ok.1 m)
+mine d S w (NoteDone k) low ok = subst (Mine d S w (NoteDone k)) (sym ok.2) (λ c m. mine-held d (S.slots ok.0) (NoteDone k) ok.0 w ok.1 m)
+mine d S w (SetTotal t) low ok = subst (Mine d S w (SetTotal t)) (sym ok.2) (λ c m. mine-held d (S.slots ok.0) (SetTotal t) ok.0 w ok.1 m)
 mine d S w (Install id) low ok = subst (Mine d S w (Install id)) (sym ok.2) (λ c m. mine-opened d (S.slots ok.0) ok.0 w id 0 ok.1.again ok.1 m)
 mine d S w Release low ok = λ c m b. absurd (cc)
-mine d S w Tell low ok = subst (Mine d S w Tell) (sym ok.3)
+mine d S w Announce low ok = subst (Mine d S w Announce) (sym ok.3)
     (λ c m. tells d ok.0 ok.1 ok.2 (told_one d (Announcing ok.0 ok.1 ok.2)) _ (told-loose d ok.0 ok.1 ok.2) m)
 mine d S w (TakeReturn part bits) low ok = λ c m. m
 mine d S w (TakeChange part bits) low ok = λ c m. m

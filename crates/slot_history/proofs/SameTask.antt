@@ -2,7 +2,7 @@
 use Rattle.std.proofs.Common.{◌≡◌, ℕ, ◌⊎◌, true, refl, sym, subst, inl, inr, ⊎_elim}
 use Rattle.slot_history.specs.declared.shape.Shape.{Shape}
 use Rattle.slot_history.specs.declared.act.Act.{Act}
-use Rattle.slot_history.specs.declared.act.Act.TheVariants.{ClaimRange, ClaimUsed, ShutWon, PayLast, PayDone, MarkMarked, MarkMissed, SweepLast, SweepOthers, ReserveGot, AdmitGot, Note, Total, Install, Release}
+use Rattle.slot_history.specs.declared.act.Act.TheVariants.{ClaimRange, ClaimUsed, ShutWon, PayLast, PayDone, MarkMarked, MarkMissed, SweepLast, SweepOthers, ReserveGot, AdmitGot, NoteDone, SetTotal, Install, Release}
 use Rattle.slot_history.specs.States.{SlotState, Reserved, Open, Shut, Finishing, ObjectState, id_of, has_id, is_open}
 use Rattle.slot_history.specs.Steps.{site, slot_after, claimed, shut_by, ended, finalised_by, held_on, next}
 use Rattle.slot_history.proofs.Sets.{upd-cases}
@@ -49,8 +49,8 @@ task-after d w SweepLast x = inl (finalised-task w x)
 task-after d w (SweepOthers n) x = inl (ended-task d w (SweepOthers n) x)
 task-after d w (ReserveGot s) x = inl (λ h. absurd (cc), λ h. absurd (cc))
 task-after d w (AdmitGot q) x = inl (held-task (AdmitGot q) x)
-task-after d w (Note k) x = inl (held-task (Note k) x)
-task-after d w (Total t) x = inl (held-task (Total t) x)
+task-after d w (NoteDone k) x = inl (held-task (NoteDone k) x)
+task-after d w (SetTotal t) x = inl (held-task (SetTotal t) x)
 task-after d w (Install id) x = inr (id, refl)
 task-after d w Release x = inl (λ h. absurd (cc), λ h. absurd (cc))
 task-after d w _ x = inl (same-task x)

@@ -3,7 +3,7 @@ use Rattle.std.proofs.Common.{◌≡◌, ℕ, ◌<◌, Bool, true, false, cond, 
 use Rattle.std.proofs.lemmas.Bool.{cases_Bool, and_parts}
 use Rattle.slot_history.specs.declared.shape.Shape.{Shape}
 use Rattle.slot_history.specs.declared.act.Act.{Act}
-use Rattle.slot_history.specs.declared.act.Act.TheVariants.{ClaimRange, ClaimUsed, ShutWon, PayLast, PayDone, MarkMarked, MarkMissed, SweepLast, SweepOthers, AdmitGot, Note, Total, Install}
+use Rattle.slot_history.specs.declared.act.Act.TheVariants.{ClaimRange, ClaimUsed, ShutWon, PayLast, PayDone, MarkMarked, MarkMissed, SweepLast, SweepOthers, AdmitGot, NoteDone, SetTotal, Install}
 use Rattle.slot_history.specs.declared.act.Entry.{Entry}
 use Rattle.slot_history.specs.declared.place.Held.{Held}
 use Rattle.slot_history.specs.declared.place.Place.{Place}
@@ -57,8 +57,8 @@ at-after d S w MarkMissed low tab ok = at-ended d w MarkMissed (S.slots (slot_of
 at-after d S w SweepLast low tab ok = at-last (S.slots (slot_of (S.places w))) w
 at-after d S w (SweepOthers n) low tab ok = at-ended d w (SweepOthers n) (S.slots (slot_of (S.places w)))
 at-after d S w (AdmitGot q) low tab ok = at-held (AdmitGot q) (S.slots (slot_of (S.places w)))
-at-after d S w (Note k) low tab ok = at-held (Note k) (S.slots (slot_of (S.places w)))
-at-after d S w (Total t) low tab ok = at-held (Total t) (S.slots (slot_of (S.places w)))
+at-after d S w (NoteDone k) low tab ok = at-held (NoteDone k) (S.slots (slot_of (S.places w)))
+at-after d S w (SetTotal t) low tab ok = at-held (SetTotal t) (S.slots (slot_of (S.places w)))
 at-after d S w (Install id) low tab ok = subst (λ p. task_at (opened id (S.slots (slot_of p))) ≡ Some id) (sym ok.2)
     (at-opened (S.slots ok.0) id w ok.1 (holder-slot d S tab w ok.0 ok.1 low ok.2))
 at-after d S w _ low tab ok = refl

@@ -5,7 +5,7 @@ use Rattle.std.proofs.Common.{◌≡◌, ◌≢◌, ℕ, ◌<◌, ◌⊎◌, tru
 use mathlib.Core.Bool.{true≢false}
 use Rattle.slot_history.specs.declared.shape.Shape.{Shape}
 use Rattle.slot_history.specs.declared.act.Act.{Act}
-use Rattle.slot_history.specs.declared.act.Act.TheVariants.{Enter, LookInvalid, LookVacant, LeaveLeft, PayDone, MarkMarked, MarkMissed, SweepOthers, ReserveGot, ReserveTaken, AdmitGot, Note, Total, Install, Release, Tell}
+use Rattle.slot_history.specs.declared.act.Act.TheVariants.{Enter, LookInvalid, LookVacant, LeaveLeft, PayDone, MarkMarked, MarkMissed, SweepOthers, ReserveGot, ReserveTaken, AdmitGot, NoteDone, SetTotal, Install, Release, Announce}
 use Rattle.slot_history.specs.declared.act.Entry.{Entry}
 use Rattle.slot_history.specs.declared.place.Place.{Place}
 use Rattle.slot_history.specs.declared.place.Place.TheVariants.{Free, Leading, Asking, Holding, Announcing}
@@ -70,11 +70,11 @@ moved-slot d S w MarkMissed ok b = asked-slot (S.places w) 0
 moved-slot d S w (SweepOthers n) ok b = absurd (cc)
 moved-slot d S w (ReserveTaken s word) ok b = absurd (true≢false (sym b ∙ ap binds ok.0))
 moved-slot d S w (AdmitGot q) ok b = held-slot (AdmitGot q) (S.places w)
-moved-slot d S w (Note k) ok b = held-slot (Note k) (S.places w)
-moved-slot d S w (Total t) ok b = held-slot (Total t) (S.places w)
+moved-slot d S w (NoteDone k) ok b = held-slot (NoteDone k) (S.places w)
+moved-slot d S w (SetTotal t) ok b = held-slot (SetTotal t) (S.places w)
 moved-slot d S w (Install id) ok b = absurd (cc)
 moved-slot d S w Release ok b = absurd (cc)
-moved-slot d S w Tell ok b = told-slot d (S.places w) b
+moved-slot d S w Announce ok b = told-slot d (S.places w) b
 moved-slot d S w _ ok b = refl
 
 pub table-next : (d : Shape) (S : ObjectState) (w : ℕ) (a : Act) → w < d.workers → IsTable d S → IsAllowed d S w a → IsTable d (next d S w a)

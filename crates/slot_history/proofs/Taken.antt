@@ -3,7 +3,7 @@ use Rattle.std.proofs.Common.{Bool, ◌≡◌, ◌≢◌, ℕ, ◌/◌, true, fa
 use mathlib.Core.Bool.{true≢false}
 use Rattle.slot_history.specs.declared.shape.Shape.{Shape}
 use Rattle.slot_history.specs.declared.act.Act.{Act}
-use Rattle.slot_history.specs.declared.act.Act.TheVariants.{Tell, TakeReturn, TakeChange}
+use Rattle.slot_history.specs.declared.act.Act.TheVariants.{Announce, TakeReturn, TakeChange}
 use Rattle.slot_history.specs.declared.act.Entry.{Entry}
 use Rattle.slot_history.specs.declared.place.Place.{Place}
 use Rattle.slot_history.specs.declared.place.Place.TheVariants.{Free}
@@ -20,8 +20,8 @@ take-stays d (TakeReturn part bits) p h = refl
 take-stays d (TakeChange part bits) p h = refl
 take-stays d _ p h = absurd (cc)
 
-take-tells-nobody : (a : Act) → is_take a ≡ true → a ≢ Tell
-take-tells-nobody Tell h = absurd (cc)
+take-tells-nobody : (a : Act) → is_take a ≡ true → a ≢ Announce
+take-tells-nobody Announce h = absurd (cc)
 take-tells-nobody _ h = λ e. true≢false (sym h ∙ ap is_take e)
 
 takes-tell-nobody : (takes : List Entry) → AreTakes takes → TellsNobody takes

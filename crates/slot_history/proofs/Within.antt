@@ -4,7 +4,7 @@ use mathlib.Core.Bool.{true≢false}
 use Rattle.std.proofs.lemmas.Bool.{cond_both}
 use Rattle.slot_history.specs.declared.shape.Shape.{Shape}
 use Rattle.slot_history.specs.declared.act.Act.{Act}
-use Rattle.slot_history.specs.declared.act.Act.TheVariants.{Enter, LookOpen, LookInvalid, LookVacant, ClaimRange, ClaimUsed, ShutWon, ShutLost, LeaveLeft, LeaveOwe, PayLast, PayDone, MarkMarked, MarkMissed, SweepLast, SweepOthers, ReserveGot, AdmitGot, Note, Total, Install, Release, Tell, TakeReturn, TakeChange}
+use Rattle.slot_history.specs.declared.act.Act.TheVariants.{Enter, LookOpen, LookInvalid, LookVacant, ClaimRange, ClaimUsed, ShutWon, ShutLost, LeaveLeft, LeaveOwe, PayLast, PayDone, MarkMarked, MarkMissed, SweepLast, SweepOthers, ReserveGot, AdmitGot, NoteDone, SetTotal, Install, Release, Announce, TakeReturn, TakeChange}
 use Rattle.slot_history.specs.declared.act.Entry.{Entry}
 use Rattle.slot_history.specs.declared.place.Place.{Place}
 use Rattle.slot_history.specs.declared.place.Place.TheVariants.{Free, Leading, Announcing}
@@ -51,11 +51,11 @@ moves d S w SweepLast low ok = subst (Moves d SweepLast) (sym ok.4) (λ k. k)
 moves d S w (SweepOthers n) low ok = λ k. tt
 moves d S w (ReserveGot s) low ok = λ k. ok.1
 moves d S w (AdmitGot q) low ok = subst (Moves d (AdmitGot q)) (sym ok.2) (λ k. k)
-moves d S w (Note n) low ok = subst (Moves d (Note n)) (sym ok.2) (λ k. k)
-moves d S w (Total t) low ok = subst (Moves d (Total t)) (sym ok.2) (λ k. k)
+moves d S w (NoteDone n) low ok = subst (Moves d (NoteDone n)) (sym ok.2) (λ k. k)
+moves d S w (SetTotal t) low ok = subst (Moves d (SetTotal t)) (sym ok.2) (λ k. k)
 moves d S w (Install id) low ok = subst (Moves d (Install id)) (sym ok.2) (λ k. (k, omega arith))
 moves d S w Release low ok = λ k. tt
-moves d S w Tell low ok = subst (Moves d Tell) (sym ok.3) (told-within d ok.0 ok.1 ok.2)
+moves d S w Announce low ok = subst (Moves d Announce) (sym ok.3) (told-within d ok.0 ok.1 ok.2)
 moves d S w _ low ok = λ k. k
 
 -- an empty slot is so after any call but its reservation
@@ -71,8 +71,8 @@ stays-empty d w SweepLast Empty other h = refl
 stays-empty d w (SweepOthers n) Empty other h = refl
 stays-empty d w (ReserveGot s) Empty other h = absurd (other s refl)
 stays-empty d w (AdmitGot q) Empty other h = refl
-stays-empty d w (Note k) Empty other h = refl
-stays-empty d w (Total t) Empty other h = refl
+stays-empty d w (NoteDone k) Empty other h = refl
+stays-empty d w (SetTotal t) Empty other h = refl
 stays-empty d w (Install id) Empty other h = refl
 stays-empty d w Release Empty other h = refl
 stays-empty d w _ Empty other h = refl
@@ -116,12 +116,12 @@ taken-named d part w f ok v s = upd-cases f w (taken part (f w)) v (λ g. g s �
     (λ e. cond_both (is_in_part part s) false (f w s) (λ b. b ≡ true → s < d.slots) (λ t h. absurd (cc)) (λ t. ok w s)) (λ n. ok v s)
 
 changes-named : (d : Shape) (w : ℕ) (a : Act) (p : Place) (f : ℕ → ℕ → Bool) → IsPlaceWithin d p → AreNamed d f → AreNamed d (changes_after w a p f)
-changes-named d w Tell p f fine ok = told-named d false p f fine ok
+changes-named d w Announce p f fine ok = told-named d false p f fine ok
 changes-named d w (TakeChange part bits) p f fine ok = taken-named d part w f ok
 changes-named d w _ p f fine ok = ok
 
 returns-named : (d : Shape) (w : ℕ) (a : Act) (p : Place) (f : ℕ → ℕ → Bool) → IsPlaceWithin d p → AreNamed d f → AreNamed d (returns_after w a p f)
-returns-named d w Tell p f fine ok = told-named d true p f fine ok
+returns-named d w Announce p f fine ok = told-named d true p f fine ok
 returns-named d w (TakeReturn part bits) p f fine ok = taken-named d part w f ok
 returns-named d w _ p f fine ok = ok
 

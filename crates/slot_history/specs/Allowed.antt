@@ -4,7 +4,7 @@ use Rattle.std.specs.Int.{bit_at}
 use Rattle.slot_history.specs.declared.shape.Shape.{Shape}
 use Rattle.slot_history.specs.declared.shape.TheConstants.{STAGES, PARTS, MOST_CLAIM, MOST_TOTAL}
 use Rattle.slot_history.specs.declared.act.Act.{Act}
-use Rattle.slot_history.specs.declared.act.Act.TheVariants.{Enter, LookOpen, LookInvalid, LookVacant, ClaimRange, ClaimUsed, ShutWon, ShutLost, LeaveLeft, LeaveOwe, PayLast, PayDone, MarkMarked, MarkMissed, SweepLast, SweepOthers, ReserveGot, ReserveTaken, AdmitGot, AdmitLost, Arrivals, Finished, Note, Total, Install, Release, Tell, TakeReturn, TakeChange}
+use Rattle.slot_history.specs.declared.act.Act.TheVariants.{Enter, LookOpen, LookInvalid, LookVacant, ClaimRange, ClaimUsed, ShutWon, ShutLost, LeaveLeft, LeaveOwe, PayLast, PayDone, MarkMarked, MarkMissed, SweepLast, SweepOthers, ReserveGot, ReserveTaken, AdmitGot, AdmitLost, Arrivals, Finished, NoteDone, SetTotal, Install, Release, Announce, TakeReturn, TakeChange}
 use Rattle.slot_history.specs.declared.place.Held.{Held}
 use Rattle.slot_history.specs.declared.place.Place.TheVariants.{Free, Entered, Inside, Used, Asking, Owing, Holding, Announcing}
 use Rattle.slot_history.specs.Sets.{count_of}
@@ -74,15 +74,15 @@ IsAllowed d S w (AdmitLost q now) = (s : ℕ) × (held : Held) × (S.places w �
     × (held.query ≡ None) × (q < d.queries) × (now ≡ S.admitted) × (now ≢ q)
 IsAllowed d S w (Arrivals n) = n ≡ S.admitted
 IsAllowed d S w (Finished n) = n ≡ S.finished
-IsAllowed d S w (Note n) = (s : ℕ) × (held : Held) × (S.places w ≡ Holding s held)
+IsAllowed d S w (NoteDone n) = (s : ℕ) × (held : Held) × (S.places w ≡ Holding s held)
     × IsSome held.query × (held.noted ≡ 0) × (0 < n) × (held.stage + n ≤ STAGES)
-IsAllowed d S w (Total n) = (s : ℕ) × (held : Held) × (S.places w ≡ Holding s held)
+IsAllowed d S w (SetTotal n) = (s : ℕ) × (held : Held) × (S.places w ≡ Holding s held)
     × IsSome held.query × (n ≤ MOST_TOTAL)
 IsAllowed d S w (Install id) = (s : ℕ) × (held : Held) × (S.places w ≡ Holding s held)
     × IsReady held × (id ≡ next_id held)
 IsAllowed d S w Release = (s : ℕ) × (held : Held) × (S.places w ≡ Holding s held)
     × ((held.query ≡ None) ⊎ (0 < held.noted))
-IsAllowed d S w Tell = (s : ℕ) × (again : Bool) × (told : ℕ)
+IsAllowed d S w Announce = (s : ℕ) × (again : Bool) × (told : ℕ)
     × (S.places w ≡ Announcing s again told)
 IsAllowed d S w (TakeReturn part bits) = (part < PARTS) × IsMask part (S.returns w) bits
 IsAllowed d S w (TakeChange part bits) = (part < PARTS) × IsMask part (S.changes w) bits

@@ -3,7 +3,7 @@ use Rattle.std.specs.Prelude.{◌≡◌, ℕ, ◌+◌, ◌*◌, ◌^◌, ◌<◌
 use Rattle.slot_history.specs.declared.shape.Shape.{Shape}
 use Rattle.slot_history.specs.declared.shape.TheConstants.{STAGES, PARTS, MOST_CLAIM, MOST_TOTAL}
 use Rattle.slot_history.specs.declared.act.Act.{Act}
-use Rattle.slot_history.specs.declared.act.Act.TheVariants.{Enter, LookOpen, LookInvalid, LookVacant, ClaimRange, ClaimUsed, ShutWon, ShutLost, LeaveLeft, LeaveOwe, PayLast, PayDone, MarkMarked, MarkMissed, SweepLast, SweepOthers, ReserveGot, ReserveTaken, AdmitGot, AdmitLost, Arrivals, Finished, Note, Total, Install, Release, Tell, TakeReturn, TakeChange}
+use Rattle.slot_history.specs.declared.act.Act.TheVariants.{Enter, LookOpen, LookInvalid, LookVacant, ClaimRange, ClaimUsed, ShutWon, ShutLost, LeaveLeft, LeaveOwe, PayLast, PayDone, MarkMarked, MarkMissed, SweepLast, SweepOthers, ReserveGot, ReserveTaken, AdmitGot, AdmitLost, Arrivals, Finished, NoteDone, SetTotal, Install, Release, Announce, TakeReturn, TakeChange}
 use Rattle.slot_history.specs.declared.place.Held.{Held}
 use Rattle.slot_history.specs.declared.place.Place.{Place}
 use Rattle.slot_history.specs.declared.place.Place.TheVariants.{Free, Entered, Inside, Used, Asking, Owing, Holding, Announcing}
@@ -57,11 +57,11 @@ call_of (AdmitGot q) = Admitting q
 call_of (AdmitLost q now) = Admitting q
 call_of (Arrivals n) = AskingArrivals
 call_of (Finished n) = AskingFinished
-call_of (Note n) = NotingDone n
-call_of (Total n) = SettingTotal n
+call_of (NoteDone n) = NotingDone n
+call_of (SetTotal n) = SettingTotal n
 call_of (Install id) = Installing id
 call_of Release = Releasing
-call_of Tell = AnnouncingNext
+call_of Announce = AnnouncingNext
 call_of (TakeReturn part bits) = TakingReturn part
 call_of (TakeChange part bits) = TakingChange part
 
@@ -126,11 +126,11 @@ answer_at d S w (Reserving s) x = cond (is_empty x) (ReserveGot s) (ReserveTaken
 answer_at d S w (Admitting q) x = cond (eqb S.admitted q) (AdmitGot q) (AdmitLost q S.admitted)
 answer_at d S w AskingArrivals x = Arrivals S.admitted
 answer_at d S w AskingFinished x = Finished S.finished
-answer_at d S w (NotingDone n) x = Note n
-answer_at d S w (SettingTotal n) x = Total n
+answer_at d S w (NotingDone n) x = NoteDone n
+answer_at d S w (SettingTotal n) x = SetTotal n
 answer_at d S w (Installing id) x = Install id
 answer_at d S w Releasing x = Release
-answer_at d S w AnnouncingNext x = Tell
+answer_at d S w AnnouncingNext x = Announce
 answer_at d S w (TakingReturn part) x =
     TakeReturn part (mask_of 64 (λ k. S.returns w (part * 64 + k)))
 answer_at d S w (TakingChange part) x =

@@ -2,7 +2,7 @@
 use Rattle.std.specs.Prelude.{◌≡◌, ℕ, List, [], ◌∷◌, ◌++◌}
 use Rattle.slot_history.specs.declared.shape.Shape.{Shape}
 use Rattle.slot_history.specs.declared.act.Act.{Act}
-use Rattle.slot_history.specs.declared.act.Act.TheVariants.{Enter, LookOpen, LookInvalid, LookVacant, ClaimRange, ClaimUsed, ShutWon, LeaveLeft, LeaveOwe, PayLast, PayDone, MarkMarked, MarkMissed, SweepLast, SweepOthers, ReserveGot, ReserveTaken, AdmitGot, Arrivals, Note, Total, Install, Release, Tell, TakeReturn, TakeChange}
+use Rattle.slot_history.specs.declared.act.Act.TheVariants.{Enter, LookOpen, LookInvalid, LookVacant, ClaimRange, ClaimUsed, ShutWon, LeaveLeft, LeaveOwe, PayLast, PayDone, MarkMarked, MarkMissed, SweepLast, SweepOthers, ReserveGot, ReserveTaken, AdmitGot, Arrivals, NoteDone, SetTotal, Install, Release, Announce, TakeReturn, TakeChange}
 use Rattle.slot_history.specs.States.{ObjectState, opening}
 use Rattle.slot_history.specs.Steps.{next}
 use Rattle.slot_history.specs.Calls.{Call, Entering, Looking, Claiming, Shutting, Leaving, Paying, Marking, Sweeping, Reserving, Admitting, AskingArrivals, NotingDone, SettingTotal, Installing, Releasing, AnnouncingNext, TakingReturn, TakingChange, reply_of}
@@ -23,14 +23,14 @@ abbrev opened_calls : List (ℕ × Call)
 opened_calls = (0, Reserving 0) ∷ (0, Admitting 0) ∷ (0, SettingTotal 0) ∷ (0, Installing 0) ∷ []
 
 abbrev opened_answers : List Act
-opened_answers = ReserveGot 0 ∷ AdmitGot 0 ∷ Total 0 ∷ Install 0 ∷ []
+opened_answers = ReserveGot 0 ∷ AdmitGot 0 ∷ SetTotal 0 ∷ Install 0 ∷ []
 
 -- of two workers, worker 0 opens the slot and tells both
 abbrev pair_calls : List (ℕ × Call)
 pair_calls = opened_calls ++ ((0, AnnouncingNext) ∷ (0, AnnouncingNext) ∷ [])
 
 abbrev pair_answers : List Act
-pair_answers = opened_answers ++ (Tell ∷ Tell ∷ [])
+pair_answers = opened_answers ++ (Announce ∷ Announce ∷ [])
 
 -- a worker that was marked pays before the sweep, and the sweep is the last
 abbrev pub PaysBeforeSweep : Type 0
@@ -48,7 +48,7 @@ BothPayBeforeSweep =
     ∷ (0, Entering 0) ∷ (0, Looking) ∷ (0, Claiming 16) ∷ (1, Entering 0) ∷ (2, Entering 0)
     ∷ (0, Shutting) ∷ (0, Leaving) ∷ (0, Marking) ∷ (0, Marking) ∷ (1, Looking) ∷ (2, Looking)
     ∷ (1, Leaving) ∷ (1, Paying) ∷ (2, Leaving) ∷ (2, Paying) ∷ (0, Sweeping) ∷ []))
-    ≡ opened_answers ++ (Tell ∷ Tell ∷ Tell ∷ Enter 0 ∷ LookOpen 0 ∷ ClaimUsed 16 ∷ Enter 0
+    ≡ opened_answers ++ (Announce ∷ Announce ∷ Announce ∷ Enter 0 ∷ LookOpen 0 ∷ ClaimUsed 16 ∷ Enter 0
     ∷ Enter 0 ∷ ShutWon ∷ LeaveLeft ∷ MarkMarked ∷ MarkMarked ∷ LookInvalid ∷ LookInvalid
     ∷ LeaveOwe 0 ∷ PayDone ∷ LeaveOwe 0 ∷ PayDone ∷ SweepLast ∷ [])
 
@@ -60,14 +60,14 @@ StrayPaysLast =
     ∷ (0, Claiming 16) ∷ (0, Shutting) ∷ (0, Leaving) ∷ (0, Marking) ∷ (0, Sweeping) ∷ (1, Leaving)
     ∷ (1, Paying) ∷ (1, NotingDone 1) ∷ (1, Releasing) ∷ [])))
     ≡ Enter 0 ∷ LookVacant ∷ (pair_answers ++ (Enter 0 ∷ LookOpen 0 ∷ ClaimUsed 16 ∷ ShutWon
-    ∷ LeaveLeft ∷ MarkMarked ∷ SweepOthers 1 ∷ LeaveOwe 0 ∷ PayLast ∷ Note 1 ∷ Release ∷ []))
+    ∷ LeaveLeft ∷ MarkMarked ∷ SweepOthers 1 ∷ LeaveOwe 0 ∷ PayLast ∷ NoteDone 1 ∷ Release ∷ []))
 
 -- a slot that is reserved or open is taken
 abbrev pub SlotIsTaken : Type 0
 SlotIsTaken =
     answers_of 2 ((0, Reserving 0) ∷ (1, Reserving 0) ∷ (0, Admitting 0) ∷ (0, SettingTotal 7)
     ∷ (0, Installing 0) ∷ (1, Reserving 0) ∷ [])
-    ≡ ReserveGot 0 ∷ ReserveTaken 0 1 ∷ AdmitGot 0 ∷ Total 7 ∷ Install 0 ∷ ReserveTaken 0 6 ∷ []
+    ≡ ReserveGot 0 ∷ ReserveTaken 0 1 ∷ AdmitGot 0 ∷ SetTotal 7 ∷ Install 0 ∷ ReserveTaken 0 6 ∷ []
 
 -- a slot is filled again while a worker has entered it and not looked: it sees the new task set,
 -- and its claim is cut
@@ -78,7 +78,7 @@ SlotIsFilledAgain =
     ∷ (0, Releasing) ∷ (0, Reserving 0) ∷ (0, Admitting 1) ∷ (0, SettingTotal 5) ∷ (0, Installing 8)
     ∷ (1, Looking) ∷ (1, Claiming 16) ∷ []))
     ≡ pair_answers ++ (Enter 0 ∷ LookOpen 0 ∷ ClaimUsed 16 ∷ ShutWon ∷ LeaveLeft ∷ MarkMissed
-    ∷ Enter 0 ∷ SweepLast ∷ Note 1 ∷ Release ∷ ReserveGot 0 ∷ AdmitGot 1 ∷ Total 5 ∷ Install 8
+    ∷ Enter 0 ∷ SweepLast ∷ NoteDone 1 ∷ Release ∷ ReserveGot 0 ∷ AdmitGot 1 ∷ SetTotal 5 ∷ Install 8
     ∷ LookOpen 8 ∷ ClaimRange 16 0 5 ∷ [])
 
 -- A worker takes the return notice of a slot whose change notice is still to come: the slot's
@@ -95,9 +95,9 @@ NoticesCross =
     ∷ (1, AnnouncingNext) ∷ (1, AnnouncingNext) ∷ (1, AnnouncingNext) ∷ (2, TakingReturn 0)
     ∷ (2, TakingChange 0) ∷ (2, Entering 0) ∷ (2, Looking) ∷ (2, Leaving) ∷ (0, AnnouncingNext)
     ∷ (2, TakingChange 0) ∷ (2, AskingArrivals) ∷ []))
-    ≡ opened_answers ++ (Tell ∷ Tell ∷ Tell ∷ TakeChange 0 1 ∷ Enter 0 ∷ LookOpen 0 ∷ ClaimUsed 16
-    ∷ ShutWon ∷ LeaveLeft ∷ MarkMissed ∷ MarkMissed ∷ SweepLast ∷ Note 1 ∷ Release ∷ ReserveGot 0
-    ∷ AdmitGot 1 ∷ Total 0 ∷ Install 8 ∷ Tell ∷ Tell ∷ TakeChange 0 1 ∷ Enter 0 ∷ LookOpen 8
-    ∷ ClaimUsed 16 ∷ ShutWon ∷ LeaveLeft ∷ MarkMissed ∷ MarkMissed ∷ SweepLast ∷ Note 1 ∷ Total 0
-    ∷ Install 9 ∷ Tell ∷ Tell ∷ Tell ∷ TakeReturn 0 1 ∷ TakeChange 0 0 ∷ Enter 0 ∷ LookOpen 9
-    ∷ LeaveLeft ∷ Tell ∷ TakeChange 0 1 ∷ Arrivals 2 ∷ [])
+    ≡ opened_answers ++ (Announce ∷ Announce ∷ Announce ∷ TakeChange 0 1 ∷ Enter 0 ∷ LookOpen 0 ∷ ClaimUsed 16
+    ∷ ShutWon ∷ LeaveLeft ∷ MarkMissed ∷ MarkMissed ∷ SweepLast ∷ NoteDone 1 ∷ Release ∷ ReserveGot 0
+    ∷ AdmitGot 1 ∷ SetTotal 0 ∷ Install 8 ∷ Announce ∷ Announce ∷ TakeChange 0 1 ∷ Enter 0 ∷ LookOpen 8
+    ∷ ClaimUsed 16 ∷ ShutWon ∷ LeaveLeft ∷ MarkMissed ∷ MarkMissed ∷ SweepLast ∷ NoteDone 1 ∷ SetTotal 0
+    ∷ Install 9 ∷ Announce ∷ Announce ∷ Announce ∷ TakeReturn 0 1 ∷ TakeChange 0 0 ∷ Enter 0 ∷ LookOpen 9
+    ∷ LeaveLeft ∷ Announce ∷ TakeChange 0 1 ∷ Arrivals 2 ∷ [])

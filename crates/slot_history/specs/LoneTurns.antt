@@ -3,7 +3,7 @@ use Rattle.std.specs.Prelude.{◌≡◌, ◌≢◌, ℕ, ◌/◌, ◌<◌, ◌�
 use Rattle.slot_history.specs.declared.shape.Shape.{Shape}
 use Rattle.slot_history.specs.declared.shape.TheConstants.{STAGES}
 use Rattle.slot_history.specs.declared.act.Act.{Act}
-use Rattle.slot_history.specs.declared.act.Act.TheVariants.{LookOpen, LookInvalid, ShutLost, LeaveOwe, PayLast, PayDone, MarkMarked, SweepOthers, AdmitLost, Arrivals, Tell, TakeReturn, TakeChange}
+use Rattle.slot_history.specs.declared.act.Act.TheVariants.{LookOpen, LookInvalid, ShutLost, LeaveOwe, PayLast, PayDone, MarkMarked, SweepOthers, AdmitLost, Arrivals, Announce, TakeReturn, TakeChange}
 use Rattle.slot_history.specs.declared.act.Entry.{Entry}
 use Rattle.slot_history.specs.declared.place.Place.TheVariants.{Free}
 use Rattle.slot_history.specs.States.{ObjectState, slot_of, id_of, is_open, owes}
@@ -19,7 +19,7 @@ IsOnlyBy w (e ∷ es) = (e.worker ≡ w) × IsOnlyBy w es
 -- nobody is told of a task set
 abbrev pub TellsNobody : List Entry → Type 0
 TellsNobody [] = Unit {0}
-TellsNobody (e ∷ es) = (e.act ≢ Tell) × TellsNobody es
+TellsNobody (e ∷ es) = (e.act ≢ Announce) × TellsNobody es
 
 -- no query is admitted
 abbrev pub AdmitsNone : List Entry → Type 0

@@ -3,7 +3,7 @@ use Rattle.std.specs.Prelude.{ℕ, ◌+◌, ◌/◌, Bool, true, false, cond, eq
 use Rattle.slot_history.specs.declared.shape.Shape.{Shape}
 use Rattle.slot_history.specs.declared.shape.TheConstants.{STAGES}
 use Rattle.slot_history.specs.declared.act.Act.{Act}
-use Rattle.slot_history.specs.declared.act.Act.TheVariants.{Enter, LookOpen, LookInvalid, LookVacant, ClaimRange, ClaimUsed, ShutWon, ShutLost, LeaveLeft, LeaveOwe, PayLast, PayDone, MarkMarked, MarkMissed, SweepLast, SweepOthers, ReserveGot, ReserveTaken, AdmitGot, Note, Total, Install, Release, Tell, TakeReturn, TakeChange}
+use Rattle.slot_history.specs.declared.act.Act.TheVariants.{Enter, LookOpen, LookInvalid, LookVacant, ClaimRange, ClaimUsed, ShutWon, ShutLost, LeaveLeft, LeaveOwe, PayLast, PayDone, MarkMarked, MarkMissed, SweepLast, SweepOthers, ReserveGot, ReserveTaken, AdmitGot, NoteDone, SetTotal, Install, Release, Announce, TakeReturn, TakeChange}
 use Rattle.slot_history.specs.declared.act.Entry.{Entry}
 use Rattle.slot_history.specs.declared.place.Held.{Held}
 use Rattle.slot_history.specs.declared.place.Place.{Place}
@@ -21,8 +21,8 @@ site _ p = slot_of p
 -- what a holder has in hand after a call
 abbrev pub held_after : Act → Held → Held
 held_after (AdmitGot q) held = record held { query = Some q }
-held_after (Note n) held = record held { noted = n }
-held_after (Total n) held = record held { total = Some n }
+held_after (NoteDone n) held = record held { noted = n }
+held_after (SetTotal n) held = record held { total = Some n }
 held_after _ held = held
 
 -- ---- the place of the worker that calls
@@ -67,11 +67,11 @@ moved d SweepLast p = Holding (slot_of p) (finalisation (id_at p))
 moved d (SweepOthers n) p = Free
 moved d (ReserveGot s) p = Holding s reservation
 moved d (AdmitGot q) p = holding_after (AdmitGot q) p
-moved d (Note n) p = holding_after (Note n) p
-moved d (Total n) p = holding_after (Total n) p
+moved d (NoteDone n) p = holding_after (NoteDone n) p
+moved d (SetTotal n) p = holding_after (SetTotal n) p
 moved d (Install id) p = Announcing (slot_of p) (held_at p).again 0
 moved d Release p = Free
-moved d Tell p = told_one d p
+moved d Announce p = told_one d p
 moved d _ p = p
 
 -- ---- the slot that the call is about
@@ -150,8 +150,8 @@ slot_after d w SweepLast x = finalised_by w x
 slot_after d w (SweepOthers n) x = ended d w (SweepOthers n) x
 slot_after d w (ReserveGot s) x = Reserved w reservation
 slot_after d w (AdmitGot q) x = held_on (AdmitGot q) x
-slot_after d w (Note n) x = held_on (Note n) x
-slot_after d w (Total n) x = held_on (Total n) x
+slot_after d w (NoteDone n) x = held_on (NoteDone n) x
+slot_after d w (SetTotal n) x = held_on (SetTotal n) x
 slot_after d w (Install id) x = opened id x
 slot_after d w Release x = Empty
 slot_after d w _ x = x
@@ -174,12 +174,12 @@ abbrev pub taken : ℕ → (ℕ → Bool) → ℕ → Bool
 taken part f s = cond (is_in_part part s) false (f s)
 
 abbrev pub changes_after : ℕ → Act → Place → (ℕ → ℕ → Bool) → ℕ → ℕ → Bool
-changes_after w Tell p f = told false p f
+changes_after w Announce p f = told false p f
 changes_after w (TakeChange part bits) p f = upd f w (taken part (f w))
 changes_after w _ p f = f
 
 abbrev pub returns_after : ℕ → Act → Place → (ℕ → ℕ → Bool) → ℕ → ℕ → Bool
-returns_after w Tell p f = told true p f
+returns_after w Announce p f = told true p f
 returns_after w (TakeReturn part bits) p f = upd f w (taken part (f w))
 returns_after w _ p f = f
 
@@ -233,7 +233,7 @@ admitted_after (AdmitGot q) n = n + 1
 admitted_after _ n = n
 
 abbrev pub finished_after : Act → ℕ → ℕ
-finished_after (Note more) n = n + more
+finished_after (NoteDone more) n = n + more
 finished_after _ n = n
 
 -- the state after a call of w, which is at p: one slot changes, one place, one worker's records,

@@ -51,15 +51,15 @@ pub enum Act {
     /// So many task sets were noted as done.
     Finished(u32),
     /// So many task sets were noted as done, by the holder of a slot.
-    Note(u32),
+    NoteDone(u32),
     /// The holder of a slot set the total of the next task set.
-    Total(u32),
+    SetTotal(u32),
     /// The holder of a slot opened it with the task set of this id.
     Install(u32),
     /// The holder of a slot left it empty.
     Release,
     /// The next worker was told of the task set that was installed.
-    Tell,
+    Announce,
     /// The pending return notices of 64 slots were taken, as bits.
     TakeReturn(u32, u64),
     /// The pending change notices of 64 slots were taken, as bits.

@@ -17,9 +17,9 @@ use one_thread::object::SlotObject;
 use slot_history::act::{Act, Entry};
 use slot_history::place::Place;
 use slot_history::shape::Shape;
+use slot_station::ghost_list::GhostList;
 use slot_station::log::{Exchange, Logged};
 use slot_station::moves::{held_at, id_at, place_after, slot_at};
-use slot_station::notes::Notes;
 use slot_station::reply::{Admit, Claim, Leave, Look, Mark, Pay, Reserve, Shut, Sweep};
 use slot_station::token::Announcer;
 use slot_words::address::{Address, index};
@@ -34,7 +34,7 @@ pub struct Machine {
     shape: Shape,
     words: Vec<u64>,
     places: Vec<Place>,
-    log: Notes<Logged>,
+    log: GhostList<Logged>,
 }
 
 impl Model for Machine {
@@ -85,7 +85,7 @@ impl Machine {
         self.words[index(&self.shape, address)] = new;
         let place = &mut self.places[worker as usize];
         *place = place_after(&self.shape, act, *place);
-        self.log.note(&Logged::Call(Entry { worker, act: *act }));
+        self.log.push(&Logged::Call(Entry { worker, act: *act }));
     }
 }
 
@@ -97,7 +97,7 @@ impl SlotObject for Machine {
     fn make(alloc: Global, shape: Shape) -> Result<Machine, AllocError> {
         let words = first_words(alloc, &shape)?;
         let places = vec![in alloc; Place::Free; shape.workers as usize]?;
-        let log = Notes::new(alloc)?;
+        let log = GhostList::new(alloc)?;
         Ok(Machine {
             shape,
             words,
@@ -114,7 +114,7 @@ impl SlotObject for Machine {
         self.worker_place(worker)
     }
 
-    fn into_log(self) -> Notes<Logged> {
+    fn into_log(self) -> GhostList<Logged> {
         let Machine {
             shape: _,
             words,
@@ -127,7 +127,7 @@ impl SlotObject for Machine {
     }
 
     fn exchanged(&mut self, exchange: Exchange) {
-        self.log.note(&Logged::Exchanged(exchange));
+        self.log.push(&Logged::Exchanged(exchange));
     }
 
     fn enter(&mut self, worker: u32, s: u32) {
@@ -235,12 +235,12 @@ impl SlotObject for Machine {
     fn note_done(&mut self, worker: u32, k: u32) {
         let found = self.found(worker, Address::FinishedAt);
         let new = found.wrapping_add(u64::from(k));
-        self.step(worker, Address::FinishedAt, new, &Act::Note(k));
+        self.step(worker, Address::FinishedAt, new, &Act::NoteDone(k));
     }
 
     fn set_total(&mut self, worker: u32, total: u32) {
         let cursor = Address::CursorOf(slot_at(&self.worker_place(worker)));
-        self.step(worker, cursor, cursor_word(total, 0), &Act::Total(total));
+        self.step(worker, cursor, cursor_word(total, 0), &Act::SetTotal(total));
     }
 
     fn install(&mut self, worker: u32, id: u32) -> Announcer {
@@ -266,7 +266,7 @@ impl SlotObject for Machine {
         let mask = mask_told(&place);
         let found = self.found(worker, mask);
         let bit = 1 << (slot_at(&place) % 64);
-        self.step(worker, mask, found | bit, &Act::Tell);
+        self.step(worker, mask, found | bit, &Act::Announce);
     }
 
     fn take_return(&mut self, worker: u32, part: u32) -> u64 {

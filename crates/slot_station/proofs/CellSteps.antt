@@ -4,7 +4,7 @@ use Rattle.std.proofs.Common.{◌≡◌, ℕ, ◌⊎◌, Bool, true, false, List
 use mathlib.Core.Bool.{true≢false}
 use Rattle.slot_history.specs.declared.shape.Shape.{Shape}
 use Rattle.slot_history.specs.declared.act.Act.{Act}
-use Rattle.slot_history.specs.declared.act.Act.TheVariants.{AdmitGot, Note as NoteDone, Total}
+use Rattle.slot_history.specs.declared.act.Act.TheVariants.{AdmitGot, NoteDone, SetTotal}
 use Rattle.slot_history.specs.declared.place.Held.{Held}
 use Rattle.slot_history.specs.States.{SlotState, Empty, Reserved, Open, Shut, Finishing, is_empty, is_open, is_shut, id_of, has_id, reservation, finalisation, next_id}
 use Rattle.slot_history.specs.Steps.{claimed, shut_by, ended, finalised_by, held_on, opened}
@@ -133,7 +133,7 @@ module _ {B : Type 0} (fits : ℕ → List (ℕ × ℕ) → B → Type 0) (R : �
     cell-noted k (Shut t e) c = c
     cell-noted k (Finishing id u h) c = c
 
-    pub cell-totalled : (k : ℕ) (X : SlotState) → Cell X → Cell (held_on (Total k) X)
+    pub cell-totalled : (k : ℕ) (X : SlotState) → Cell X → Cell (held_on (SetTotal k) X)
     cell-totalled k Empty c = c
     cell-totalled k (Reserved u h) c = c
     cell-totalled k (Open t) c = c

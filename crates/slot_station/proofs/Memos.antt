@@ -1,7 +1,7 @@
 -- A list that only contracts see, as a history and as numbers in order.
 use Rattle.std.proofs.Common.{◌≡◌, List, [], ◌∷◌, refl, ap}
 use Rattle.slot_history.specs.declared.act.Entry.{Entry}
-use Rattle.slot_station.specs.Notes.{logged}
+use Rattle.slot_station.specs.GhostLists.{logged}
 use Rattle.slot_station.specs.Log.{calls_of}
 
 -- the history of the log of some calls is these calls

@@ -5,7 +5,7 @@ use native.Mathlib.Decide.{ℕ_discrete}
 use Rattle.std.proofs.lemmas.Bool.{cond_both}
 use Rattle.slot_history.specs.declared.shape.Shape.{Shape}
 use Rattle.slot_history.specs.declared.act.Act.{Act}
-use Rattle.slot_history.specs.declared.act.Act.TheVariants.{Enter, LookOpen, LookInvalid, LookVacant, ClaimRange, ClaimUsed, ShutWon, ShutLost, LeaveLeft, LeaveOwe, PayLast, PayDone, MarkMarked, MarkMissed, SweepLast, SweepOthers, ReserveGot, ReserveTaken, AdmitGot, AdmitLost, Arrivals, Finished, Note as NoteDone, Total, Install, Release, Tell, TakeReturn, TakeChange}
+use Rattle.slot_history.specs.declared.act.Act.TheVariants.{Enter, LookOpen, LookInvalid, LookVacant, ClaimRange, ClaimUsed, ShutWon, ShutLost, LeaveLeft, LeaveOwe, PayLast, PayDone, MarkMarked, MarkMissed, SweepLast, SweepOthers, ReserveGot, ReserveTaken, AdmitGot, AdmitLost, Arrivals, Finished, NoteDone, SetTotal, Install, Release, Announce, TakeReturn, TakeChange}
 use Rattle.slot_history.specs.declared.place.Place.{Place}
 use Rattle.slot_history.specs.declared.place.Place.TheVariants.{Free, Entered, Inside, Leading, Owing, Announcing}
 use Rattle.slot_history.specs.States.{SlotState, ObjectState, slot_of, id_of, has_id, is_open, is_shut, held_at, has_own_cell}
@@ -88,10 +88,10 @@ module _ {B : Type 0} (fits : ℕ → List (ℕ × ℕ) → B → Type 0) (d : S
   own-cell totals notes (Arrivals k) ok allow = λ c. c
   own-cell totals notes (Finished k) ok allow = λ c. c
   own-cell totals notes (NoteDone k) ok allow = subst (λ q. Own (NoteDone k) q (notes w)) (sym ok.2) (λ c. c)
-  own-cell totals notes (Total t) ok allow = subst (λ q. Own (Total t) q (notes w)) (sym ok.2) (λ c. c)
+  own-cell totals notes (SetTotal t) ok allow = subst (λ q. Own (SetTotal t) q (notes w)) (sym ok.2) (λ c. c)
   own-cell totals notes (Install id) ok allow = subst (λ q. Own (Install id) q (notes w)) (sym ok.2) (λ c. c)
   own-cell totals notes Release ok allow = subst (λ q. Own Release q (notes w)) (sym ok.2) (λ c. c)
-  own-cell totals notes Tell ok allow = subst (λ q. Own Tell q (notes w)) (sym ok.3)
+  own-cell totals notes Announce ok allow = subst (λ q. Own Announce q (notes w)) (sym ok.3)
       (λ c. subst (λ b. CellAt fits R X b (notes w) N x) (sym (told-outside d ok.0 ok.2 s ok.1)) c)
   own-cell totals notes (TakeReturn part bits) ok allow = λ c. c
   own-cell totals notes (TakeChange part bits) ok allow = λ c. c

@@ -5,7 +5,7 @@ use mathlib.Core.Logic.{dite}
 use native.Mathlib.Decide.{ℕ_discrete}
 use Rattle.slot_history.specs.declared.shape.Shape.{Shape}
 use Rattle.slot_history.specs.declared.act.Act.{Act}
-use Rattle.slot_history.specs.declared.act.Act.TheVariants.{ClaimRange, ClaimUsed, ShutWon, PayLast, PayDone, MarkMarked, MarkMissed, SweepLast, SweepOthers, ReserveGot, AdmitGot, Note as NoteDone, Total, Install, Release}
+use Rattle.slot_history.specs.declared.act.Act.TheVariants.{ClaimRange, ClaimUsed, ShutWon, PayLast, PayDone, MarkMarked, MarkMissed, SweepLast, SweepOthers, ReserveGot, AdmitGot, NoteDone, SetTotal, Install, Release}
 use Rattle.slot_history.specs.declared.act.Entry.{Entry}
 use Rattle.slot_history.specs.declared.place.Held.{Held}
 use Rattle.slot_history.specs.declared.place.Place.TheVariants.{Holding}
@@ -105,7 +105,7 @@ module _ {B : Type 0} (fits : ℕ → List (ℕ × ℕ) → B → Type 0) (d : S
   slot-cell totals (AdmitGot q) legal allow is = cell-admitted fits (ranges (AdmitGot q)) _ _ _ x q w legal.1.1 (old.slots s)
       (held-here (AdmitGot q) legal.1.0 legal.1.1 legal legal.1.2 is) legal.1.3
   slot-cell totals (NoteDone k) legal allow is = cell-noted fits (ranges (NoteDone k)) _ _ _ x k (old.slots s)
-  slot-cell totals (Total k) legal allow is = cell-totalled fits (ranges (Total k)) _ _ _ x k (old.slots s)
+  slot-cell totals (SetTotal k) legal allow is = cell-totalled fits (ranges (SetTotal k)) _ _ _ x k (old.slots s)
   slot-cell totals (Install id) legal allow is = installed-cell id legal.1.0 legal.1.1 legal (allow.0 v in_v) legal.1.2 legal.1.4 is
   slot-cell totals Release legal allow is = cell-released fits (ranges Release) _ _ _ x w legal.1.1 (old.slots s)
       (held-here Release legal.1.0 legal.1.1 legal legal.1.2 is) (note-mine w Release N v ∙ allow v in_v)

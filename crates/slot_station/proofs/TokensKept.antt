@@ -4,7 +4,7 @@ use native.Mathlib.Decide.{ℕ_discrete}
 use Rattle.std.proofs.lemmas.Bool.{cond_both}
 use Rattle.slot_history.specs.declared.shape.Shape.{Shape}
 use Rattle.slot_history.specs.declared.act.Act.{Act}
-use Rattle.slot_history.specs.declared.act.Act.TheVariants.{Enter, LookOpen, LookInvalid, LookVacant, ClaimRange, ClaimUsed, ShutWon, ShutLost, LeaveLeft, LeaveOwe, PayLast, PayDone, MarkMarked, MarkMissed, SweepLast, SweepOthers, ReserveGot, ReserveTaken, AdmitGot, AdmitLost, Arrivals, Finished, Note as NoteDone, Total, Install, Release, Tell, TakeReturn, TakeChange}
+use Rattle.slot_history.specs.declared.act.Act.TheVariants.{Enter, LookOpen, LookInvalid, LookVacant, ClaimRange, ClaimUsed, ShutWon, ShutLost, LeaveLeft, LeaveOwe, PayLast, PayDone, MarkMarked, MarkMissed, SweepLast, SweepOthers, ReserveGot, ReserveTaken, AdmitGot, AdmitLost, Arrivals, Finished, NoteDone, SetTotal, Install, Release, Announce, TakeReturn, TakeChange}
 use Rattle.slot_history.specs.declared.act.Entry.{Entry}
 use Rattle.slot_history.specs.declared.place.Place.{Place}
 use Rattle.slot_history.specs.declared.place.Place.TheVariants.{Free, Entered, Astray, Inside as At, Used, Behind, Leading, Asking, Owing, Holding, Announcing}
@@ -37,8 +37,8 @@ admit-holds d w p r h q (admit.Lost other) ok goes = record { worker = ok.worker
 pub note-holds : (d : Shape) (w : ℕ) (p r : Place) (h : Holder) (k : ℕ) → IsHolder d w p h → r ≡ moved d (NoteDone k) p → IsHolder d w r h
 note-holds d w p r h k ok goes = record { worker = ok.worker; noted = k; total = ok.total; place = goes ∙ ap (moved d (NoteDone k)) ok.place }
 
-pub total-holds : (d : Shape) (w : ℕ) (p r : Place) (h : Holder) (t : ℕ) → IsHolder d w p h → r ≡ moved d (Total t) p → IsHolder d w r h
-total-holds d w p r h t ok goes = record { worker = ok.worker; noted = ok.noted; total = Some t; place = goes ∙ ap (moved d (Total t)) ok.place }
+pub total-holds : (d : Shape) (w : ℕ) (p r : Place) (h : Holder) (t : ℕ) → IsHolder d w p h → r ≡ moved d (SetTotal t) p → IsHolder d w r h
+total-holds d w p r h t ok goes = record { worker = ok.worker; noted = ok.noted; total = Some t; place = goes ∙ ap (moved d (SetTotal t)) ok.place }
 
 -- a coordinator that asked one more
 pub mark-holds : (d : Shape) (w : ℕ) (p r : Place) (c : Coordinator) (k : Mark) → IsCoordinator d w p c → r ≡ moved d (mark_act k) p
@@ -47,12 +47,12 @@ mark-holds d w p r c mark.Marked ok goes = record { worker = ok.worker; workers 
 mark-holds d w p r c mark.Missed ok goes = record { worker = ok.worker; workers = ok.workers; place = goes ∙ ap (moved d MarkMissed) ok.place }
 
 -- an announcer that told one more, and is not done
-pub tell-holds : (d : Shape) (w : ℕ) (p r : Place) (x : Announcer) → IsAnnouncer d w p x → r ≡ moved d Tell p → x.told + 1 < d.workers
+pub tell-holds : (d : Shape) (w : ℕ) (p r : Place) (x : Announcer) → IsAnnouncer d w p x → r ≡ moved d Announce p → x.told + 1 < d.workers
     → IsAnnouncer d w r (record x { told = x.told + 1 })
 tell-holds d w p r x ok goes more = record {
   worker = ok.worker;
   workers = ok.workers;
-  place = goes ∙ ap (moved d Tell) ok.place ∙ ap (λ b. cond b Free (Announcing x.slot x.again (x.told + 1)))
+  place = goes ∙ ap (moved d Announce) ok.place ∙ ap (λ b. cond b Free (Announcing x.slot x.again (x.told + 1)))
       (ne_eqb (x.told + 1) d.workers (λ e. omega arith));
 }
 
@@ -117,13 +117,13 @@ Announced a p s again = ((j : ℕ) × (p ≡ Announcing s again j) × (opens a �
 
 announced : (d : Shape) (a : Act) (p : Place) (s k : ℕ) (again : Bool) → moved d a p ≡ Announcing s again k → Announced a p s again
 announced d (Install id) p s k again e = inr (refl, cc, cc)
-announced d Tell p s k again e = let r = told-else d p s k again e in inl (r.0, r.1, refl)
+announced d Announce p s k again e = let r = told-else d p s k again e in inl (r.0, r.1, refl)
 announced d LeaveLeft p s k again e = absurd (left-else p s k again e)
 announced d MarkMarked p s k again e = inl (k, asked-else p 1 s k again e, refl)
 announced d MarkMissed p s k again e = inl (k, asked-else p 0 s k again e, refl)
 announced d (AdmitGot q) p s k again e = inl (k, holding-else (AdmitGot q) p s k again e, refl)
 announced d (NoteDone n) p s k again e = inl (k, holding-else (NoteDone n) p s k again e, refl)
-announced d (Total t) p s k again e = inl (k, holding-else (Total t) p s k again e, refl)
+announced d (SetTotal t) p s k again e = inl (k, holding-else (SetTotal t) p s k again e, refl)
 announced d (ClaimRange n from to) p s k again e = inl (k, e, refl)
 announced d (ReserveTaken t word) p s k again e = inl (k, e, refl)
 announced d (AdmitLost q now) p s k again e = inl (k, e, refl)

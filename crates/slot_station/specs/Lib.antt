@@ -3,7 +3,7 @@ pub mod Cells
 pub mod Desks
 pub mod Laws
 pub mod Log
-pub mod Notes
+pub mod GhostLists
 pub mod Places
 pub mod Replies
 pub mod Shapes

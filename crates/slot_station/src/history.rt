@@ -53,12 +53,12 @@ impl<X> TableRule<X, LinkedList<Logged>, ()> for AnyWord {
 }
 
 /// The view is the log of the history that is told.
-struct Telling;
+struct ShowHistory;
 
-impl<X: ShowsHistory> Play<X, LinkedList<Logged>> for Telling {
-    ghost use Rattle.slot_station.specs.Notes.{Tells};
+impl<X: ShowsHistory> Play<X, LinkedList<Logged>> for ShowHistory {
+    ghost use Rattle.slot_station.specs.GhostLists.{Shows};
 
-    ghost then = { Tells X.history };
+    ghost then = { Shows X.history };
 }
 
 /// Where a history is kept that has to outlive the object that shows it. It is made with the object, so that the end
@@ -87,7 +87,7 @@ impl<X: ShowsHistory> HistoryKeeper<X> {
         let HistoryKeeper { table, mut seat } = self;
         table
             .shared
-            .compare_exchange_with::<Telling>(&mut seat, 0, 0, 0, last);
+            .compare_exchange_with::<ShowHistory>(&mut seat, 0, 0, 0, last);
         let badge = seat.into_badge();
         table.close().free();
         History::of(badge)

@@ -11,6 +11,7 @@
 #![tactic(auto)]
 
 pub mod answers;
+pub mod ghost_list;
 pub mod history;
 pub mod laws;
 pub mod limits;
@@ -18,7 +19,6 @@ pub mod log;
 pub mod memo;
 pub mod moves;
 pub mod note;
-pub mod notes;
 pub mod reply;
 pub mod station;
 pub mod steps;

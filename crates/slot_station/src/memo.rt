@@ -1,14 +1,14 @@
 //! Numbers that only contracts see.
 ghost use Rattle.std.specs.Prelude.{◌≡◌, List, ℕ, [], ◌∷◌, ◌++◌, IfOk, reverse};
 
-use crate::notes::Notes;
+use crate::ghost_list::GhostList;
 use std::alloc::{AllocError, Global};
 use std::marker::Model;
 
 /// The numbers noted so far, in the order of noting: one word at run time, and contracts see the list.
 #[derive(Drop)]
 pub struct Memo {
-    numbers: Notes<u64>,
+    numbers: GhostList<u64>,
 }
 
 impl Model for Memo {
@@ -23,7 +23,7 @@ impl Memo {
         ensures { IfOk result (λ m. m ≡ []) }
     {
         Ok(Memo {
-            numbers: Notes::new(alloc)?,
+            numbers: GhostList::new(alloc)?,
         })
     }
 
@@ -31,6 +31,6 @@ impl Memo {
     pub fn note(&mut self, value: u64)
         ensures { self.new ≡ self.old ++ value ∷ [] }
     {
-        self.numbers.note(&value);
+        self.numbers.push(&value);
     }
 }

@@ -144,8 +144,11 @@ fn after_holding(act: &Act, place: Place) -> Place
                 ..held
             },
         ),
-        (Act::Note(k), Place::Holding(s, held)) => Place::Holding(s, Held { noted: *k, ..held }),
-        (Act::Total(total), Place::Holding(s, held)) => Place::Holding(
+        (Act::NoteDone(k), Place::Holding(s, held)) => Place::Holding(
+            s,
+            Held { noted: *k, ..held },
+        ),
+        (Act::SetTotal(total), Place::Holding(s, held)) => Place::Holding(
             s,
             Held {
                 total: Some(*total),
@@ -180,9 +183,9 @@ pub fn place_after(shape: &Shape, act: &Act, place: Place) -> Place
         Act::PayLast | Act::SweepLast => Place::Holding(slot, finalisation(id)),
         Act::PayDone | Act::SweepOthers(_) | Act::Release => Place::Free,
         Act::ReserveGot(s) => Place::Holding(s, reservation()),
-        Act::AdmitGot(_) | Act::Note(_) | Act::Total(_) => after_holding(act, place),
+        Act::AdmitGot(_) | Act::NoteDone(_) | Act::SetTotal(_) => after_holding(act, place),
         Act::Install(_) => Place::Announcing(slot, held_at(&place).again, 0),
-        Act::Tell => after_telling(shape, place),
+        Act::Announce => after_telling(shape, place),
         Act::ClaimRange(..) | Act::ReserveTaken(..) | Act::AdmitLost(..) | Act::Arrivals(_) =>
             place,
         Act::Finished(_) | Act::TakeReturn(..) | Act::TakeChange(..) => place,

@@ -32,7 +32,7 @@ pub trait Fits: Drop {
 pub trait Station<B: Fits> {
     ghost use Rattle.std.specs.Prelude.{◌≡◌, ℕ, ◌+◌, ◌<◌, ◌≤◌, ◌⊎◌, true, None, IsSome, IfSome};
     ghost use Rattle.slot_history.specs.declared.shape.TheConstants.{STAGES, PARTS, MOST_CLAIM, MOST_TOTAL};
-    ghost use Rattle.slot_history.specs.declared.act.Act.TheVariants.{Enter, Arrivals, Finished, Note as NoteDone, Total, Install, Release, Tell, TakeReturn, TakeChange};
+    ghost use Rattle.slot_history.specs.declared.act.Act.TheVariants.{Enter, Arrivals, Finished, NoteDone, SetTotal, Install, Release, Announce, TakeReturn, TakeChange};
     ghost use Rattle.slot_history.specs.declared.place.Place.TheVariants.{Free, Entered, Inside, Leading};
     ghost use Rattle.slot_history.specs.States.{can_leave, next_id};
     ghost use Rattle.slot_history.specs.Allowed.{IsReady};
@@ -184,7 +184,7 @@ pub trait Station<B: Fits> {
         requires holder { Owns IsHolder (seen self.old) holder.old }
         requires query { IsSome holder.old.query }
         requires number { total ≤ MOST_TOTAL }
-        ensures made { Makes B.total (Total total) (seen self.old) (seen self.new) }
+        ensures made { Makes B.total (SetTotal total) (seen self.old) (seen self.new) }
         ensures same { holder.new ≡ holder.old }
         ensures holder { Owns IsHolder (seen self.new) holder.new }
         ensures ticks { steps.new ≡ steps.old + 1 };
@@ -217,7 +217,7 @@ pub trait Station<B: Fits> {
     fn announce<L: Ledger>(&mut self, announcer: &mut Announcer, steps: &mut Steps<L>)
         requires announcer { Owns IsAnnouncer (seen self.old) announcer.old }
         requires untold { announcer.old.told < (seen self.old).desk.shape.workers }
-        ensures made { Makes B.total Tell (seen self.old) (seen self.new) }
+        ensures made { Makes B.total Announce (seen self.old) (seen self.new) }
         ensures told { announcer.new ≡ record announcer.old { told = announcer.old.told + 1 } }
         ensures announcer { announcer.new.told < (seen self.old).desk.shape.workers
             → Owns IsAnnouncer (seen self.new) announcer.new }

@@ -3,7 +3,7 @@ use Rattle.std.proofs.Common.{◌≡◌, ◌≢◌, ℕ, ◌+◌, ◌<◌, Bool,
 use Rattle.std.proofs.lemmas.Bool.{cond_both}
 use Rattle.slot_history.specs.declared.shape.Shape.{Shape}
 use Rattle.slot_history.specs.declared.act.Act.{Act}
-use Rattle.slot_history.specs.declared.act.Act.TheVariants.{Enter, LookOpen, LookInvalid, LookVacant, ClaimRange, ClaimUsed, ShutWon, ShutLost, LeaveLeft, LeaveOwe, PayLast, PayDone, MarkMarked, MarkMissed, SweepLast, SweepOthers, ReserveGot, ReserveTaken, AdmitGot, Note, Total, Install, Release, Tell, TakeReturn, TakeChange}
+use Rattle.slot_history.specs.declared.act.Act.TheVariants.{Enter, LookOpen, LookInvalid, LookVacant, ClaimRange, ClaimUsed, ShutWon, ShutLost, LeaveLeft, LeaveOwe, PayLast, PayDone, MarkMarked, MarkMissed, SweepLast, SweepOthers, ReserveGot, ReserveTaken, AdmitGot, NoteDone, SetTotal, Install, Release, Announce, TakeReturn, TakeChange}
 use Rattle.slot_history.specs.declared.place.Held.{Held}
 use Rattle.slot_history.specs.declared.place.Place.{Place}
 use Rattle.slot_history.specs.declared.place.Place.TheVariants.{Free, Asking, Owing, Holding, Announcing}
@@ -67,8 +67,8 @@ module _ (d : Shape) (S : ObjectState) (w : ℕ) (low : w < d.workers) (tab : Is
   word-same (SweepOthers n) far = word-ended d w (SweepOthers n) _
   word-same (ReserveGot s) far = absurd (far refl)
   word-same (AdmitGot q) far = word-held (AdmitGot q) _
-  word-same (Note k) far = word-held (Note k) _
-  word-same (Total t) far = word-held (Total t) _
+  word-same (NoteDone k) far = word-held (NoteDone k) _
+  word-same (SetTotal t) far = word-held (SetTotal t) _
   word-same (Install id) far = absurd (far refl)
   word-same Release far = absurd (far refl)
   word-same _ far = refl
@@ -85,8 +85,8 @@ module _ (d : Shape) (S : ObjectState) (w : ℕ) (low : w < d.workers) (tab : Is
   cursor-same (SweepOthers k) ok far n c = cursor-ended d w (SweepOthers k) _ n c
   cursor-same (ReserveGot s) ok far n c = tt
   cursor-same (AdmitGot q) ok far n c = cursor-held (AdmitGot q) _ n (λ h. refl) c
-  cursor-same (Note k) ok far n c = cursor-held (Note k) _ n (λ h. refl) c
-  cursor-same (Total t) ok far n c = absurd (far refl)
+  cursor-same (NoteDone k) ok far n c = cursor-held (NoteDone k) _ n (λ h. refl) c
+  cursor-same (SetTotal t) ok far n c = absurd (far refl)
   cursor-same (Install id) ok far n c = cursor-opened w ok.1 id _ n (held ok.0 ok.1 ok.2) ok.3.has_total c
   cursor-same Release ok far n c = tt
   cursor-same _ ok far n c = c
@@ -103,8 +103,8 @@ module _ (d : Shape) (S : ObjectState) (w : ℕ) (low : w < d.workers) (tab : Is
   counter-same (SweepOthers k) ok far = absurd (far refl)
   counter-same (ReserveGot s) ok far = sym (empty-counter d (S.slots s) ok.2)
   counter-same (AdmitGot q) ok far = counter-held d (AdmitGot q) (x (AdmitGot q))
-  counter-same (Note k) ok far = counter-held d (Note k) (x (Note k))
-  counter-same (Total t) ok far = counter-held d (Total t) (x (Total t))
+  counter-same (NoteDone k) ok far = counter-held d (NoteDone k) (x (NoteDone k))
+  counter-same (SetTotal t) ok far = counter-held d (SetTotal t) (x (SetTotal t))
   counter-same (Install id) ok far = counter-opened d id (x (Install id))
   counter-same Release ok far = sym (held-counter d w ok.1 (x Release) (held ok.0 ok.1 ok.2))
   counter-same _ ok far = refl
@@ -138,8 +138,8 @@ module _ (d : Shape) (S : ObjectState) (w : ℕ) (low : w < d.workers) (tab : Is
   mark-same (SweepOthers k) ok v in_v other far = mark-swept d w k (x (SweepOthers k)) v
   mark-same (ReserveGot s) ok v in_v other far = sym (no-mark (S.slots s) v (owes-not-empty (S.slots s) v ok.2))
   mark-same (AdmitGot q) ok v in_v other far = mark-held (AdmitGot q) (x (AdmitGot q)) v
-  mark-same (Note k) ok v in_v other far = mark-held (Note k) (x (Note k)) v
-  mark-same (Total t) ok v in_v other far = mark-held (Total t) (x (Total t)) v
+  mark-same (NoteDone k) ok v in_v other far = mark-held (NoteDone k) (x (NoteDone k)) v
+  mark-same (SetTotal t) ok v in_v other far = mark-held (SetTotal t) (x (SetTotal t)) v
   mark-same (Install id) ok v in_v other far = mark-opened id (x (Install id)) v
   mark-same Release ok v in_v other far = sym (no-mark (x Release) v (owes-not-held w ok.1 (x Release) v (held ok.0 ok.1 ok.2)))
   mark-same _ ok v in_v other far = refl
@@ -183,11 +183,11 @@ module _ (d : Shape) (S : ObjectState) (w : ℕ) (low : w < d.workers) (tab : Is
   own (ReserveGot s) ok far = subst (Own (ReserveGot s)) (sym ok.0) refl
   own (ReserveTaken s word) ok far = subst (Own (ReserveTaken s word)) (sym ok.0) refl
   own (AdmitGot q) ok far = subst (Own (AdmitGot q)) (sym ok.2) refl
-  own (Note k) ok far = subst (Own (Note k)) (sym ok.2) refl
-  own (Total t) ok far = subst (Own (Total t)) (sym ok.2) refl
+  own (NoteDone k) ok far = subst (Own (NoteDone k)) (sym ok.2) refl
+  own (SetTotal t) ok far = subst (Own (SetTotal t)) (sym ok.2) refl
   own (Install id) ok far = subst (Own (Install id)) (sym ok.2) refl
   own Release ok far = subst (Own Release) (sym ok.2) refl
-  own Tell ok far = subst (Own Tell) (sym ok.3) (cond_both (eqb (ok.2 + 1) d.workers) Free (Announcing ok.0 ok.1 (ok.2 + 1))
+  own Announce ok far = subst (Own Announce) (sym ok.3) (cond_both (eqb (ok.2 + 1) d.workers) Free (Announcing ok.0 ok.1 (ok.2 + 1))
       (λ q. worker_word (upd S.slots ok.0 (S.slots ok.0) (slot_of q)) w q ≡ 0) (λ h. refl) (λ h. refl))
   own _ ok far = same-place p
 
@@ -206,14 +206,14 @@ module _ (d : Shape) (S : ObjectState) (w : ℕ) (low : w < d.workers) (tab : Is
 
   -- ---- masks
 
-  told-return : (s k : ℕ) (again : Bool) (v part n : ℕ) → (ReturnOf v part ≢ address_of w (call_of Tell) (Announcing s again k))
+  told-return : (s k : ℕ) (again : Bool) (v part n : ℕ) → (ReturnOf v part ≢ address_of w (call_of Announce) (Announcing s again k))
       → IsMask part (S.returns v) n → IsMask part (told true (Announcing s again k) S.returns v) n
   told-return s k true v part n far m =
       upd-cases S.returns k (upd (S.returns k) s true) v (λ g. IsMask part g n)
       (λ e. mask-stays (S.returns k) part n s (λ q. far (ap₂ ReturnOf e q)) (subst (λ u. IsMask part (S.returns u) n) e m)) (λ ne. m)
   told-return s k false v part n far m = m
 
-  told-change : (s k : ℕ) (again : Bool) (v part n : ℕ) → (ChangeOf v part ≢ address_of w (call_of Tell) (Announcing s again k))
+  told-change : (s k : ℕ) (again : Bool) (v part n : ℕ) → (ChangeOf v part ≢ address_of w (call_of Announce) (Announcing s again k))
       → IsMask part (S.changes v) n → IsMask part (told false (Announcing s again k) S.changes v) n
   told-change s k false v part n far m =
       upd-cases S.changes k (upd (S.changes k) s true) v (λ g. IsMask part g n)
@@ -222,9 +222,9 @@ module _ (d : Shape) (S : ObjectState) (w : ℕ) (low : w < d.workers) (tab : Is
 
   return-same : (a : Act) → IsAllowed d S w a → (v part n : ℕ) → Spares a (ReturnOf v part)
       → IsMask part (S.returns v) n → IsMask part (returns_after w a p S.returns v) n
-  return-same Tell ok v part n far m =
-      let spared = subst (λ q. ReturnOf v part ≢ address_of w (call_of Tell) q) ok.3 far in
-      subst (λ q. IsMask part (returns_after w Tell q S.returns v) n) (sym ok.3) (told-return ok.0 ok.2 ok.1 v part n spared m)
+  return-same Announce ok v part n far m =
+      let spared = subst (λ q. ReturnOf v part ≢ address_of w (call_of Announce) q) ok.3 far in
+      subst (λ q. IsMask part (returns_after w Announce q S.returns v) n) (sym ok.3) (told-return ok.0 ok.2 ok.1 v part n spared m)
   return-same (TakeReturn k bits) ok v part n far m =
       upd-cases S.returns w (taken k (S.returns w)) v (λ g. IsMask part g n)
       (λ e. mask-left (S.returns w) k part n (λ q. far (ap₂ ReturnOf e q)) (subst (λ u. IsMask part (S.returns u) n) e m)) (λ ne. m)
@@ -232,9 +232,9 @@ module _ (d : Shape) (S : ObjectState) (w : ℕ) (low : w < d.workers) (tab : Is
 
   change-same : (a : Act) → IsAllowed d S w a → (v part n : ℕ) → Spares a (ChangeOf v part)
       → IsMask part (S.changes v) n → IsMask part (changes_after w a p S.changes v) n
-  change-same Tell ok v part n far m =
-      let spared = subst (λ q. ChangeOf v part ≢ address_of w (call_of Tell) q) ok.3 far in
-      subst (λ q. IsMask part (changes_after w Tell q S.changes v) n) (sym ok.3) (told-change ok.0 ok.2 ok.1 v part n spared m)
+  change-same Announce ok v part n far m =
+      let spared = subst (λ q. ChangeOf v part ≢ address_of w (call_of Announce) q) ok.3 far in
+      subst (λ q. IsMask part (changes_after w Announce q S.changes v) n) (sym ok.3) (told-change ok.0 ok.2 ok.1 v part n spared m)
   change-same (TakeChange k bits) ok v part n far m =
       upd-cases S.changes w (taken k (S.changes w)) v (λ g. IsMask part g n)
       (λ e. mask-left (S.changes w) k part n (λ q. far (ap₂ ChangeOf e q)) (subst (λ u. IsMask part (S.changes u) n) e m)) (λ ne. m)
@@ -247,7 +247,7 @@ module _ (d : Shape) (S : ObjectState) (w : ℕ) (low : w < d.workers) (tab : Is
   admitted-same _ far = refl
 
   finished-same : (a : Act) → Spares a FinishedAt → finished_after a S.finished ≡ S.finished
-  finished-same (Note k) far = absurd (far refl)
+  finished-same (NoteDone k) far = absurd (far refl)
   finished-same _ far = refl
 
   -- ---- every word

@@ -4,7 +4,7 @@ use Rattle.std.proofs.lemmas.Bool.{cond-true, cond-false}
 use prog.Atomic.{either}
 use Rattle.slot_history.specs.declared.shape.Shape.{Shape}
 use Rattle.slot_history.specs.declared.shape.TheConstants.{STAGES}
-use Rattle.slot_history.specs.declared.act.Act.TheVariants.{ReserveGot, ReserveTaken, AdmitGot, AdmitLost, Arrivals, Finished, Note, Total, Install, Release, Tell, TakeReturn, TakeChange}
+use Rattle.slot_history.specs.declared.act.Act.TheVariants.{ReserveGot, ReserveTaken, AdmitGot, AdmitLost, Arrivals, Finished, NoteDone, SetTotal, Install, Release, Announce, TakeReturn, TakeChange}
 use Rattle.slot_history.specs.declared.place.Held.{Held}
 use Rattle.slot_history.specs.declared.place.Place.{Place}
 use Rattle.slot_history.specs.declared.place.Place.TheVariants.{Free, Holding, Announcing}
@@ -61,17 +61,17 @@ module _ (d : Shape) (S : ObjectState) (w : ℕ) (low : w < d.workers) (fit : Is
   pub asks-finished : (n : ℕ) (k : Place) → n ≡ S.finished → Reads d S w (Finished n) k
   asks-finished n k is m h = (ap Finished (h ∙ sym is), h)
 
-  pub notes : (k : ℕ) (q : Place) → k ≤ STAGES → Reads d S w (Note k) q
+  pub notes : (k : ℕ) (q : Place) → k ≤ STAGES → Reads d S w (NoteDone k) q
   notes k q few n h =
       let most = fit.finished in let is : n ≡ S.finished = h in
       (refl, (let z : added k n ≡ S.finished + k = omega arith in z))
 
   -- ---- holdings
 
-  pub totals : (s t : ℕ) (h : Held) → p ≡ Holding s h → Reads d S w (Total t) (Holding s h)
+  pub totals : (s t : ℕ) (h : Held) → p ≡ Holding s h → Reads d S w (SetTotal t) (Holding s h)
   totals s t h at n c =
       let held = holder-slot d S fit.table w s h low at in
-      (refl, subst (λ x. IsCursor x (cursor_word t 0)) (sym (upd-same S.slots s (held_on (Total t) (S.slots s)))) (held-totals w h t (S.slots s) held))
+      (refl, subst (λ x. IsCursor x (cursor_word t 0)) (sym (upd-same S.slots s (held_on (SetTotal t) (S.slots s)))) (held-totals w h t (S.slots s) held))
 
   pub installs : (s id : ℕ) (h : Held) → p ≡ Holding s h → Reads d S w (Install id) (Holding s h)
   installs s id h at n c =
@@ -83,7 +83,7 @@ module _ (d : Shape) (S : ObjectState) (w : ℕ) (low : w < d.workers) (fit : Is
 
   -- ---- notices
 
-  pub tells : (s told_so : ℕ) (again : Bool) → Reads d S w Tell (Announcing s again told_so)
+  pub tells : (s told_so : ℕ) (again : Bool) → Reads d S w Announce (Announcing s again told_so)
   tells s k true n m =
       (refl, subst (λ g. IsMask (s / 64) g (bit_or n (bit_of s))) (sym (upd-same S.returns k (upd (S.returns k) s true))) (mask-comes (S.returns k) n s m))
   tells s k false n m =

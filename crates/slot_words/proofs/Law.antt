@@ -3,7 +3,7 @@ use Rattle.std.proofs.Common.{◌∷◌, ◌≡◌, ◌≢◌, ℕ, ◌+◌, ◌
 use Rattle.slot_history.specs.declared.shape.Shape.{Shape}
 use Rattle.slot_history.specs.declared.shape.TheConstants.{PARTS}
 use Rattle.slot_history.specs.declared.act.Act.{Act}
-use Rattle.slot_history.specs.declared.act.Act.TheVariants.{Enter, LookOpen, LookInvalid, LookVacant, ClaimRange, ClaimUsed, ShutWon, ShutLost, LeaveLeft, LeaveOwe, PayLast, PayDone, MarkMarked, MarkMissed, SweepLast, SweepOthers, ReserveGot, ReserveTaken, AdmitGot, AdmitLost, Arrivals, Finished, Note, Total, Install, Release, Tell, TakeReturn, TakeChange}
+use Rattle.slot_history.specs.declared.act.Act.TheVariants.{Enter, LookOpen, LookInvalid, LookVacant, ClaimRange, ClaimUsed, ShutWon, ShutLost, LeaveLeft, LeaveOwe, PayLast, PayDone, MarkMarked, MarkMissed, SweepLast, SweepOthers, ReserveGot, ReserveTaken, AdmitGot, AdmitLost, Arrivals, Finished, NoteDone, SetTotal, Install, Release, Announce, TakeReturn, TakeChange}
 use Rattle.slot_history.specs.declared.act.Entry.{Entry}
 use Rattle.slot_history.specs.declared.place.Place.{Place}
 use Rattle.slot_history.specs.declared.place.Place.TheVariants.{Free, Entered, Inside, Used, Asking, Owing, Holding, Announcing}
@@ -77,11 +77,11 @@ module _ (d : Shape) (S : ObjectState) (w : ℕ) (low : w < d.workers) (fit : Is
   reads (AdmitLost q now) ok = comes-late d S w low fit q now p ok.5 ok.6
   reads (Arrivals n) ok = asks-arrivals d S w low fit n p ok
   reads (Finished n) ok = asks-finished d S w low fit n p ok
-  reads (Note k) ok = notes d S w low fit k p (let few : ok.1.stage + k ≤ 8 = ok.6 in omega arith)
-  reads (Total t) ok = subst (At (Total t)) (sym ok.2) (totals d S w low fit ok.0 t ok.1 ok.2)
+  reads (NoteDone k) ok = notes d S w low fit k p (let few : ok.1.stage + k ≤ 8 = ok.6 in omega arith)
+  reads (SetTotal t) ok = subst (At (SetTotal t)) (sym ok.2) (totals d S w low fit ok.0 t ok.1 ok.2)
   reads (Install id) ok = subst (At (Install id)) (sym ok.2) (installs d S w low fit ok.0 id ok.1 ok.2)
   reads Release ok = subst (At Release) (sym ok.2) (releases d S w low fit ok.0 ok.1)
-  reads Tell ok = subst (At Tell) (sym ok.3) (tells d S w low fit ok.0 ok.2 ok.1)
+  reads Announce ok = subst (At Announce) (sym ok.3) (tells d S w low fit ok.0 ok.2 ok.1)
   reads (TakeReturn part bits) ok = takes-return d S w low fit part bits p ok.1
   reads (TakeChange part bits) ok = takes-change d S w low fit part bits p ok.1
 

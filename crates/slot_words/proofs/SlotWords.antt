@@ -4,7 +4,7 @@ use Rattle.std.specs.Int.Bits.{or_zero_r}
 use Rattle.std.proofs.lemmas.Nat.{or_block}
 use Rattle.slot_history.specs.declared.shape.TheConstants.{MOST_TOTAL}
 use Rattle.slot_history.specs.declared.act.Act.{Act}
-use Rattle.slot_history.specs.declared.act.Act.TheVariants.{LookOpen, LookInvalid, LookVacant, ShutWon, ShutLost, Total}
+use Rattle.slot_history.specs.declared.act.Act.TheVariants.{LookOpen, LookInvalid, LookVacant, ShutWon, ShutLost, SetTotal}
 use Rattle.slot_history.specs.declared.place.Held.{Held}
 use Rattle.slot_history.specs.States.{SlotState, Empty, Reserved, Open, Shut, Finishing, id_of, task_of, slot_word, is_open, is_shut, is_tagged, is_vacant}
 use Rattle.slot_history.specs.Steps.{shut_by, claimed, held_on, opened}
@@ -71,9 +71,9 @@ held-opens w h id x (inr (jd, is)) = sym (ap (λ y. slot_word (opened id y)) is)
 
 -- ---- its cursor
 
-pub held-totals : (w : ℕ) (h : Held) (t : ℕ) (x : SlotState) → IsHeldBy w h x → IsCursor (held_on (Total t) x) (cursor_word t 0)
-held-totals w h t x (inl is) = subst (λ y. IsCursor (held_on (Total t) y) (cursor_word t 0)) (sym is) refl
-held-totals w h t x (inr (jd, is)) = subst (λ y. IsCursor (held_on (Total t) y) (cursor_word t 0)) (sym is) refl
+pub held-totals : (w : ℕ) (h : Held) (t : ℕ) (x : SlotState) → IsHeldBy w h x → IsCursor (held_on (SetTotal t) x) (cursor_word t 0)
+held-totals w h t x (inl is) = subst (λ y. IsCursor (held_on (SetTotal t) y) (cursor_word t 0)) (sym is) refl
+held-totals w h t x (inr (jd, is)) = subst (λ y. IsCursor (held_on (SetTotal t) y) (cursor_word t 0)) (sym is) refl
 
 pub cursor-has : (x : SlotState) (n : ℕ) → (is_open x ≡ true) ⊎ (is_shut x ≡ true) → IsSlotSound x → IsCursor x n
     → (n ≡ cursor_word (task_of x).total (task_of x).cursor) × ((task_of x).total ≤ MOST_TOTAL)

@@ -3,7 +3,7 @@
 use Rattle.std.specs.Prelude.{ℕ, ◌+◌, ◌-◌, ◌*◌, ◌/◌, ◌%◌, ◌^◌, true, false, cond, eqb, ltb, min, bit_or}
 use prog.Atomic.{either}
 use Rattle.slot_history.specs.declared.act.Act.{Act}
-use Rattle.slot_history.specs.declared.act.Act.TheVariants.{Enter, LookOpen, LookInvalid, LookVacant, ClaimRange, ClaimUsed, ShutWon, ShutLost, LeaveLeft, LeaveOwe, PayLast, PayDone, MarkMarked, MarkMissed, SweepLast, SweepOthers, ReserveGot, ReserveTaken, AdmitGot, AdmitLost, Arrivals, Finished, Note, Total, Install, Release, Tell, TakeReturn, TakeChange}
+use Rattle.slot_history.specs.declared.act.Act.TheVariants.{Enter, LookOpen, LookInvalid, LookVacant, ClaimRange, ClaimUsed, ShutWon, ShutLost, LeaveLeft, LeaveOwe, PayLast, PayDone, MarkMarked, MarkMissed, SweepLast, SweepOthers, ReserveGot, ReserveTaken, AdmitGot, AdmitLost, Arrivals, Finished, NoteDone, SetTotal, Install, Release, Announce, TakeReturn, TakeChange}
 use Rattle.slot_history.specs.declared.place.Place.{Place}
 use Rattle.slot_history.specs.declared.place.Place.TheVariants.{Asking, Announcing}
 use Rattle.slot_history.specs.States.{slot_of, id_at}
@@ -143,10 +143,10 @@ answer_of (Reserving s) p n = reserve_answer s n
 answer_of (Admitting q) p n = admit_answer q n
 answer_of AskingArrivals p n = Arrivals n
 answer_of AskingFinished p n = Finished n
-answer_of (NotingDone k) p n = Note k
-answer_of (SettingTotal t) p n = Total t
+answer_of (NotingDone k) p n = NoteDone k
+answer_of (SettingTotal t) p n = SetTotal t
 answer_of (Installing id) p n = Install id
 answer_of Releasing p n = Release
-answer_of AnnouncingNext p n = Tell
+answer_of AnnouncingNext p n = Announce
 answer_of (TakingReturn part) p n = TakeReturn part n
 answer_of (TakingChange part) p n = TakeChange part n

@@ -6,7 +6,7 @@
 //! `law` of `proofs/Law.antt`, which has all of them.
 
 ghost use Rattle.std.specs.Prelude.{ℕ, ◌+◌, bit_or};
-ghost use Rattle.slot_history.specs.declared.act.Act.TheVariants.{Enter, Arrivals, Finished, Note, Total, Install, Release, Tell, TakeReturn, TakeChange};
+ghost use Rattle.slot_history.specs.declared.act.Act.TheVariants.{Enter, Arrivals, Finished, NoteDone, SetTotal, Install, Release, Announce, TakeReturn, TakeChange};
 ghost use Rattle.slot_history.specs.States.{slot_of, id_at};
 ghost use Rattle.slot_history.specs.Calls.{Entering, Looking, Claiming, Shutting, Leaving, Paying, Marking, Sweeping, Reserving, Admitting, AskingArrivals, AskingFinished, NotingDone, SettingTotal, Installing, Releasing, AnnouncingNext, TakingReturn, TakingChange};
 ghost use Rattle.slot_history.specs.Table.{nth_other};
@@ -117,7 +117,7 @@ pub fn finished()
 ///
 /// No lock: two additions both count, in either order.
 pub fn note_done()
-    ensures { (k : ℕ) → IsLaw (NotingDone k) (λ w p. FinishedAt) (λ p n. added k n) (λ p n. Note k) }
+    ensures { (k : ℕ) → IsLaw (NotingDone k) (λ w p. FinishedAt) (λ p n. added k n) (λ p n. NoteDone k) }
 {}
 
 /// A store of the total and the cursor 0 in the slot's cursor word.
@@ -125,7 +125,7 @@ pub fn note_done()
 /// No lock: nobody but its holder uses the cursor of a slot that is reserved or being finalised.
 pub fn set_total()
     ensures { (t : ℕ) → IsLaw (SettingTotal t) (λ w p. CursorOf (slot_of p))
-        (λ p n. cursor_word t 0) (λ p n. Total t) }
+        (λ p n. cursor_word t 0) (λ p n. SetTotal t) }
 {}
 
 /// A store of the open word in the slot's state word.
@@ -150,7 +150,7 @@ pub fn release()
 /// No lock: bits of other slots stay, and a bit that is set twice is set.
 pub fn announce()
     ensures { IsLaw AnnouncingNext (λ w p. mask_told p)
-        (λ p n. bit_or n (bit_of (slot_of p))) (λ p n. Tell) }
+        (λ p n. bit_or n (bit_of (slot_of p))) (λ p n. Announce) }
 {}
 
 /// A swap of an own mask word with 0.

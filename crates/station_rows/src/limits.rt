@@ -5,7 +5,7 @@ use crate::form::Form;
 use crate::worker_calls::{Piece, Sets};
 use plain_slots::table::PlainTable;
 use slot_proto::proto::Proto;
-use slot_station::notes::History;
+use slot_station::ghost_list::History;
 use slot_station::reply::MakeRefusal;
 use std::alloc::Global;
 use std::process::Abort;

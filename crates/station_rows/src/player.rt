@@ -113,14 +113,14 @@ pub(crate) fn call<S: Station<Piece>, L: Ledger>(
         Act::AdmitGot(q) | Act::AdmitLost(q, _) => worker_calls::admit(
             rt, station, place, sets, hand, q, steps,
         ),
-        Act::Note(k) => worker_calls::note_done(rt, station, place, hand, k, steps),
-        Act::Total(total) => worker_calls::set_total(rt, station, place, hand, total, steps),
+        Act::NoteDone(k) => worker_calls::note_done(rt, station, place, hand, k, steps),
+        Act::SetTotal(total) => worker_calls::set_total(rt, station, place, hand, total, steps),
         Act::Install(id) => worker_calls::install(rt, station, place, sets, hand, id, steps),
         Act::Release => (
             worker_calls::release(rt, station, place, hand, steps),
             Hand::Nothing,
         ),
-        Act::Tell => worker_calls::tell(rt, station, place, hand, steps),
+        Act::Announce => worker_calls::tell(rt, station, place, hand, steps),
         _ => call_at_slot(rt, station, place, hand, act, steps),
     }
 }

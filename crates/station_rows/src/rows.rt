@@ -32,7 +32,7 @@ fn opens(worker: u32, s: u32, id: u32, total: u32) -> [(u32, Act); 4] {
     [
         (worker, Act::ReserveGot(s)),
         (worker, Act::AdmitGot(id / STAGES)),
-        (worker, Act::Total(total)),
+        (worker, Act::SetTotal(total)),
         (worker, Act::Install(id)),
     ]
 }
@@ -57,8 +57,8 @@ fn pays_before_the_sweep<T: Form, L: Ledger>(
     let mut table = table::<T>(alloc, 1, 2, &[(0, 0)])?;
     table.play(rt, &opens(0, 0, 0, 0), steps);
     let entries = [
-        (0, Act::Tell),
-        (0, Act::Tell),
+        (0, Act::Announce),
+        (0, Act::Announce),
         (0, Act::Enter(0)),
         (0, Act::LookOpen(0)),
         (0, Act::ClaimUsed(16)),
@@ -87,9 +87,9 @@ fn two_pay_before_the_sweep<T: Form, L: Ledger>(
     let mut table = table::<T>(alloc, 1, 3, &[(0, 0)])?;
     table.play(rt, &opens(0, 0, 0, 0), steps);
     let entries = [
-        (0, Act::Tell),
-        (0, Act::Tell),
-        (0, Act::Tell),
+        (0, Act::Announce),
+        (0, Act::Announce),
+        (0, Act::Announce),
         (1, Act::Enter(0)),
         (2, Act::Enter(0)),
     ];
@@ -122,7 +122,7 @@ fn a_stranger_pays_last<T: Form, L: Ledger>(
     let mut table = table::<T>(alloc, 1, 2, &[(0, 0)])?;
     table.play(rt, &[(1, Act::Enter(0)), (1, Act::LookVacant)], steps);
     table.play(rt, &opens(0, 0, 0, 0), steps);
-    table.play(rt, &[(0, Act::Tell), (0, Act::Tell)], steps);
+    table.play(rt, &[(0, Act::Announce), (0, Act::Announce)], steps);
     table.play(rt, &shuts(0, 0, 0), steps);
     let entries = [
         (0, Act::MarkMarked),
@@ -134,7 +134,7 @@ fn a_stranger_pays_last<T: Form, L: Ledger>(
     assert_eq!(rt; table.held(1), Some((Some(0), 0)));
     table.expect_counter(rt, 0, 4_294_967_296);
     let entries = [
-        (1, Act::Note(1)),
+        (1, Act::NoteDone(1)),
         (1, Act::Release),
         (1, Act::Finished(1)),
         (1, Act::Arrivals(1)),
@@ -153,9 +153,9 @@ fn after_a_query<T: Form, L: Ledger>(
     let mut table = table::<T>(alloc, 1, 3, &[(0, 0), (8, 5), (9, 7)])?;
     table.play(rt, &opens(0, 0, 0, 0), steps);
     let entries = [
-        (0, Act::Tell),
-        (0, Act::Tell),
-        (0, Act::Tell),
+        (0, Act::Announce),
+        (0, Act::Announce),
+        (0, Act::Announce),
         (2, Act::TakeChange(0, 1)),
         (2, Act::Enter(0)),
         (2, Act::LookOpen(0)),
@@ -167,7 +167,7 @@ fn after_a_query<T: Form, L: Ledger>(
         (0, Act::MarkMissed),
         (0, Act::MarkMissed),
         (0, Act::SweepLast),
-        (0, Act::Note(1)),
+        (0, Act::NoteDone(1)),
         (0, Act::Release),
     ];
     table.play(rt, &entries, steps);
@@ -183,8 +183,8 @@ fn notices_outlive_a_query<T: Form, L: Ledger>(
     let mut table = after_a_query::<T, L>(rt, alloc, steps)?;
     table.play(rt, &opens(0, 0, 8, 5), steps);
     let entries = [
-        (0, Act::Tell),
-        (0, Act::Tell),
+        (0, Act::Announce),
+        (0, Act::Announce),
         (1, Act::Enter(0)),
         (1, Act::LookOpen(8)),
         (1, Act::ClaimRange(16, 0, 5)),
@@ -196,18 +196,18 @@ fn notices_outlive_a_query<T: Form, L: Ledger>(
         (1, Act::MarkMissed),
         (1, Act::MarkMissed),
         (1, Act::SweepLast),
-        (1, Act::Note(1)),
-        (1, Act::Total(7)),
+        (1, Act::NoteDone(1)),
+        (1, Act::SetTotal(7)),
         (1, Act::Install(9)),
-        (1, Act::Tell),
-        (1, Act::Tell),
-        (1, Act::Tell),
+        (1, Act::Announce),
+        (1, Act::Announce),
+        (1, Act::Announce),
         (2, Act::TakeReturn(0, 1)),
         (2, Act::TakeChange(0, 0)),
         (2, Act::Enter(0)),
         (2, Act::LookOpen(9)),
         (2, Act::LeaveLeft),
-        (0, Act::Tell),
+        (0, Act::Announce),
         (2, Act::TakeChange(0, 1)),
         (2, Act::Enter(0)),
         (2, Act::LookOpen(9)),
@@ -224,13 +224,13 @@ fn filled_again<T: Form, L: Ledger>(
 ) -> Result<(), Fail> {
     let mut table = table::<T>(alloc, 1, 2, &[(0, 0), (8, 5)])?;
     table.play(rt, &opens(0, 0, 0, 0), steps);
-    table.play(rt, &[(0, Act::Tell), (0, Act::Tell)], steps);
+    table.play(rt, &[(0, Act::Announce), (0, Act::Announce)], steps);
     table.play(rt, &shuts(0, 0, 0), steps);
     let entries = [
         (0, Act::MarkMissed),
         (1, Act::Enter(0)),
         (0, Act::SweepLast),
-        (0, Act::Note(1)),
+        (0, Act::NoteDone(1)),
         (0, Act::Release),
     ];
     table.play(rt, &entries, steps);
@@ -255,11 +255,11 @@ fn reserves_once<T: Form, L: Ledger>(
         (1, Act::ReserveTaken(0, 1)),
         (0, Act::AdmitLost(1, 0)),
         (0, Act::AdmitGot(0)),
-        (0, Act::Total(0)),
+        (0, Act::SetTotal(0)),
         (0, Act::Install(0)),
         (1, Act::ReserveTaken(0, 6)),
-        (0, Act::Tell),
-        (0, Act::Tell),
+        (0, Act::Announce),
+        (0, Act::Announce),
     ];
     table.play(rt, &entries, steps);
     table.play(rt, &shuts(0, 0, 0), steps);
@@ -277,7 +277,7 @@ fn queries_take_turns<T: Form, L: Ledger>(
     for (id, word, finished) in [(0, 6, 1), (8, 38, 2), (16, 70, 3)] {
         table.play(rt, &opens(0, 0, id, 3), steps);
         let entries = [
-            (0, Act::Tell),
+            (0, Act::Announce),
             (0, Act::ReserveTaken(0, word)),
             (0, Act::Enter(0)),
             (0, Act::LookOpen(id)),
@@ -289,7 +289,7 @@ fn queries_take_turns<T: Form, L: Ledger>(
         table.play(rt, &shuts(0, 0, id), steps);
         let entries = [
             (0, Act::SweepLast),
-            (0, Act::Note(1)),
+            (0, Act::NoteDone(1)),
             (0, Act::Release),
             (0, Act::Finished(finished)),
         ];
@@ -307,8 +307,8 @@ fn ranges_follow<T: Form, L: Ledger>(
     let mut table = table::<T>(alloc, 1, 2, &[(0, 100)])?;
     table.play(rt, &opens(0, 0, 0, 100), steps);
     let entries = [
-        (0, Act::Tell),
-        (0, Act::Tell),
+        (0, Act::Announce),
+        (0, Act::Announce),
         (0, Act::Enter(0)),
         (0, Act::LookOpen(0)),
         (0, Act::ClaimRange(16, 0, 16)),
@@ -331,8 +331,8 @@ fn one_of_two_shuts<T: Form, L: Ledger>(
     let mut table = table::<T>(alloc, 2, 2, &[(0, 0)])?;
     table.play(rt, &opens(0, 1, 0, 0), steps);
     let entries = [
-        (0, Act::Tell),
-        (0, Act::Tell),
+        (0, Act::Announce),
+        (0, Act::Announce),
         (1, Act::TakeChange(0, 2)),
         (1, Act::TakeChange(1, 0)),
         (1, Act::Enter(1)),
@@ -361,8 +361,8 @@ fn notices_of_the_second_part<T: Form, L: Ledger>(
     let mut table = table::<T>(alloc, 65, 2, &[(0, 0), (1, 5)])?;
     table.play(rt, &opens(0, 64, 0, 0), steps);
     let entries = [
-        (0, Act::Tell),
-        (0, Act::Tell),
+        (0, Act::Announce),
+        (0, Act::Announce),
         (1, Act::TakeChange(1, 1)),
         (1, Act::TakeChange(0, 0)),
     ];
@@ -371,11 +371,11 @@ fn notices_of_the_second_part<T: Form, L: Ledger>(
     let entries = [
         (0, Act::MarkMissed),
         (0, Act::SweepLast),
-        (0, Act::Note(1)),
-        (0, Act::Total(5)),
+        (0, Act::NoteDone(1)),
+        (0, Act::SetTotal(5)),
         (0, Act::Install(1)),
-        (0, Act::Tell),
-        (0, Act::Tell),
+        (0, Act::Announce),
+        (0, Act::Announce),
         (1, Act::TakeReturn(1, 1)),
         (1, Act::TakeReturn(0, 0)),
         (1, Act::TakeChange(1, 0)),

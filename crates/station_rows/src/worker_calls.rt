@@ -414,7 +414,7 @@ pub(crate) fn note_done<S: Station<Piece>, L: Ledger>(
     assert!(rt; k <= STAGES);
     assert!(rt; held.stage <= STAGES - k);
     station.note_done(&mut holder, k, steps);
-    (Act::Note(k), Hand::Holder(holder))
+    (Act::NoteDone(k), Hand::Holder(holder))
 }
 
 pub(crate) fn set_total<S: Station<Piece>, L: Ledger>(
@@ -432,7 +432,7 @@ pub(crate) fn set_total<S: Station<Piece>, L: Ledger>(
     assert!(rt; held.query.is_some());
     assert!(rt; total <= MOST_TOTAL);
     station.set_total(&mut holder, total, steps);
-    (Act::Total(total), Hand::Holder(holder))
+    (Act::SetTotal(total), Hand::Holder(holder))
 }
 
 /// Puts a piece of this task set, or of none nothing, into every cell of the slot that is held.
@@ -531,10 +531,10 @@ pub(crate) fn tell<S: Station<Piece>, L: Ledger>(
     assert!(rt; told < workers);
     station.announce(&mut announcer, steps);
     if announcer.told < workers {
-        return (Act::Tell, Hand::Announcer(announcer));
+        return (Act::Announce, Hand::Announcer(announcer));
     }
     station.told_all(announcer);
-    (Act::Tell, Hand::Nothing)
+    (Act::Announce, Hand::Nothing)
 }
 
 pub(crate) fn take_return<S: Station<Piece>, L: Ledger>(

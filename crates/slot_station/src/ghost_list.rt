@@ -18,21 +18,21 @@ impl<E> TableRule<E, LinkedList<E>, ()> for AnyWord {
 }
 
 /// What is said is one more in the view.
-struct Noting;
+struct Push;
 
-impl<E> Play<E, LinkedList<E>> for Noting {
-    ghost use Rattle.slot_station.specs.Notes.{Adds};
+impl<E> Play<E, LinkedList<E>> for Push {
+    ghost use Rattle.slot_station.specs.GhostLists.{Adds};
 
     ghost then = { Adds };
 }
 
-/// The values that were noted so far, the newest first. Contracts see the list.
-pub struct Notes<E> {
+/// The values added so far, the newest first. Contracts see the list.
+pub struct GhostList<E> {
     table: Table<E, LinkedList<E>, (), AnyWord, Global>,
     seat: Seat<E, LinkedList<E>>,
 }
 
-impl<E> Model for Notes<E> {
+impl<E> Model for GhostList<E> {
     ghost Value = { List E };
 
     ghost view = { λ n. n.seat.me.0 };
@@ -40,39 +40,39 @@ impl<E> Model for Notes<E> {
     ghost invariant = { λ n. (n.seat.table_id ≡ n.table.shared.table_id) × (0 < n.table.shared.table_id.words) × (n.table.shared.table_id.slots ≡ 0) × (n.seat.me.1 ≡ []) };
 }
 
-impl<E> Notes<E> {
-    /// Nothing is noted yet.
-    pub fn new(alloc: Global) -> Result<Notes<E>, AllocError>
+impl<E> GhostList<E> {
+    /// An empty list.
+    pub fn new(alloc: Global) -> Result<GhostList<E>, AllocError>
         ensures { IfOk result (λ n. n ≡ []) }
     {
         let (table, seat) = Table::of_words(alloc, &[0], &())?;
-        Ok(Notes { table, seat })
+        Ok(GhostList { table, seat })
     }
 
-    /// Notes one more value. It takes no memory.
-    pub fn note(&mut self, item: &E)
+    /// Adds one value. It takes no memory.
+    pub fn push(&mut self, item: &E)
         ensures { self.new ≡ item.now ∷ self.old }
     {
         let table = &self.table;
         table
             .shared
-            .compare_exchange_with::<Noting>(&mut self.seat, 0, 0, 0, item);
+            .compare_exchange_with::<Push>(&mut self.seat, 0, 0, 0, item);
     }
 
-    /// What was noted, in a form that says nothing of how it was noted. It takes no memory.
+    /// The list, in a form that says nothing of how it was made. It takes no memory.
     pub fn into_badge(self) -> Badge<LinkedList<E>>
         ensures { result.views ≡ self ∷ [] }
     {
-        let Notes { table, seat } = self;
+        let GhostList { table, seat } = self;
         let badge = seat.into_badge();
         table.close().free();
         badge
     }
 }
 
-impl<E> Drop for Notes<E> {
+impl<E> Drop for GhostList<E> {
     fn drop(self) {
-        let Notes { table, seat } = self;
+        let GhostList { table, seat } = self;
         drop(seat);
         table.close().free();
     }

@@ -17,10 +17,10 @@ invariant_of-self c =
     let (k, step) = c.requires in
     let q = c.index_mut-place.result.now in
     kept c.self.inside c.self.invariant c.args.self.now c.self.view_is c.args.worker k c.args.address c.args.new c.args.act.now step c.index.result
-    c.index.ensures q c.place_after.result c.index_mut-place.ensures.value c.place_after.ensures c.note.new.self c.note.ensures
+    c.index.ensures q c.place_after.result c.index_mut-place.ensures.value c.place_after.ensures c.push.new.self c.push.ensures
 
 pub returns : goal.returns
 returns c =
     let (k, step) = c.requires in
-    called c.self.inside c.self.invariant c.args.self.now c.self.view_is c.args.worker k c.args.address c.args.new c.args.act.now step c.note.new.self
-    c.note.ensures
+    called c.self.inside c.self.invariant c.args.self.now c.self.view_is c.args.worker k c.args.address c.args.new c.args.act.now step c.push.new.self
+    c.push.ensures

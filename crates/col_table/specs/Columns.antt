@@ -23,4 +23,5 @@ HasRoom column = vec_len column < vec_capacity column
 -- each column has one more value, which a row gives
 pub record IsExtended (old new : List (List ℤ)) (row : List ℤ) : Type 0 where
   pub count : length new ≡ length old
-  pub each : (place : ℕ) → place < length old → slice_index_or new place [] ≡ slice_index_or old place [] ++ value_in row place ∷ []
+  pub each : (place : ℕ) → place < length old →
+      slice_index_or new place [] ≡ slice_index_or old place [] ++ value_in row place ∷ []

@@ -2,7 +2,7 @@
 use Rattle.std.specs.Prelude.{ℕ, ◌≤◌, ◌≢◌, List, length, All, IsUtf8}
 use Rattle.col_table.specs.declared.name.TheConstants.{MAX_NAME_BYTES}
 
--- a byte that is part of no ASCII control character: in UTF-8 a byte below U+0020, and U+007F, stand for themselves alone
+-- a byte that is not an ASCII control character (in UTF-8 no other character contains such a byte)
 abbrev pub IsPlain : ℕ → Type 0
 IsPlain byte = (0x20 ≤ byte) × (byte ≢ 0x7f)
 

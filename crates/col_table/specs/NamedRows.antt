@@ -2,7 +2,7 @@
 use Rattle.std.specs.Prelude.{ℕ, ℤ, pos, ◌≡◌, ◌<◌, ◌≤◌, List, [], ◌∷◌, ◌++◌, length, map, All, slice_index_or}
 use Rattle.col_table.specs.declared.table.TheConstants.{MAX_COLUMNS, MAX_ROWS}
 
--- names, and rows of values that stand under them
+-- names, and rows of values, one value for each name
 pub record NamedRows : Type 0 where
   pub names : List (List ℕ)
   pub rows : List (List ℤ)
@@ -11,15 +11,16 @@ pub record NamedRows : Type 0 where
 abbrev pub name_at : List (List ℕ) → ℕ → List ℕ
 name_at names place = slice_index_or names place []
 
--- the name at this place stood before
+-- the name at this place repeats an earlier one
 abbrev pub StoodBefore : List (List ℕ) → ℕ → Type 0
-StoodBefore names place = (earlier : ℕ) × (earlier < place) × (name_at names earlier ≡ name_at names place)
+StoodBefore names place =
+    (earlier : ℕ) × (earlier < place) × (name_at names earlier ≡ name_at names place)
 
--- no name stood before
+-- no name repeats an earlier one
 abbrev pub AllDiffer : List (List ℕ) → Type 0
 AllDiffer names = (place : ℕ) → place < length names → ¬ (StoodBefore names place)
 
--- the first place whose name stood before
+-- the first place whose name repeats an earlier one
 pub record IsFirstTwice (names : List (List ℕ)) (place : ℕ) : Type 0 where
   pub within : place < length names
   pub twice : StoodBefore names place
@@ -45,7 +46,7 @@ no_rows names = record { names = names; rows = [] }
 abbrev pub with_row : NamedRows → List ℤ → NamedRows
 with_row table row = record { names = table.names; rows = table.rows ++ row ∷ [] }
 
--- the value of a row in a column, and 0 where there is none
+-- the value of a row in a column, or 0 if there is none
 abbrev pub value_in : List ℤ → ℕ → ℤ
 value_in row column = slice_index_or row column (pos 0)
 

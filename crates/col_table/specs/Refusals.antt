@@ -1,18 +1,18 @@
--- Why names make no table.
+-- Why names can't head a table.
 use Rattle.std.specs.Prelude.{ℕ, ◌≡◌, ◌<◌, ◌≤◌, List, length}
 use Rattle.col_table.specs.NamedRows.{IsHeading, IsFirstTwice}
 use Rattle.col_table.specs.declared.table.TheConstants.{MAX_COLUMNS}
 use Rattle.col_table.specs.declared.table.ShapeRefusal.{ShapeRefusal}
 use Rattle.col_table.specs.declared.table.ShapeRefusal.TheVariants.{NoColumns, TooManyColumns, TwiceNamed, OutOfMemory}
 
--- why names may not head a table, the first cause in the order of the cases
+-- why names can't head a table: the first cause, in the order of the cases
 abbrev pub RefusesHeading : List (List ℕ) → ShapeRefusal → Type 0
 RefusesHeading names NoColumns = length names ≡ 0
 RefusesHeading names TooManyColumns = MAX_COLUMNS < length names
 RefusesHeading names (TwiceNamed place) = (length names ≤ MAX_COLUMNS) × IsFirstTwice names place
 RefusesHeading names OutOfMemory = ⊥
 
--- the cause of each refusal of names; memory may be wanting only where nothing else is wrong
+-- the cause of each refusal of names; out of memory only if nothing else is wrong
 abbrev pub RefusesNames : List (List ℕ) → ShapeRefusal → Type 0
 RefusesNames names NoColumns = RefusesHeading names NoColumns
 RefusesNames names TooManyColumns = RefusesHeading names TooManyColumns

@@ -7,7 +7,10 @@ use Rattle.col_table.specs.declared.table.TheConstants.{MAX_ROWS}
 
 -- the table that the fields are
 abbrev pub table_stored : Inside → NamedRows
-table_stored fields = record { names = fields.names.items; rows = rows_across (values_of fields.columns.items) fields.row_count }
+table_stored fields = record {
+  names = fields.names.items;
+  rows = rows_across (values_of fields.columns.items) fields.row_count;
+}
 
 -- what the fields keep
 pub record IsStored (fields : Inside) : Type 0 where

@@ -1,11 +1,11 @@
 //! Integer tables: legal names, columns of `i64` values, and rows that are added one at a time.
 //!
-//! This is the lowest layer of the data side and stands on `std` alone. The layers above read tables
+//! This is the lowest layer of the data side and uses `std` alone. The layers above read tables
 //! from text, check queries against them and scan them.
 //!
-//! The one fact that they may use: a table is a list of names and a list of rows (`NamedRows`). Its names
-//! differ, there are 1 to 32 of them, each row has one value a name, and there are at most 1,048,576 rows
-//! (`IsTable`). That each name is legal is told where it is shown, by `ColumnName::as_str`.
+//! The one fact that they may use: a table is a list of names and a list of rows (`NamedRows`).
+//! There are 1 to 32 names, and no two are equal. Each row has one value for each name, and there
+//! are at most 1,048,576 rows (`IsTable`). `ColumnName::as_str` says that a name is valid.
 #![tactic(auto)]
 
 mod lists;

@@ -20,21 +20,21 @@ impl<T> Model for ListOf<T> {
 }
 
 impl<T> ListOf<T> {
-    /// The same items. It takes no memory.
+    /// The same items. It doesn't allocate.
     pub fn of(items: Vec<T>) -> ListOf<T>
         ensures { result ≡ items.items }
     {
         ListOf { items }
     }
 
-    /// The items, in order. It takes no memory.
+    /// The items, in order. It doesn't allocate.
     pub fn as_slice(&self) -> &[T]
         ensures { result.now ≡ self.now }
     {
         self.items.as_slice()
     }
 
-    /// The same items. It takes no memory.
+    /// The same items. It doesn't allocate.
     pub fn into_vec(self) -> Vec<T>
         ensures { result.items ≡ self }
     {
@@ -59,21 +59,21 @@ impl Model for Text {
 }
 
 impl Text {
-    /// The same text. It takes no memory.
+    /// The same text. It doesn't allocate.
     pub fn of(text: String) -> Text
         ensures { result ≡ string_bytes text }
     {
         Text { text }
     }
 
-    /// The text. It takes no memory.
+    /// The text. It doesn't allocate.
     pub fn as_str(&self) -> &str
         ensures { result.now ≡ self.now }
     {
         self.text.as_str()
     }
 
-    /// The same text. It takes no memory.
+    /// The same text. It doesn't allocate.
     pub fn into_string(self) -> String
         ensures { string_bytes result ≡ self }
     {

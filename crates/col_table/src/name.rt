@@ -8,13 +8,13 @@ use std::marker::Model;
 /// The greatest number of bytes of a name.
 pub const MAX_NAME_BYTES: usize = 64;
 
-/// A text that is no name, handed back as it was.
+/// A text that is not a valid name, unchanged.
 #[derive(Debug, Drop)]
 pub struct BadName(pub String);
 
-/// The name of a column: a text of 0 to 64 bytes without ASCII control characters, as `new` has it.
+/// The name of a column: a text of 0 to 64 bytes without ASCII control characters.
 ///
-/// Two names are equal exactly where their bytes are. The empty name is one too.
+/// Two names are equal exactly if their bytes are. The empty name is valid too.
 #[derive(Clone, Debug, Drop)]
 pub struct ColumnName {
     text: String,
@@ -34,11 +34,13 @@ impl Model for ColumnName {
 }
 
 impl ColumnName {
-    /// The name with this text: at most 64 bytes, with no character below U+0020 and without U+007F.
+    /// The name with this text. It has at most 64 bytes; none of its characters is below U+0020,
+    /// and none is U+007F.
     ///
-    /// Any other text is handed back. It takes no memory.
+    /// Any other text comes back unchanged, in `BadName`. The call doesn't allocate.
     pub fn new(text: String) -> Result<ColumnName, BadName>
-        ensures named { IfOk result (λ name. IsName (string_bytes text) × (name ≡ string_bytes text)) }
+        ensures named { IfOk result (λ name.
+            IsName (string_bytes text) × (name ≡ string_bytes text)) }
         ensures refused { IfErr result (λ bad. ¬ IsName (string_bytes text) × (bad.0 ≡ text)) }
     {
         if is_name(text.as_str()) {

@@ -15,23 +15,24 @@ pub const MAX_COLUMNS: usize = 32;
 /// The greatest number of rows of a table.
 pub const MAX_ROWS: u32 = 1_048_576;
 
-/// The limits of this layer: a table has at most 32 columns and 1,048,576 rows, and a name 64 bytes.
+/// The limits of this layer. A table has at most 32 columns and 1,048,576 rows, and a name at most
+/// 64 bytes.
 pub fn limits()
     ensures columns { MAX_COLUMNS ≡ 32 }
     ensures rows { MAX_ROWS ≡ 1_048_576 }
     ensures name { MAX_NAME_BYTES ≡ 64 }
 {}
 
-/// Why names make no table.
+/// Why names can't head a table.
 #[derive(Clone, Copy, Debug, PartialEq, Eq)]
 pub enum ShapeRefusal {
     /// There is no name.
     NoColumns,
     /// There are more than 32 names.
     TooManyColumns,
-    /// The first place, from 0, whose name stood before.
+    /// A name repeats an earlier one. The number is the first such place, counted from 0.
     TwiceNamed(u32),
-    /// Memory was wanting.
+    /// Out of memory.
     OutOfMemory,
 }
 
@@ -52,7 +53,7 @@ pub enum RowRefusal {
     /// The table has 1,048,576 rows.
     #[error("the table is full")]
     Full,
-    /// Memory was wanting.
+    /// Out of memory.
     #[error("out of memory")]
     OutOfMemory,
 }
@@ -70,7 +71,7 @@ impl From<AllocError> for RowRefusal {
 
 /// A table of `i64` values: 1 to 32 named columns and at most 1,048,576 rows.
 ///
-/// The values lie column by column, since a scan reads few columns of many rows.
+/// The values are stored column by column, since a scan reads few columns of many rows.
 #[derive(Debug, Drop)]
 pub struct Table {
     names: Vec<ColumnName>,
@@ -94,10 +95,11 @@ impl Model for Table {
 impl Table {
     /// The table with these names and no row.
     ///
-    /// The refusals come in the order `NoColumns`, `TooManyColumns`, `TwiceNamed`; memory is wanting only
-    /// where none of them holds. The names are dropped at a refusal.
+    /// Refusals are checked in the order `NoColumns`, `TooManyColumns`, `TwiceNamed`. `OutOfMemory`
+    /// means that none of them holds. A refusal drops the names.
     pub fn new(alloc: Global, names: Vec<ColumnName>) -> Result<Table, ShapeRefusal>
-        ensures made { IfOk result (λ table. IsHeading names.items × (table ≡ no_rows names.items)) }
+        ensures made { IfOk result (λ table.
+            IsHeading names.items × (table ≡ no_rows names.items)) }
         ensures refused { IfErr result (RefusesNames names.items) }
     {
         check_heading(names.as_slice())?;
@@ -109,8 +111,9 @@ impl Table {
         })
     }
 
-    /// Adds a row at the end. Room is made in every column before any is changed, so a refusal leaves
-    /// the table as it was.
+    /// Adds a row at the end.
+    ///
+    /// Every column gets room before any of them changes, so a refusal leaves the table as it was.
     pub fn push_row(&mut self, row: &[i64]) -> Result<(), RowRefusal>
         requires { length row.now ≡ length self.old.names }
         ensures ok { OnOk result (self.new ≡ with_row self.old row.now) }
@@ -127,7 +130,7 @@ impl Table {
         Ok(())
     }
 
-    /// The number of rows. It takes no memory.
+    /// The number of rows. It doesn't allocate.
     pub fn rows(&self) -> u32
         ensures count { result ≡ length self.now.rows }
         ensures table { IsTable self.now }
@@ -135,7 +138,7 @@ impl Table {
         self.row_count
     }
 
-    /// The number of columns. It takes no memory.
+    /// The number of columns. It doesn't allocate.
     pub fn cols(&self) -> u32
         ensures count { result ≡ length self.now.names }
         ensures table { IsTable self.now }
@@ -143,7 +146,7 @@ impl Table {
         self.names.len() as u32
     }
 
-    /// The name of a column, counted from 0. It takes no memory.
+    /// The name of a column, counted from 0. It doesn't allocate.
     pub fn name(&self, col: u32) -> &ColumnName
         requires { col < length self.now.names }
         ensures { slice_get self.now.names col ≡ Some result.now }
@@ -151,7 +154,7 @@ impl Table {
         &self.names[col as usize]
     }
 
-    /// The value in a row and a column, both counted from 0. It takes no memory.
+    /// The value in a row and a column, both counted from 0. It doesn't allocate.
     pub fn value(&self, row: u32, col: u32) -> i64
         requires row_within { row < length self.now.rows }
         requires col_within { col < length self.now.names }
@@ -160,7 +163,7 @@ impl Table {
         self.column(col)[row as usize]
     }
 
-    /// The values of a column, counted from 0, row by row and side by side. It takes no memory.
+    /// The values of a column, counted from 0, in the order of the rows. It doesn't allocate.
     pub fn column(&self, col: u32) -> &[i64]
         requires { col < length self.now.names }
         ensures { result.now ≡ column_of self.now col }
@@ -168,9 +171,10 @@ impl Table {
         self.columns[col as usize].as_slice()
     }
 
-    /// The column of a name, counted from 0, or `None` where no column has it. It takes no memory.
+    /// The column of a name, counted from 0, or `None` if no column has it. It doesn't allocate.
     pub fn find_column(&self, name: &ColumnName) -> Option<u32>
-        ensures found { MatchOption result (¬ (Contains self.now.names name.now)) (λ col. slice_get self.now.names col ≡ Some name.now) }
+        ensures found { MatchOption result (¬ (Contains self.now.names name.now)) (λ col.
+            slice_get self.now.names col ≡ Some name.now) }
         ensures table { IsTable self.now }
     {
         let col = self.names.iter().position(|other| other == name)?;
@@ -195,7 +199,7 @@ fn check_heading(names: &[ColumnName]) -> Result<(), ShapeRefusal>
     }
 }
 
-// The first place whose name stood before.
+// The first place whose name repeats an earlier one.
 fn first_twice(names: &[ColumnName]) -> Option<u32>
     requires { length names.now ≤ MAX_COLUMNS }
     ensures { MatchOption result (AllDiffer names.now) (IsFirstTwice names.now) }
@@ -208,9 +212,10 @@ fn first_twice(names: &[ColumnName]) -> Option<u32>
     None
 }
 
-// So many columns without a value.
+// This many columns without a value.
 fn empty_columns(alloc: Global, count: usize) -> Result<Vec<Vec<i64>>, AllocError>
-    ensures { IfOk result (λ columns. (length columns.items ≡ count) × All (λ column. column.items ≡ []) columns.items) }
+    ensures { IfOk result (λ columns. (length columns.items ≡ count)
+        × All (λ column. column.items ≡ []) columns.items) }
 {
     let mut columns = Vec::with_capacity(alloc, count)?;
     for _ in 0..count {

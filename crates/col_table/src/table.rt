@@ -1,6 +1,6 @@
 // Tables of integers, stored column by column.
 ghost use Rattle.std.specs.Prelude.{◌≡◌, ◌<◌, ◌≤◌, ◌↔◌, [], All, Contains, IfErr, IfOk, IsErrOf, MatchOption, OnErr, OnOk, Some, length, slice_get};
-ghost use Rattle.col_table.specs.Columns.{HasRoom, IsExtended, values_of};
+ghost use Rattle.col_table.specs.Columns.{HasRoom, IsExtended, rows_across, values_of};
 ghost use Rattle.col_table.specs.NamedRows.{AllDiffer, IsFirstTwice, IsHeading, IsTable, column_of, no_rows, value_at, with_row};
 ghost use Rattle.col_table.specs.Refusals.{RefusesHeading, RefusesNames};
 
@@ -108,6 +108,30 @@ impl Table {
             names,
             columns,
             row_count: 0,
+        })
+    }
+
+    /// The table with these names and these columns. Each column has one value for each row.
+    ///
+    /// The refusals are those of `new` but `OutOfMemory`, since the call doesn't allocate. A refusal
+    /// drops the names and the columns.
+    pub fn from_columns(
+        names: Vec<ColumnName>,
+        columns: Vec<Vec<i64>>,
+        rows: u32,
+    ) -> Result<Table, ShapeRefusal>
+        requires width { length columns.items ≡ length names.items }
+        requires heights { All (λ column. length column.items ≡ rows) columns.items }
+        requires few { rows ≤ MAX_ROWS }
+        ensures made { IfOk result (λ table. IsHeading names.items × (table ≡
+            record { names = names.items; rows = rows_across (values_of columns.items) rows })) }
+        ensures refused { IfErr result (RefusesHeading names.items) }
+    {
+        check_heading(names.as_slice())?;
+        Ok(Table {
+            names,
+            columns,
+            row_count: rows,
         })
     }
 

@@ -100,6 +100,18 @@ fn keeps_rows(rt: HostRuntime) -> Result<(), Fail> {
 }
 
 #[test]
+fn takes_whole_columns(rt: HostRuntime) -> Result<(), Fail> {
+    let mut names = Vec::new(rt.alloc());
+    names.push(name(&rt, "k")?)?;
+    let mut columns = Vec::new(rt.alloc());
+    columns.push([1, 2, 3].to_vec(rt.alloc())?)?;
+    let made = Table::from_columns(names, columns, 3);
+    let shown = made.map(|table| (table.rows(), table.cols()));
+    assert_eq!(rt; shown, Ok((3, 1)));
+    Ok(())
+}
+
+#[test]
 fn a_table_has_at_most_1_048_576_rows(rt: HostRuntime) -> Result<(), Fail> {
     let mut table = Table::new(rt.alloc(), names(&rt, &["v"])?)?;
     for row in 0..1_048_576 {

@@ -109,6 +109,31 @@ fn tells_the_first_refusal(rt: HostRuntime) {
     }
 }
 
+// The text of each refusal, as its error line has it.
+#[test]
+fn says_each_refusal(rt: HostRuntime) -> Result<(), Fail> {
+    for (refusal, want) in [
+        (TableRefusal::NoHeader, "no header"),
+        (TableRefusal::TooManyColumns, "too many columns"),
+        (TableRefusal::BadName(2), "bad name field 2"),
+        (TableRefusal::TwiceNamed(3), "named twice field 3"),
+        (TableRefusal::Ragged(1), "ragged record 1"),
+        (
+            TableRefusal::NotANumber(2, 3),
+            "not a number record 2 field 3",
+        ),
+        (
+            TableRefusal::OutOfRange(4, 1),
+            "out of range record 4 field 1",
+        ),
+        (TableRefusal::TooManyRows, "too many rows"),
+        (TableRefusal::OutOfMemory, "out of memory"),
+    ] {
+        assert_eq!(rt; format!(in rt.alloc(); "{refusal}")?.as_str(), want);
+    }
+    Ok(())
+}
+
 // Texts that stand for tables, and the text that their tables are written as.
 #[test]
 fn writes_what_it_loads(rt: HostRuntime) -> Result<(), Fail> {

@@ -4,7 +4,7 @@ use Rattle.std.specs.String.{string_bytes}
 use Rattle.outside_io.specs.declared.adapters.DirFiles.{DirFiles}
 use Rattle.outside_io.specs.declared.adapters.WriterSink.{WriterSink}
 
--- the names whose reading failed; `D` and `F` are the types of an open folder and of an open file
+-- the names whose reading failed; `D` and `F` are the types of an open folder and an open file
 abbrev pub failed_names : {R D F : Type 0} → DirFiles R D F → List (List ℕ)
 failed_names files = map (λ s. string_bytes s) files.failed.items
 

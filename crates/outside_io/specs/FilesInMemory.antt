@@ -19,7 +19,7 @@ failed_names files = map (λ s. string_bytes s) files.failed.items
 abbrev pub failing_calls : MemFiles → List ℕ
 failing_calls files = files.fails.items
 
--- how many calls were made; it stands still at 2^64 - 1
+-- how many calls were made; it stops at 2^64 - 1
 abbrev pub calls_made : MemFiles → ℕ
 calls_made files = files.calls
 
@@ -27,10 +27,10 @@ calls_made files = files.calls
 abbrev pub next_call_fails : MemFiles → Bool
 next_call_fails files = list_any (λ n. n == min (files.calls + 1) (2 ^ 64 - 1)) files.fails.items
 
--- the file that the next call on a name reads; none where that call fails
+-- the file that the next call on a name reads; none if that call fails
 abbrev pub file_read_next : MemFiles → List ℕ → Option (List ℕ)
 file_read_next files name = if next_call_fails files then None else added_bytes files name
 
--- the bytes of a name: those added under it, or none at all
+-- the bytes added under a name; the empty list if there are none
 abbrev pub sure_bytes : SureFiles → List ℕ → List ℕ
 sure_bytes files name = unwrap_or (option_map (λ v. v.items) (get_by_text files.files name)) []

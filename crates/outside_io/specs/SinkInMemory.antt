@@ -15,19 +15,20 @@ room_left sink = sink.room - length sink.taken.items
 abbrev pub next_write_fails : MemSink → Bool
 next_write_fails sink = list_any (λ n. n == min (sink.calls + 1) (2 ^ 64 - 1)) sink.fails.items
 
--- whether the next call refuses this piece: it is one of those that fail, or the piece finds no room
+-- whether the next call refuses this piece: the call is one that fails, or the piece finds no room
 abbrev pub refuses_piece : MemSink → List ℕ → Bool
-refuses_piece sink piece = next_write_fails sink || (nat_lt 0 (length piece) && (room_left sink == 0))
+refuses_piece sink piece =
+    next_write_fails sink || (nat_lt 0 (length piece) && (room_left sink == 0))
 
--- how many bytes the next call takes of a piece that it does not refuse
+-- how many bytes the next call takes of a piece that it doesn't refuse
 abbrev pub bytes_taken : MemSink → List ℕ → ℕ
 bytes_taken sink piece = min sink.most (min (room_left sink) (length piece))
 
--- how many calls failed; it stands still at 2^64 - 1
+-- how many calls failed; it stops at 2^64 - 1
 abbrev pub faults_met : MemSink → ℕ
 faults_met sink = sink.faults
 
--- a sink with nothing in it, and with these terms
+-- an empty sink with these terms
 pub record IsFreshSink (sink : MemSink) (room most : ℕ) (fails : List ℕ) : Type 0 where
   pub taken : sink.taken.items ≡ []
   pub room_is : sink.room ≡ room

@@ -11,9 +11,13 @@ use std::{fs, io, rt};
 
 /// The files of the file system. Contracts know nothing of what they hold.
 ///
-/// A file is opened at a piece from its start, and at a piece of another name than the last. It stays
-/// open for the pieces of that name that follow. So a file that is replaced while it is read is read as
-/// the old one or the new one. A file that is overwritten in place may still be read as a mix of both.
+/// A file is opened for a piece from its start, and for a piece of another name than the last. It
+/// stays open for the pieces of that name that follow. So a file that is replaced while it is read
+/// is read as the old one or the new one. A file that is overwritten in place may still be read as
+/// a mix of both.
+///
+/// An error of the file system is [`PieceRefusal::Failed`]. It closes the file, so the next piece
+/// opens it anew.
 #[derive(Drop)]
 pub struct DirFiles<R: rt::Files> {
     rt: R,
@@ -32,7 +36,7 @@ struct OpenFile<T> {
 impl<R: rt::Files> DirFiles<R> {
     ghost use Rattle.outside_io.specs.Adapters.{failed_names};
 
-    /// No file is open, and none failed.
+    /// Files of which none is open and none has failed.
     pub fn new(rt: R, alloc: Global) -> DirFiles<R>
         ensures { failed_names result ≡ [] }
     {
@@ -99,7 +103,9 @@ fn read_from<T: Read + Seek>(file: &mut T, at: u64, buf: &mut [u8]) -> io::Resul
     file.read(buf)
 }
 
-/// A sink over a writer. It tells what was written as far as the writer does.
+/// A sink over a writer. Contracts know what was written if the writer exposes it.
+///
+/// An error of the writer is a fault, and so is a write that takes nothing of a piece with bytes.
 #[derive(Drop)]
 pub struct WriterSink<W> {
     writer: W,
@@ -109,7 +115,7 @@ pub struct WriterSink<W> {
 impl<W: Write> WriterSink<W> {
     ghost use Rattle.outside_io.specs.Adapters.{faults_of, writer_of};
 
-    /// No fault yet.
+    /// A sink that has met no fault.
     pub fn over(writer: W) -> WriterSink<W>
         ensures faults { faults_of result ≡ 0 }
         ensures writer { writer_of result ≡ writer }
@@ -136,13 +142,13 @@ impl<W: Write> Sink for WriterSink<W> {
     }
 }
 
-/// Standard output. It tells nothing of what was written.
+/// Standard output. Contracts don't know what was written to it.
 pub type StdSink<R> = WriterSink<StdWriter<R>>;
 
 impl<R: Print> WriterSink<StdWriter<R>> {
     ghost use Rattle.outside_io.specs.Adapters.{faults_of};
 
-    /// No fault yet.
+    /// A sink that has met no fault.
     pub fn new(rt: R) -> StdSink<R>
         ensures { faults_of result ≡ 0 }
     {
@@ -150,7 +156,7 @@ impl<R: Print> WriterSink<StdWriter<R>> {
     }
 }
 
-/// Standard output as a writer: each write is one call of the system.
+/// Standard output as a writer. Each write is one system call.
 #[derive(Drop)]
 pub struct StdWriter<R> {
     rt: R,

@@ -1,9 +1,9 @@
 //! Places where a worker can be held up.
 
-/// What a worker passes before it works on a range that it claimed. A test holds workers up there, so that
-/// they meet. It changes nothing that a contract sees.
+/// What a worker passes before it works on a range that it claimed. A test can hold workers up
+/// there, so that they meet. A gate changes nothing that a contract sees.
 pub trait Gate {
-    /// Returns when the worker may go on. `call` is how many ranges it began before.
+    /// Returns when the worker may go on. `call` is the number of ranges that it began before.
     fn pass(&self, worker: u32, call: u64);
 }
 
@@ -12,7 +12,7 @@ pub trait Gate {
 pub struct OpenGate;
 
 impl OpenGate {
-    /// The gate. It has no state.
+    /// A gate. It has no state.
     pub fn new() -> OpenGate {
         OpenGate
     }

@@ -1,13 +1,13 @@
 //! What a program meets outside itself: files that it reads in pieces, a place that it writes to, a
 //! meter of the time that work takes, and a gate that holds workers up.
 //!
-//! The layer stands on no other. It has a trait for each, the loops that read a whole file and write a
-//! whole text, forms in memory whose contents are known, the adapter of the real files, and sinks over
-//! writers, of which standard output is one.
+//! The layer stands on no other. It has a trait for each, and two loops: one reads a whole file,
+//! one writes a whole text. The forms in memory expose their contents to contracts. The adapters of
+//! the real files and of standard output expose none.
 //!
-//! The one fact for the layer above: a read that fails puts just the name that was asked on the list of
-//! faults, and a write that fails raises the count of faults by one. What was read and written is exact
-//! where contents are known.
+//! The one fact for the layer above: a read that fails adds exactly the name that was asked to the
+//! list of faults, and a write that fails raises the count of faults by one. Contracts say exactly
+//! what was read and written if the contents are known.
 #![tactic(auto)]
 
 pub mod adapters;

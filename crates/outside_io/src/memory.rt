@@ -1,4 +1,4 @@
-//! Files and a sink in memory, which tell what they hold.
+//! Files and a sink in memory, whose contents contracts know.
 ghost use Rattle.std.specs.Prelude.{Some, ◌≡◌, ℕ, ◌+◌, ◌-◌, ◌^◌, ◌<◌, ◌≤◌, min, List, [], IfOk, IfSome, IsErr, OnErr, OnOk, MatchBool, MatchOption, if◌then◌else◌, length, vec_capacity, vec_len};
 ghost use Rattle.std.specs.String.{string_bytes};
 ghost use Rattle.std.specs.Str.{bytes_eq};
@@ -12,7 +12,7 @@ use super::writing::{Failed, Sink};
 use std::alloc::{AllocError, Global};
 use std::collections::BTreeMap;
 
-/// Files in memory, of which chosen calls fail.
+/// Files in memory. Chosen calls of `read_piece` fail.
 #[derive(Drop)]
 pub struct MemFiles {
     files: BTreeMap<String, Vec<u8>>,
@@ -25,7 +25,8 @@ pub struct MemFiles {
 impl MemFiles {
     ghost use Rattle.outside_io.specs.FilesInMemory.{added_bytes, failed_names, failing_calls, calls_made};
 
-    /// No file yet. Calls of `read_piece` are numbered from 1, and those numbered in `fails` fail.
+    /// No file yet. Calls of `read_piece` are numbered from 1, and those whose number is in `fails`
+    /// fail.
     pub fn new(alloc: Global, fails: Vec<u64>) -> MemFiles
         ensures empty { (any : List ℕ) → added_bytes result any ≡ None }
         ensures fails { failing_calls result ≡ fails.items }
@@ -41,12 +42,13 @@ impl MemFiles {
         }
     }
 
-    /// Puts a file under a name, in place of the one that stood there. A refusal leaves the files as they
-    /// were.
+    /// Adds a file, or replaces the one of this name. A refusal leaves the files as they were.
     pub fn add(&mut self, name: String, bytes: Vec<u8>) -> Result<(), AllocError>
         ensures added { OnOk result ((any : List ℕ) → added_bytes self.new any
-            ≡ (if bytes_eq (string_bytes name) any then Some bytes.items else added_bytes self.old any)) }
-        ensures kept { OnErr result ((any : List ℕ) → added_bytes self.new any ≡ added_bytes self.old any) }
+            ≡ (if bytes_eq (string_bytes name) any then Some bytes.items
+            else added_bytes self.old any)) }
+        ensures kept { OnErr result
+            ((any : List ℕ) → added_bytes self.new any ≡ added_bytes self.old any) }
         ensures fails { failing_calls self.new ≡ failing_calls self.old }
         ensures calls { calls_made self.new ≡ calls_made self.old }
         ensures failed { failed_names self.new ≡ failed_names self.old }
@@ -110,12 +112,12 @@ impl SureFiles {
         }
     }
 
-    /// Puts a file under a name, in place of the one that stood there. A refusal leaves the files as they
-    /// were.
+    /// Adds a file, or replaces the one of this name. A refusal leaves the files as they were.
     pub fn add(&mut self, name: String, bytes: Vec<u8>) -> Result<(), AllocError>
         ensures added { OnOk result ((any : List ℕ) → sure_bytes self.new any
             ≡ (if bytes_eq (string_bytes name) any then bytes.items else sure_bytes self.old any)) }
-        ensures kept { OnErr result ((any : List ℕ) → sure_bytes self.new any ≡ sure_bytes self.old any) }
+        ensures kept { OnErr result
+            ((any : List ℕ) → sure_bytes self.new any ≡ sure_bytes self.old any) }
     {
         self.files.insert(name, bytes)?;
         Ok(())
@@ -131,15 +133,17 @@ impl Files for SureFiles {
 
     fn read_piece(&mut self, name: &str, at: u64, buf: &mut [u8]) -> Result<usize, PieceRefusal>
         ensures unchanged { self.new ≡ self.old }
-        ensures piece { IfOk result (λ count. IsPiece (sure_bytes self.old name.now) at buf.new count) }
-        ensures answer { result ≡ Ok (min (length buf.old) (length (sure_bytes self.old name.now) - at)) }
+        ensures piece { IfOk result (λ count.
+            IsPiece (sure_bytes self.old name.now) at buf.new count) }
+        ensures answer { result
+            ≡ Ok (min (length buf.old) (length (sure_bytes self.old name.now) - at)) }
     {
         let file = self.files.get(name).map_or(&[][..], |file| file.as_slice());
         Ok(copy_piece(file, at, buf))
     }
 }
 
-/// A sink in memory that takes so many bytes at a call, and of which chosen calls fail.
+/// A sink in memory that takes a limited number of bytes at each call. Chosen calls fail.
 #[derive(Drop)]
 pub struct MemSink {
     taken: Vec<u8>,
@@ -156,9 +160,10 @@ pub struct MemSink {
 impl MemSink {
     ghost use Rattle.outside_io.specs.SinkInMemory.{taken_bytes, IsFreshSink};
 
-    /// A sink with nothing in it, with room for `room` bytes, that takes `most` of them at a call at most.
-    /// Calls of `write_piece` are numbered from 1, and those numbered in `fails` fail, as does each call
-    /// with bytes that finds no room. All its memory is taken here.
+    /// An empty sink with room for `room` bytes, which takes at most `most` of them at each call.
+    ///
+    /// Calls of `write_piece` are numbered from 1, and those whose number is in `fails` fail. So
+    /// does each call with bytes that finds no room. Only this call allocates.
     pub fn new(alloc: Global, room: u32, most: u32, fails: Vec<u64>) -> Result<MemSink, AllocError>
         requires { 1 ≤ most }
         ensures { IfOk result (λ sink. IsFreshSink sink room most fails.items) }
@@ -191,7 +196,8 @@ impl Sink for MemSink {
     fn write_piece(&mut self, bytes: &[u8]) -> Result<usize, Failed>
         ensures within { IfOk result (λ count. count ≤ length bytes.now) }
         ensures goes_on { IfOk result (λ count. 0 < length bytes.now → 0 < count) }
-        ensures appended { WriteAppends (Some (taken_bytes self.old)) (Some (taken_bytes self.new)) result bytes.now }
+        ensures appended { WriteAppends
+            (Some (taken_bytes self.old)) (Some (taken_bytes self.new)) result bytes.now }
         ensures never_falls { faults_met self.old ≤ faults_met self.new }
         ensures ok { OnOk result (faults_met self.new ≡ faults_met self.old) }
         ensures failed { OnErr result (CountRose (faults_met self.old) (faults_met self.new)) }
@@ -212,7 +218,7 @@ impl Sink for MemSink {
     }
 }
 
-// Copies as much of the file from `at` on as the buffer has room for, and answers how much.
+// Copies as many bytes of the file from `at` on as the buffer has room for, and answers how many.
 fn copy_piece(file: &[u8], at: u64, buf: &mut [u8]) -> usize
     ensures count { result ≡ min (length buf.old) (length file.now - at) }
     ensures piece { IsPiece file.now at buf.new result }

@@ -1,27 +1,27 @@
 //! How long work takes.
 ghost use Rattle.std.specs.Prelude.{◌≡◌, ◌*◌, ℕ};
 
-/// What measures the time that work on a range of tuples takes. It cannot fail.
+/// What measures the time that work on a range of tuples takes. A meter can't fail.
 pub trait Meter {
-    // A range of so many tuples, at so many nanoseconds a tuple by the query's cost, may be said to take
-    // this many nanoseconds. A type that leaves it out may say any number.
+    // Which times `stop` may answer: the tuples of the range, the query's cost in nanoseconds a
+    // tuple, and the answer in nanoseconds. A type that leaves it out may answer any number.
     ghost may_take: { ℕ → ℕ → ℕ → Type 0 } = { λ _ _ _. Unit {0} };
 
-    /// The work begins.
+    /// The work on a range begins.
     fn start(&mut self);
 
-    /// The work that began at the last `start` is done, on so many tuples of a query of this cost. Answers
-    /// the nanoseconds that it took.
+    /// The work that began at the last `start` is done. Answers the nanoseconds that it took.
+    /// `tuples` is the length of the range, and `cost` the query's nanoseconds a tuple.
     fn stop(&mut self, tuples: u32, cost: u32) -> u64
         ensures { may_take tuples cost result };
 }
 
-/// A meter that reads no clock: each tuple takes the nanoseconds that the query's cost says.
+/// A meter that reads no clock. Each tuple takes exactly the nanoseconds of the query's cost.
 #[derive(Clone, Copy, Debug, Default, PartialEq, Eq)]
 pub struct CostMeter;
 
 impl CostMeter {
-    /// The meter. It has no state.
+    /// A meter. It has no state.
     pub fn new() -> CostMeter {
         CostMeter
     }

@@ -6,7 +6,7 @@ ghost use Rattle.outside_io.specs.Pieces.{AppendsPiece, IsPiece};
 use std::alloc::Global;
 use thiserror::Error;
 
-/// The most bytes that a file or a script may hold.
+/// The most bytes that a table's file or a script may hold.
 pub const MOST_BYTES: u64 = 67_108_864;
 
 // How many bytes `read_whole` asks for at each call.
@@ -19,6 +19,9 @@ pub fn limits()
 {}
 
 /// Why a piece was not read.
+///
+/// `OutOfMemory` means that a fault could not be noted, or that the file could not be opened within
+/// the memory that is left. No fault is counted then.
 #[derive(Clone, Copy, Debug, PartialEq, Eq, Error)]
 pub enum PieceRefusal {
     #[error("the read failed")]
@@ -27,7 +30,7 @@ pub enum PieceRefusal {
     OutOfMemory,
 }
 
-/// Why a file was not read whole.
+/// Why a file was not read whole. The numbers are fixed.
 #[derive(Clone, Copy, Debug, PartialEq, Eq, Error)]
 pub enum ReadRefusal {
     #[error("the read failed")]
@@ -53,14 +56,17 @@ impl From<PieceRefusal> for ReadRefusal {
 
 /// Files that are read by name, in pieces.
 pub trait Files {
-    // What a name holds, where it is told. A type that tells nothing has none at every name.
+    // What the file of a name holds, if that is known. It is none if this type exposes no contents.
     ghost content: { Self → List ℕ → Option (List ℕ) } = { λ _ _. None };
 
-    // The names whose reading failed, one for each fault, in their order.
+    // The names whose reading failed, one for each fault, in order.
     ghost failed: { Self → List (List ℕ) };
 
-    /// Reads the bytes that stand from `at` on into the buffer, and answers how many: none exactly where
-    /// the buffer is empty or the file ends at or before `at`. A name that is not there is a fault.
+    /// Reads the bytes from offset `at` on into the buffer, and answers how many it read. It reads
+    /// none exactly if the buffer is empty or the file ends at or before `at`.
+    ///
+    /// A name that does not exist is a fault, so the answer is `Failed`. A refusal does not change
+    /// what the files hold.
     fn read_piece(&mut self, name: &str, at: u64, buf: &mut [u8]) -> Result<usize, PieceRefusal>
         ensures kept { (any : List ℕ) → content self.new any ≡ content self.old any }
         ensures within { IfOk result (λ count. count ≤ length buf.new) }
@@ -72,13 +78,15 @@ pub trait Files {
             NameFailed (failed self.old) (failed self.new) name.now }
         ensures only { result ≡ Err PieceRefusal.Failed →
             OnlyFailed (failed self.old) (failed self.new) name.now }
-        ensures memory { result ≡ Err PieceRefusal.OutOfMemory → failed self.new ≡ failed self.old };
+        ensures memory { result ≡ Err PieceRefusal.OutOfMemory →
+            failed self.new ≡ failed self.old };
 }
 
-/// Reads a file whole, in pieces of 65,536 bytes at most, each asked from the place where the bytes
-/// taken so far end, until a piece is empty or more than `limit` bytes were taken.
+/// Reads a file whole, in pieces of at most 65,536 bytes. Each piece begins at the offset at which
+/// the bytes taken so far end. The last piece is empty, or takes the total past `limit` bytes.
 ///
-/// `TooLong` says that the file holds more than `limit` bytes, and `Failed` that a piece failed.
+/// `TooLong` means that the file holds more than `limit` bytes. `Failed` means that a piece failed.
+/// After any refusal the bytes read so far are dropped.
 pub fn read_whole<F: Files>(
     alloc: Global,
     files: &mut F,
@@ -117,7 +125,7 @@ fn empty_piece(alloc: Global) -> Result<Vec<u8>, ReadRefusal>
     vec![in alloc; 0u8; PIECE].map_err(|_| ReadRefusal::OutOfMemory)
 }
 
-// Reads the piece that follows the bytes taken so far, appends it to them, and answers its length.
+// Reads the piece that follows the bytes taken so far, appends it, and answers its length.
 fn take_piece<F: Files>(
     files: &mut F,
     name: &str,

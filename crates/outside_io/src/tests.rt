@@ -1,3 +1,4 @@
+//! Tests: files read and sinks written, in memory and outside, with each call failing once.
 use super::*;
 use std::alloc::{AllocError, Global};
 use std::cell::{Cell, RefCell};
@@ -122,7 +123,7 @@ fn refusals_have_their_numbers(rt: HostRuntime) {
     assert_eq!(rt; refusals, [1, 2, 3]);
 }
 
-// A name in the folder for temporary files that no other test of this process and no other process has.
+// A name in the folder for temporary files. No other test and no other process uses it.
 fn temp_name<R: Env + AllocGlobal>(rt: &R, process: u32, test: &str) -> io::Result<String> {
     Ok(format!(in rt.alloc();
         "{}/outside_io_{process}_{test}",
@@ -179,7 +180,7 @@ fn writes_to_a_real_file(rt: HostRuntime) -> Result<(), Fail> {
     Ok(())
 }
 
-// A runtime whose standard output is a list of bytes. It takes four bytes at a call, and one call fails.
+// A runtime whose standard output is a list of bytes. A call takes four bytes, and one call fails.
 #[derive(Drop)]
 struct Recorder {
     written: RefCell<Vec<u8>>,

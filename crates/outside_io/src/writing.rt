@@ -1,4 +1,4 @@
-//! The place that a program writes to.
+//! A place that a program writes to.
 ghost use Rattle.std.specs.Prelude.{◌≡◌, ℕ, ◌<◌, ◌≤◌, List, Option, None, IfOk, OnErr, OnOk, length};
 ghost use Rattle.std.specs.Io.KnownBytes.{Appends, WriteAppends};
 ghost use Rattle.outside_io.specs.Faults.{CountedOne, CountRose};
@@ -13,14 +13,14 @@ pub struct Failed;
 
 /// A place that takes bytes, in pieces whose length it chooses.
 pub trait Sink {
-    // The bytes written so far, where the sink tells them.
+    // The bytes written so far, if they are known.
     ghost written: { Self → Option (List ℕ) } = { λ _. None };
 
-    // How many writes failed; it stands still at 2^64 - 1.
+    // How many writes failed. It stops at 2^64 - 1.
     ghost faults: { Self → ℕ };
 
-    /// Takes the first bytes of a piece, at least one where it is not empty, and answers how many. A
-    /// call that fails takes none.
+    /// Takes the first bytes of a piece, and answers how many. It takes at least one if the piece
+    /// is not empty. A call that fails takes none.
     fn write_piece(&mut self, bytes: &[u8]) -> Result<usize, Failed>
         ensures within { IfOk result (λ count. count ≤ length bytes.now) }
         ensures goes_on { IfOk result (λ count. 0 < length bytes.now → 0 < count) }
@@ -31,8 +31,8 @@ pub trait Sink {
         ensures once { OnErr result (CountedOne (faults self.old) (faults self.new)) };
 }
 
-/// Writes all the bytes, in as many pieces as the sink wants. Each call of the sink is handed all that
-/// is not written yet. After a refusal a beginning of the bytes was written. It takes no memory.
+/// Writes all the bytes, in as many pieces as the sink takes. Each call of the sink gets all bytes
+/// that are not written yet. After a refusal a prefix of the bytes was written. It never allocates.
 pub fn write_all<S: Sink>(sink: &mut S, bytes: &[u8]) -> Result<(), Failed>
     ensures ok { OnOk result (Appends (S.written sink.old) (S.written sink.new) bytes.now) }
     ensures err { OnErr result (AppendsPrefix (S.written sink.old) (S.written sink.new) bytes.now) }

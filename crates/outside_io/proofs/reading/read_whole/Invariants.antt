@@ -6,7 +6,7 @@ abbrev pub invariant-loop-files : goal.invariant-loop-files
 invariant-loop-files g l = record {
   kept : (any : List ℕ) → g.F.Files.content l.files any ≡ g.F.Files.content l.fn.files any;
   no_fault : g.F.Files.failed l.files ≡ g.F.Files.failed l.fn.files;
-  told : IfSome (g.F.Files.content l.fn.files l.fn.name) (λ file. StartsWith file l.taken.items);
+  first : IfSome (g.F.Files.content l.fn.files l.fn.name) (λ file. StartsWith file l.taken.items);
   room : 0 < vec_len l.piece;
 }
 

@@ -12,4 +12,7 @@ returns-clause-appended g c =
     let buf = c.read_piece.new.buf in
     let items : c.extend_from_slice.new.self.items ≡ old.items ++ take count buf = grind (arith, common_steps) in
     let follows : c.len.result ≡ length old.items = omega (arith, old.ok.0) in
-    IfSome_then _ {P = λ file. IsPiece file c.len.result buf count} {Q = λ file. AppendsPiece file old.items c.extend_from_slice.new.self.items} c.in_ok-count.ensures.piece (λ file piece before. rw items (StartsWith-piece file old.items buf _ count follows piece before))
+    IfSome_then _ {P = λ file. IsPiece file c.len.result buf count}
+    {Q = λ file. AppendsPiece file old.items c.extend_from_slice.new.self.items}
+    c.in_ok-count.ensures.piece
+    (λ file piece before. rw items (StartsWith-piece file old.items buf _ count follows piece before))

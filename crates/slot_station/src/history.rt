@@ -1,9 +1,9 @@
 //! The history of an object that has ended.
-ghost use Rattle.std.specs.Prelude.{◌≡◌, [], ◌∷◌, ◌<◌, length};
+ghost use Rattle.std.specs.Prelude.{◌≡◌, [], ◌∷◌, ◌<◌};
 ghost use Rattle.slot_station.specs.Log.{calls_in};
 
 use crate::log::Logged;
-use atomic_table::{Badge, Play, Seat, Table, TableRule};
+use atomic_table::{Badge, Play, Table, TableRule};
 use std::alloc::{AllocError, Global};
 use std::collections::LinkedList;
 use std::marker::Model;
@@ -61,30 +61,28 @@ impl<X: ShowsHistory> Play<X, LinkedList<Logged>> for ShowHistory {
     ghost then = { Shows X.history };
 }
 
-/// Where a history is kept that has to outlive the object that shows it. It is made with the object, so that the end
-/// takes no memory; at run time it is one word.
+/// Where a history is kept that has to outlive the object that shows it. It is made with the object,
+/// so that the end takes no memory; at run time it is one word. Threads may share it.
 #[derive(Drop)]
 pub struct HistoryKeeper<X: ShowsHistory> {
     table: Table<X, LinkedList<Logged>, (), AnyWord, Global>,
-    seat: Seat<X, LinkedList<Logged>>,
-    ghost ours: { seat.table_id ≡ table.shared.table_id },
     ghost words: { 0 < table.shared.table_id.words },
     ghost slots: { table.shared.table_id.slots ≡ 0 },
-    ghost none_out: { length seat.me.1 ≡ 0 },
 }
 
 impl<X: ShowsHistory> HistoryKeeper<X> {
     /// No history is kept yet.
     pub fn new(alloc: Global) -> Result<HistoryKeeper<X>, AllocError> {
-        let (table, seat) = Table::of_words(alloc, &[0], &())?;
-        Ok(HistoryKeeper { table, seat })
+        let (table, _) = Table::of_words(alloc, &[0], &())?;
+        Ok(HistoryKeeper { table })
     }
 
     /// The history that is shown. It takes no memory.
     pub fn keep(self, last: &X) -> History
         ensures { result ≡ X.history last.now }
     {
-        let HistoryKeeper { table, mut seat } = self;
+        let HistoryKeeper { table } = self;
+        let (_, mut seat) = table.shared.load_new_seat::<ShowHistory>(0);
         table
             .shared
             .compare_exchange_with::<ShowHistory>(&mut seat, 0, 0, 0, last);

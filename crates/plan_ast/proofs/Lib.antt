@@ -1,6 +1,9 @@
+pub mod AggregateLemmas
 pub mod CloneLemmas
+pub mod FoldLemmas
 pub mod FoundLemmas
 pub mod JoinsLemmas
 pub mod MissingLemmas
 pub mod PlacesLemmas
 pub mod QueryLemmas
+pub mod SideLemmas

@@ -15,7 +15,7 @@ IsWithin low high n = (low ≤ n) × (n ≤ high)
 abbrev pub AreFewFilters : List Filter → Type 0
 AreFewFilters filters = length filters ≤ 16
 
--- an aggregate with a column exactly where it does not count
+-- an aggregate with a column exactly if it doesn't count
 abbrev pub IsAggInBounds : Agg → Type 0
 IsAggInBounds agg = IsNone agg.column ↔ (agg.func ≡ Count)
 

@@ -1,7 +1,10 @@
+pub mod Aggregates
 pub mod Answer
 pub mod Bounds
 pub mod Checks
+pub mod Folds
 pub mod Names
 pub mod Places
+pub mod RefusalText
 pub mod Stages
 pub mod Subject

@@ -19,7 +19,9 @@ table_place tables name = position (λ t. bytes_eq t.name name) tables
 
 -- the table of this name, or one of no columns where none has it
 abbrev pub table_named : List NamedTable → List ℕ → NamedRows
-table_named tables name = option_map_or (λ t. t.table) (option_and_then (slice_get tables) (table_place tables name)) (no_rows [])
+table_named tables name =
+    let found = option_and_then (slice_get tables) (table_place tables name) in
+    option_map_or (λ t. t.table) found (no_rows [])
 
 -- the place of the column of this name
 abbrev pub column_place : NamedRows → List ℕ → Option ℕ
@@ -27,9 +29,11 @@ column_place table name = position (λ n. bytes_eq n name) table.names
 
 -- where the column that a reference names stands in its side's table
 abbrev pub column_in : List NamedRows → NameRef → Option ℕ
-column_in sides ref = option_and_then (λ side. column_place side ref.name) (slice_get sides ref.side)
+column_in sides ref =
+    option_and_then (λ side. column_place side ref.name) (slice_get sides ref.side)
 
--- a name that a query mentions: a table's, or a column's of one of the sides so far, the scanned table first
+-- a name that a query mentions: a table's, or a column's of one of the sides so far, of which the
+-- scanned table is the first
 pub data Mention : Type 0 where
   of_table : List ℕ → Mention
   of_column : List NamedRows → NameRef → Mention
@@ -45,17 +49,23 @@ own_column table name = of_column (table ∷ []) (record { side = 0; name = name
 abbrev pub filter_mentions : NamedRows → List Filter → List Mention
 filter_mentions table filters = map (λ f. own_column table f.column) filters
 
--- the columns that a join mentions: the one to its left among the sides before it, and of its own table the one to its right and those of its filters
+-- the columns that a join mentions: the one to its left, among the sides before it, and of its own
+-- table the one to its right and those of its filters
 abbrev pub join_columns : List NamedRows → NamedRows → Join → List Mention
-join_columns sides table join = of_column sides join.left ∷ own_column table join.right ∷ filter_mentions table join.filters
+join_columns sides table join =
+    of_column sides join.left
+    ∷ own_column table join.right
+    ∷ filter_mentions table join.filters
 
 abbrev pub join_mentions : List NamedTable → List NamedRows → Join → List Mention
-join_mentions tables sides join = of_table join.table ∷ join_columns sides (table_named tables join.table) join
+join_mentions tables sides join =
+    of_table join.table ∷ join_columns sides (table_named tables join.table) join
 
 abbrev pub joins_mentions : List NamedTable → List NamedRows → List Join → List Mention
 joins_mentions tables sides [] = []
 joins_mentions tables sides (join ∷ joins) =
-    join_mentions tables sides join ++ joins_mentions tables (sides ++ table_named tables join.table ∷ []) joins
+    join_mentions tables sides join
+    ++ joins_mentions tables (sides ++ table_named tables join.table ∷ []) joins
 
 abbrev pub agg_mention : List NamedRows → Agg → List Mention
 agg_mention sides agg = option_to_list (option_map (of_column sides) agg.column)
@@ -92,10 +102,11 @@ abbrev pub refusal_for : Mention → PlanRefusal
 refusal_for (of_table name) = UnknownTable name
 refusal_for (of_column sides ref) = UnknownColumn ref.name
 
--- the refusal of the first of these mentions that is not there
+-- the refusal of the first of these mentions that isn't there
 abbrev pub first_missing : List NamedTable → List Mention → Option PlanRefusal
-first_missing tables mentions = option_map refusal_for (find (λ m. not (is_there tables m)) mentions)
+first_missing tables mentions =
+    option_map refusal_for (find (λ m. not (is_there tables m)) mentions)
 
--- the refusal of a query: of the first name that it mentions and that is not there
+-- the refusal of a query: that of the first name in it that isn't there
 abbrev pub refusal_of : List NamedTable → Query → Option PlanRefusal
 refusal_of tables query = first_missing tables (mentions_of tables query)

@@ -1,6 +1,8 @@
+// Answers to queries.
+
 use col_table::ListOf;
 
-/// The value of one aggregate. The least and the greatest of nothing are none, and the sum of nothing is 0.
+/// The value of one aggregate. The sum of nothing is 0, and nothing has no least and no greatest.
 #[derive(Debug, Drop)]
 pub enum AggValue {
     Count(u64),
@@ -16,7 +18,8 @@ pub struct Group {
     pub values: ListOf<AggValue>,
 }
 
-/// The answer to a query: rows in ascending order with doubles kept, totals, or groups in ascending order of their keys.
+/// The answer to a query: rows in ascending order with doubles kept, totals, or groups in ascending
+/// order of their keys.
 #[derive(Debug, Drop)]
 pub enum Answer {
     Rows(ListOf<ListOf<i64>>),

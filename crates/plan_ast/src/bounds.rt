@@ -4,7 +4,7 @@ ghost use Rattle.plan_ast.specs.Bounds.{AreAggsInBounds, AreFewFilters, IsAggInB
 
 use crate::queries::{Agg, Filter, Func, Output, Query};
 
-/// How many task sets a query may wait for: at most this many.
+/// The greatest number of task sets that a query may wait for.
 pub const MAX_AFTER: u32 = 16_384;
 
 /// The greatest weight of a query. The least is 1.
@@ -26,8 +26,8 @@ pub const MAX_OUTPUTS: usize = 8;
 pub const MAX_GROUP_COLUMNS: usize = 2;
 
 impl Query {
-    /// Whether all numbers of the query lie within their limits, and each aggregate has a column exactly where it
-    /// doesn't count. It takes no memory.
+    /// Whether all numbers of the query lie within their limits, and each aggregate has a column
+    /// exactly if it doesn't count. It allocates nothing.
     pub fn in_bounds(&self) -> bool
         ensures { IsTrue result ↔ IsInBounds self.now }
     {

@@ -18,14 +18,15 @@ pub struct Checked {
 }
 
 impl Checked {
-    /// The query as it was given. It takes no memory.
+    /// The query as it was given. It allocates nothing.
     pub fn query(&self) -> &Query
         ensures { result.now ≡ query_of self.now }
     {
         &self.query
     }
 
-    /// Where the names of the query stand in the tables for which it was checked. It takes no memory.
+    /// The places of the query's names in the tables for which it was checked. It allocates
+    /// nothing.
     pub fn places(&self) -> &Places
         ensures { result.now ≡ places_of self.now }
     {
@@ -33,14 +34,15 @@ impl Checked {
     }
 }
 
-/// Looks up each name in a query. The first that is not there is refused: the scanned table first, then the
-/// columns of its filters, then join by join the table, the columns to its left and right and those of its
-/// filters, and last the columns of the output, those of a group's key before those of the aggregates.
+/// Looks up each name in a query, and refuses the first that isn't there. The order is: the scanned
+/// table and the columns of its filters; join by join the table, the columns to its left and right,
+/// and those of its filters; the columns of the output, those of a group's key before those of the
+/// aggregates.
 ///
-/// A column of a side that the query doesn't have is unknown. So is one to the left of a join, if its side doesn't
-/// come before that join.
+/// A column of a side that the query doesn't have is unknown. So is a column to the left of a join
+/// if its side doesn't come before that join.
 ///
-/// The query is copied once, when all its names were found.
+/// `check` copies the query once, after it found all names.
 pub fn check(alloc: Global, query: &Query, tables: &[NamedTable]) -> Result<Checked, PlanRefusal>
     requires { IsInBounds query.now }
     ensures accepted { OnOk result (refusal_of tables.now query.now ≡ None) }

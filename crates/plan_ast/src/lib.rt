@@ -1,13 +1,13 @@
 //! Queries, the check of a query against its tables, and answers.
 //!
-//! A query scans one table, may filter its rows and join further tables, and puts out rows, totals or groups.
-//! This crate has the types of queries and answers, says what the answer to a query is (`specs/Answer.antt`),
-//! and checks that every table and column that a query names is there.
+//! A query scans one table, may filter its rows and join further tables, and puts out rows, totals
+//! or groups. This crate has the types of queries and answers, says what the answer to a query is
+//! (`specs/Answer.antt`), and checks that every table and column that a query names is there.
 //!
 //! It stands on `col_table`: a table is a list of column names and a list of rows.
 //!
-//! What the layers above may use: `check` accepts a query exactly where every name in it is there, and otherwise
-//! gives the first that is not; a `Checked` holds that query and where its names stand in the tables.
+//! What the layers above may use: `check` accepts a query exactly if every name in it is there, and
+//! otherwise gives the first that isn't. A `Checked` holds that query and the places of its names.
 
 #![tactic(auto)]
 
@@ -28,7 +28,7 @@ pub use checks::{Checked, check};
 pub use places::{AggAt, ColumnAt, FilterAt, JoinAt, OutputAt, Places};
 pub use queries::{Agg, Filter, Func, Join, NameRef, NamedTable, Op, Output, Query};
 pub use refusals::PlanRefusal;
-pub use task_sets::stages;
+pub use task_sets::{GROUP_PARTS, folds_add, stage_total, stages, table_of_side};
 
 #[cfg(test)]
 mod tests;

@@ -1,4 +1,4 @@
-// Finds where the names of a query stand. Of names that are not there the first is refused.
+// Finds the places of the names in a query, or refuses the first name that isn't there.
 ghost use Rattle.std.specs.Prelude.{◌≡◌, ◌<◌, ◌⊎◌, [], ◌∷◌, ◌++◌, All, IfErr, IfOk, IfSome, None, OnOk, Some, length, map};
 ghost use Rattle.plan_ast.specs.Names.{agg_mention, agg_mentions, column_place, filter_mentions, join_columns, join_tables, joins_mentions, mentions_of, of_column, of_table, output_mentions, own_column, table_place};
 ghost use Rattle.plan_ast.specs.Places.{AddsTables, AreFound, AreJoinsAt, ArePlacesOf, IsJoinAt, IsOutputAt, IsRefusedBy, agg_at, column_at, filter_at, sides_at, table_at};
@@ -62,8 +62,8 @@ fn find_column(table: &Table, name: &Name) -> Result<u32, PlanRefusal>
     }
 }
 
-// The table at a place.
-fn table_of(tables: &[NamedTable], place: usize) -> &Table
+/// The table at a place.
+pub(crate) fn table_of(tables: &[NamedTable], place: usize) -> &Table
     requires { place < length tables.now }
     ensures { result.now ≡ table_at tables.now place }
 {
@@ -77,7 +77,8 @@ fn find_ref(
     reference: &NameRef,
 ) -> Result<ColumnAt, PlanRefusal>
     requires { All (λ side. side < length tables.now) sides.now }
-    ensures found { IfOk result (λ at. column_at (sides_at tables.now sides.now) reference.now ≡ Some at) }
+    ensures found { IfOk result
+        (λ at. column_at (sides_at tables.now sides.now) reference.now ≡ Some at) }
     ensures refused { IfErr result (IsRefusedBy tables.now
         (of_column (sides_at tables.now sides.now) reference.now ∷ [])) }
 {
@@ -100,7 +101,8 @@ fn find_refs(
     references: &[NameRef],
 ) -> Result<ListOf<ColumnAt>, PlanRefusal>
     requires { All (λ side. side < length tables.now) sides.now }
-    ensures found { IfOk result (AreFound (column_at (sides_at tables.now sides.now)) references.now) }
+    ensures found { IfOk result
+        (AreFound (column_at (sides_at tables.now sides.now)) references.now) }
     ensures refused { IfErr result (IsRefusedBy tables.now
         (map (of_column (sides_at tables.now sides.now)) references.now)) }
 {

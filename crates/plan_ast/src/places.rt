@@ -18,8 +18,8 @@ pub struct FilterAt {
     pub value: i64,
 }
 
-/// The columns of a join: the one to its left, which is of a side before, the number of the one to its right, and
-/// those of its filters.
+/// The columns of a join: the one to its left, of a side before it, the number of the one to its
+/// right, and those of its filters.
 #[derive(Debug, Drop)]
 pub struct JoinAt {
     pub left: ColumnAt,

@@ -2,7 +2,8 @@
 
 use col_table::{ListOf, Name, Table, Text};
 
-/// A column of one of a query's tables. Side 0 is the scanned table, and side j, 1 or 2, the table of join j.
+/// A column of one of a query's tables. Side 0 is the scanned table, and side j, 1 or 2, the table
+/// of join j.
 #[derive(Clone, Debug, Drop)]
 pub struct NameRef {
     pub side: u32,
@@ -20,7 +21,7 @@ pub enum Op {
     Ge,
 }
 
-/// Lets the rows of a table pass whose value in `column` stands in the relation `op` to `value`.
+/// Lets a row of a table pass if `op` holds of its value in `column` and `value`.
 #[derive(Clone, Debug, Drop)]
 pub struct Filter {
     pub column: Name,
@@ -28,8 +29,8 @@ pub struct Filter {
     pub value: i64,
 }
 
-/// Joins the rows of `table` that pass `filters` and whose value in `right` is that of the column `left`, which
-/// is of a side before.
+/// Joins each row so far with the rows of `table` that pass `filters` and have the same value: theirs
+/// in `right`, its own in `left`, which is a column of a side before.
 #[derive(Clone, Debug, Drop)]
 pub struct Join {
     pub table: Name,
@@ -47,14 +48,15 @@ pub enum Func {
     Max,
 }
 
-/// An aggregate. It has no column exactly where it counts.
+/// An aggregate. It has a column exactly if it doesn't count.
 #[derive(Clone, Debug, Drop)]
 pub struct Agg {
     pub func: Func,
     pub column: Option<NameRef>,
 }
 
-/// What a query puts out of its joined rows: these columns of each, totals over all, or totals for each key.
+/// What a query puts out: these columns of each joined row, totals over all of them, or totals for
+/// each key.
 #[derive(Clone, Debug, Drop)]
 pub enum Output {
     Rows(ListOf<NameRef>),

@@ -3,15 +3,15 @@
 ghost use Rattle.std.specs.Prelude.{◌≤◌};
 
 use crate::{
-    Agg, ColumnAt, Filter, FilterAt, Func, Join, NameRef, NamedTable, Op, Output, OutputAt,
-    PlanRefusal, Query, check, stages,
+    Agg, ColumnAt, Filter, FilterAt, Func, Join, NameRef, NamedTable, Op, Output, OutputAt, Query,
+    check, stage_total, stages,
 };
 use col_table::{ListOf, Name, Table, Text};
 use std::process::Abort;
 use std::test::Fail;
 
-// The names of a query, numbered in the order of their check. From `missing` on they are `?` and the number, which
-// names nothing.
+// The names of a query, numbered in the order of their check. From `missing` on they are `?` and the
+// number, which names nothing.
 #[derive(Drop)]
 struct Names<'a, R> {
     rt: &'a R,
@@ -63,7 +63,8 @@ impl<R: Abort + AllocGlobal> Names<'_, R> {
         })
     }
 
-    // Of `t`, joined with `u` on `k` and with `v` on `w` of `u`: by `k` of `t` and `w` of `u` the sum of `x` of `v`.
+    // Of `t`, joined with `u` on `k` and with `v` on `w` of `u`: by `k` of `t` and `w` of `u` the sum
+    // of `x` of `v`.
     fn query(&self) -> Result<Query, Fail> {
         let alloc = self.rt.alloc();
         let joins = vec![in alloc;
@@ -94,28 +95,34 @@ fn name(rt: &(impl Abort + AllocGlobal), text: &str) -> Result<Name, Fail> {
     Ok(Name::new(String::from_str(rt.alloc(), text)?).expect(rt, "a name"))
 }
 
-// A table without rows.
+// A table with so many rows.
 fn table(
     rt: &(impl Abort + AllocGlobal),
     named: &str,
     columns: [&str; 2],
+    rows: u32,
 ) -> Result<NamedTable, Fail> {
     let names = vec![in rt.alloc(); name(rt, columns[0])?, name(rt, columns[1])?]?;
+    let mut table = Table::new(rt.alloc(), names).expect(rt, "a table");
+    for _row in 0..rows {
+        assert!(rt; table.cols() == 2);
+        table.push_row(&[1, 2]).expect(rt, "a row");
+    }
     Ok(NamedTable {
         name: name(rt, named)?,
         file: Text::of(String::from_str(rt.alloc(), "a file")?),
-        table: Table::new(rt.alloc(), names).expect(rt, "a table"),
+        table,
     })
 }
 
 fn tables(rt: &(impl Abort + AllocGlobal)) -> Result<Vec<NamedTable>, Fail> {
-    let u = table(rt, "u", ["k", "w"])?;
-    let t = table(rt, "t", ["k", "v"])?;
-    let v = table(rt, "v", ["w", "x"])?;
+    let u = table(rt, "u", ["k", "w"], 1)?;
+    let t = table(rt, "t", ["k", "v"], 2)?;
+    let v = table(rt, "v", ["w", "x"], 3)?;
     Ok(vec![in rt.alloc(); u, t, v]?)
 }
 
-// What `check` tells of a query.
+// What `check` answers of a query.
 fn told(
     rt: &(impl Abort + AllocGlobal),
     query: &Query,
@@ -124,33 +131,28 @@ fn told(
     assert!(rt; query.in_bounds());
     let told = match check(rt.alloc(), query, tables) {
         Ok(_checked) => String::from_str(rt.alloc(), "accepted")?,
-        Err(PlanRefusal::UnknownTable(name)) => format!(in rt.alloc(); "table {}", name.as_str())?,
-        Err(PlanRefusal::UnknownColumn(name)) => format!(in rt.alloc();
-            "column {}",
-            name.as_str()
-        )?,
-        Err(PlanRefusal::OutOfMemory) => String::from_str(rt.alloc(), "out of memory")?,
+        Err(refusal) => format!(in rt.alloc(); "{refusal}")?,
     };
     Ok(told)
 }
 
 #[test]
-fn tells_the_first_missing_name(rt: HostRuntime) -> Result<(), Fail> {
+fn refuses_the_first_missing_name(rt: HostRuntime) -> Result<(), Fail> {
     let tables = tables(&rt)?;
     for (missing, expected) in [
-        (0, "table ?0"),
-        (1, "column ?1"),
-        (2, "table ?2"),
-        (3, "column ?3"),
-        (4, "column ?4"),
-        (5, "column ?5"),
-        (6, "table ?6"),
-        (7, "column ?7"),
-        (8, "column ?8"),
-        (9, "column ?9"),
-        (10, "column ?10"),
-        (11, "column ?11"),
-        (12, "column ?12"),
+        (0, "unknown table ?0"),
+        (1, "unknown column ?1"),
+        (2, "unknown table ?2"),
+        (3, "unknown column ?3"),
+        (4, "unknown column ?4"),
+        (5, "unknown column ?5"),
+        (6, "unknown table ?6"),
+        (7, "unknown column ?7"),
+        (8, "unknown column ?8"),
+        (9, "unknown column ?9"),
+        (10, "unknown column ?10"),
+        (11, "unknown column ?11"),
+        (12, "unknown column ?12"),
         (13, "accepted"),
     ] {
         let query = Names { rt: &rt, missing }.query()?;
@@ -172,12 +174,12 @@ fn knows_no_side_that_does_not_come_before(rt: HostRuntime) -> Result<(), Fail> 
         let join = names.join(2, "u", side, "k", "k")?;
         query.joins = ListOf::of(vec![in rt.alloc(); join]?);
         let told = told(&rt, &query, tables.as_slice())?;
-        assert_eq!(rt; told.as_str(), "column k");
+        assert_eq!(rt; told.as_str(), "unknown column k");
     }
     let mut query = names.query()?;
     query.joins = ListOf::of(Vec::new(rt.alloc()));
     let told = told(&rt, &query, tables.as_slice())?;
-    assert_eq!(rt; told.as_str(), "column w");
+    assert_eq!(rt; told.as_str(), "unknown column w");
     Ok(())
 }
 
@@ -192,6 +194,9 @@ fn keeps_where_names_stand(rt: HostRuntime) -> Result<(), Fail> {
     assert!(rt; query.in_bounds());
     assert_eq!(rt; stages(&query), 4);
     let checked = check(rt.alloc(), &query, tables.as_slice()).expect(&rt, "all names are there");
+    for (stage, total) in [(0, 1), (1, 3), (2, 2), (3, 16)] {
+        assert_eq!(rt; stage_total(&checked, tables.as_slice(), stage), total);
+    }
     assert_eq!(rt; checked.query().scan.as_str(), "t");
     let places = checked.places();
     assert_eq!(rt; places.tables.as_slice(), [1, 0, 2].as_slice());

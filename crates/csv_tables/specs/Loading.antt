@@ -14,13 +14,14 @@ pub record IsHeader (header : List (List ℕ)) : Type 0 where
   pub legal : All IsName header
   pub heading : IsHeading header
 
--- a record may be a row of so many values
+-- a record may be a row of this many values
 pub record IsRow (count : ℕ) (fields : List (List ℕ)) : Type 0 where
   pub width : length fields ≡ count
   pub values : All IsValue fields
 
 -- a table grows by the rows that records write
-pub record GrowsBy (old : NamedRows) (records : List (List (List ℕ))) (new : NamedRows) : Type 0 where
+pub record GrowsBy (old : NamedRows) (records : List (List (List ℕ))) (new : NamedRows)
+    : Type 0 where
   pub names : new.names ≡ old.names
   pub lines : All (IsRow (length old.names)) records
   pub rows : new.rows ≡ old.rows ++ map (map number_of) records

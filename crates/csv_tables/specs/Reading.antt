@@ -13,7 +13,7 @@ use Rattle.csv_tables.specs.declared.scan.State.TheVariants as state
 use Rattle.csv_tables.specs.declared.scan.Step.{Step}
 use Rattle.csv_tables.specs.declared.scan.Step.TheVariants as step
 
--- the records of a text from a place between two records on
+-- the records of a text from a place on, which lies between two records
 abbrev pub records_at : List ℕ → ℕ → List (List (List ℕ))
 records_at bytes at = records default_config (drop at bytes)
 
@@ -72,7 +72,7 @@ EndsRecord bytes rest =
     ((bytes ≡ []) × (rest ≡ []))
     ⊎ ((byte : ℕ) × ((byte ≡ 13) ⊎ (byte ≡ 10)) × (bytes ≡ byte ∷ rest))
 
--- what stands after a field: a comma, or after the last one what ends the record
+-- what follows a field: a comma, or, after the last one, what ends the record
 abbrev pub EndsField : Bool → List ℕ → List ℕ → Type 0
 EndsField true bytes rest = EndsRecord bytes rest
 EndsField false bytes rest = bytes ≡ 44 ∷ rest

@@ -20,12 +20,12 @@ pub record Reaches {A : Type 0} (AreGood : List A → Type 0) (items : List A) (
   pub good : AreGood before
   pub counted : place ≡ length before + 1
 
--- fields that are names, each another
+-- fields that are names, no two of them equal
 pub record AreNames (fields : List (List ℕ)) : Type 0 where
   pub legal : All IsName fields
   pub differ : AllDiffer fields
 
--- the first refusal of a header: it is too long, or one of its fields is no name or an earlier name
+-- the first refusal of a header: it is too long, or a field is not a name or repeats one
 abbrev pub RefusesHeader : List (List ℕ) → TableRefusal → Type 0
 RefusesHeader header TooManyColumns = MAX_COLUMNS < length header
 RefusesHeader header (BadName place) =
@@ -42,13 +42,13 @@ RefusesHeader header (OutOfRange row place) = ⊥
 RefusesHeader header TooManyRows = ⊥
 RefusesHeader header OutOfMemory = ⊥
 
--- a record stands within the rows that a table holds, and is as long as the header
+-- a record is within the rows that a table holds, and as long as the header
 pub record IsWide (count number : ℕ) (fields : List (List ℕ)) : Type 0 where
   pub within : number ≤ MAX_ROWS
   pub width : length fields ≡ count
 
--- the first refusal of the record with this number, under so many names: it is a row too many, it
--- has another length, or one of its fields is no number or one that an `i64` does not hold
+-- the first refusal of the record with this number, under this many names: it is a row too many,
+-- it has another length, or a field is not a number or one that an `i64` can't hold
 abbrev pub RefusesRecord : ℕ → ℕ → List (List ℕ) → TableRefusal → Type 0
 RefusesRecord count number fields TooManyRows = MAX_ROWS < number
 RefusesRecord count number fields (Ragged row) =
@@ -72,14 +72,14 @@ abbrev pub refusal_of : FieldFault → ℕ → ℕ → TableRefusal
 refusal_of fault.NotANumber number place = NotANumber number place
 refusal_of fault.OutOfRange number place = OutOfRange number place
 
--- the first refusal of the records under so many names: that of the first one that is no row
+-- the first refusal of the records under this many names: that of the first that is not a row
 abbrev pub RefusesLines : ℕ → List (List (List ℕ)) → TableRefusal → Type 0
 RefusesLines count lines refusal =
     (number : ℕ) × (fields : List (List ℕ)) × Reaches (All (IsRow count)) lines number fields
     × RefusesRecord count number fields refusal
 
--- the first refusal of the records of a text: there is no record, or that of the header, or that of
--- a record under a good header
+-- the first refusal of the records of a text: there is no record, or the header is refused, or a
+-- record under a good header is
 abbrev pub RefusesRecords : List (List (List ℕ)) → TableRefusal → Type 0
 RefusesRecords [] refusal = refusal ≡ NoHeader
 RefusesRecords (header ∷ lines) refusal =

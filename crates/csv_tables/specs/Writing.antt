@@ -26,7 +26,7 @@ VecWriter = Writer (Vec ℕ)
 abbrev pub bytes_written : VecWriter → List ℕ
 bytes_written writer = (writer_under writer).items ++ writer_pending writer
 
--- a writer with the defaults of `csv` stands between two records
+-- a writer with the defaults of `csv` is between two records
 pub record IsWriting (writer : VecWriter) : Type 0 where
   pub setup : writer_setup writer ≡ default_writer
   pub ended : fields_written writer ≡ 0

@@ -7,11 +7,11 @@ ghost use Rattle.csv_tables.specs.Loading.{IsHeader};
 ghost use Rattle.csv_tables.specs.Refusals.{AreNames, OrMemory, RefusesHeader};
 
 use crate::refusal::TableRefusal;
-use col_table::{ColumnName, MAX_COLUMNS, Table};
+use col_table::{ColumnName, MAX_COLUMNS, MAX_NAME_BYTES, Table};
 use csv::ByteRecord;
 use std::alloc::Global;
 
-// The table with the names of a header and no row.
+// The table with the names of a header and no rows.
 pub(crate) fn table_under(alloc: Global, header: &ByteRecord) -> Result<Table, TableRefusal>
     requires { 0 < length (fields_of header.now) }
     ensures made { IfOk result (λ table. IsHeader (fields_of header.now)
@@ -44,12 +44,15 @@ fn parse_names(alloc: Global, header: &ByteRecord) -> Result<Vec<ColumnName>, Ta
     Ok(names)
 }
 
-// The name that the field of a header at this place is.
+// The name that the field of a header at this place is. A field that is too long isn't copied.
 fn parse_name(alloc: Global, field: &[u8], place: u32) -> Result<ColumnName, TableRefusal>
     ensures name { IfOk result (λ name. IsName field.now × (name ≡ field.now)) }
     ensures refused { IfErr result (OrMemory
         (λ refusal. (refusal ≡ TableRefusal.BadName place) × ¬ (IsName field.now))) }
 {
+    if field.len() > MAX_NAME_BYTES {
+        return Err(TableRefusal::BadName(place));
+    }
     let text = str::from_utf8(field).map_err(|_| TableRefusal::BadName(place))?;
     let text = String::from_str(alloc, text)?;
     ColumnName::new(text).map_err(|_| TableRefusal::BadName(place))

@@ -2,7 +2,7 @@
 ghost use Rattle.std.specs.Prelude.{ℕ, List};
 ghost use Rattle.csv_tables.specs.Verdicts.{HasOneVerdict};
 
-/// Each text stands for exactly one table, or has exactly one first refusal, and never both.
+/// Each text stands for exactly one table or has exactly one first refusal, and never both.
 pub fn one_verdict()
     ensures { (bytes : List ℕ) → HasOneVerdict bytes }
 {}

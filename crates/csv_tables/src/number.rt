@@ -10,7 +10,7 @@ pub(crate) enum FieldFault {
     OutOfRange,
 }
 
-// The number that a field writes, where an `i64` holds it.
+// The number that a field writes, if an `i64` holds it.
 pub(crate) fn parse_value(field: &[u8]) -> Result<i64, FieldFault>
     ensures value { IfOk result (λ value. IsValue field.now × (value ≡ number_of field.now)) }
     ensures fault { IfErr result (HasFault field.now) }
@@ -29,12 +29,12 @@ pub(crate) fn parse_value(field: &[u8]) -> Result<i64, FieldFault>
     }
 }
 
-// So many decimal digits write a number that a `u64` holds.
+// A number of at most this many decimal digits fits a `u64`.
 const SHORT: usize = 19;
 
-// The number that decimal digits write, where there is one digit or more and nothing else.
+// The number that decimal digits write, if there are one or more digits and nothing else.
 //
-// A number past 64 bits stands at the greatest `u64`, which no `i64` holds with either sign.
+// A number past 64 bits becomes the greatest `u64`, which no `i64` holds with either sign.
 fn parse_digits(digits: &[u8]) -> Option<u64>
     ensures { MatchOption result (¬ (IsNumeral 10 digits.now))
         (λ size. IsNumeral 10 digits.now

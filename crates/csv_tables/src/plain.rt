@@ -10,8 +10,8 @@ ghost use Rattle.csv_tables.specs.Reading.{EndsField, IsPlain, IsRecordAt, reads
 
 use crate::number::parse_value;
 
-// Fills a row with the values of the next record, and answers the place after it, where that record is a row of
-// numbers without quotes. Where it answers nothing, the record may be any, or there may be none.
+// Fills a row with the values of the next record and answers the place after it, if that record is
+// a row of numbers without quotes. No answer says nothing: there may be any record, or none.
 #[inline(never)]
 pub(crate) fn read_plain_row(bytes: &[u8], at: usize, row: &mut [i64]) -> Option<usize>
     requires within { at ≤ length bytes.now }
@@ -75,8 +75,8 @@ fn is_mark(byte: u8) -> bool
     byte == b',' || byte == b'"' || byte == b'\r' || byte == b'\n'
 }
 
-// The place after what ends a field that stops at a place, where that is a comma, or after the last field the end
-// of a line or of the text.
+// The place after what ends a field: a comma, or, for the last field, the end of the line or of the
+// text. The field itself stops at `end`.
 fn after_field(bytes: &[u8], end: usize, is_last: bool) -> Option<usize>
     requires { end ≤ length bytes.now }
     ensures within { IfSome result (λ next. next ≤ length bytes.now) }

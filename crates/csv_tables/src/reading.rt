@@ -14,21 +14,21 @@ use std::alloc::Global;
 
 /// The table that a CSV text stands for, or its first refusal.
 ///
-/// The first record gives the names, which must be legal and differ, 1 to 32 of them. Each other record
-/// is a row, of as many fields as there are names; there may be 1,048,576 of them. A field of a row is an
-/// optional `-` and one or more decimal digits, whose number an `i64` holds; leading zeros and `-0` are
-/// accepted. A byte order mark at the very start is dropped, and empty lines are skipped.
+/// The first record gives the names: 1 to 32 valid names, no two of them equal. Each other record
+/// is a row with one field for each name; there may be 1,048,576 rows. A field of a row is an
+/// optional `-` and one or more decimal digits. Its number must fit an `i64`. Leading zeros and
+/// `-0` are accepted. A byte order mark at the very start is dropped. Empty lines are skipped.
 ///
-/// The refusals come in this order:
+/// Refusals are checked in this order:
 ///
 /// 1. `NoHeader`, if there is no record.
 /// 2. `TooManyColumns`, if the header has more than 32 fields.
 /// 3. For each field of the header in order, `BadName`, and then `TwiceNamed`.
-/// 4. For each other record in order, `TooManyRows`, then `Ragged`, and then for each of its fields in
+/// 4. For each other record in order: `TooManyRows`, then `Ragged`, then for each of its fields in
 ///    order `NotANumber` or `OutOfRange`.
 ///
-/// `OutOfMemory` may come at any text. No copy of the text is kept. A record is read whole before it is refused,
-/// so one of very many fields takes memory for the places of all of them.
+/// `OutOfMemory` may happen at any text. `load` keeps no copy of the text. It reads a record whole
+/// before it refuses it, so a record of very many fields takes memory for all their places.
 pub fn load(alloc: Global, bytes: &[u8]) -> Result<Table, TableRefusal>
     ensures loaded { IfOk result (LoadsTable bytes.now) }
     ensures unique { IfOk result (λ table.

@@ -13,7 +13,7 @@ use crate::scan::read_record;
 use col_table::{MAX_COLUMNS, MAX_ROWS, Table};
 use csv::ByteRecord;
 
-// Adds the rows that the records from a place on write, to a table without rows.
+// Adds the rows of the records from a place on to a table without rows.
 pub(crate) fn read_rows(
     bytes: &[u8],
     at: usize,
@@ -37,8 +37,8 @@ pub(crate) fn read_rows(
     Ok(())
 }
 
-// Fills a row with the values of the record with this number that begins at a place, and answers the place after
-// it, if there is a record.
+// Fills a row with the values of the record that begins at a place and has this number. Answers the
+// place after the record, or nothing if there is no record.
 fn read_row(
     bytes: &[u8],
     at: usize,
@@ -72,7 +72,7 @@ fn read_row(
     Ok(Some(next))
 }
 
-// Fills a row with the values of the record with this number, which is to have as many.
+// Fills a row with the values of the record with this number. It must have as many fields.
 fn parse_row(fields: &ByteRecord, number: u32, row: &mut [i64]) -> Result<(), TableRefusal>
     requires width { length row.old ≤ MAX_COLUMNS }
     requires within { number ≤ MAX_ROWS }
@@ -93,7 +93,7 @@ fn parse_row(fields: &ByteRecord, number: u32, row: &mut [i64]) -> Result<(), Ta
     Ok(())
 }
 
-// The refusal of a field at this place in the record with this number.
+// The refusal of the field at this place in the record with this number.
 fn refusal_at(fault: FieldFault, number: u32, place: u32) -> TableRefusal
     ensures { result ≡ refusal_of fault number place }
 {

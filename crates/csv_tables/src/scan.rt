@@ -1,8 +1,8 @@
 // Records of a text, read byte by byte.
 //
-// The machine is that of `csv` with its defaults, and the contracts say so by its own definitions. It is written
-// again here since `csv` has no call that reads on in the middle of a text: the rows of most tables are read by a
-// shorter way (`plain`), and what this way does not know is read here.
+// The machine is that of `csv` with its defaults, and the contracts say so by the definitions of
+// `csv`. It is written again here because `csv` has no call that goes on in the middle of a text.
+// The rows of most tables take a shorter way (`plain`). All other records are read here.
 ghost use Rattle.std.specs.Prelude.{◌≡◌, ◌≤◌, ◌++◌, ◌∷◌, [], IfOk, MatchOption, OnOk, length};
 ghost use Rattle.csv.specs.Reading.{strip_bom};
 ghost use Rattle.csv.specs.Records.{fields_of, partial_of};
@@ -23,7 +23,7 @@ pub(crate) enum State {
     InField,
     // Between the quotes of a field.
     InQuoted,
-    // After a quote within quotes, which ends them or is the first of two that stand for one.
+    // After a quote within quotes: it ends them, or it is the first of two that stand for one.
     AfterQuote,
 }
 
@@ -79,8 +79,8 @@ fn in_field(byte: u8) -> Step
     }
 }
 
-// Reads the record that begins at a place between two records, and answers the place after it, if there is one.
-// The field at hand is memory that the caller lends for every record.
+// Reads the record that begins at a place between two records. Answers the place after the record,
+// or nothing if there is no record. `field` is memory that the caller lends for every record.
 pub(crate) fn read_record(
     bytes: &[u8],
     at: usize,
@@ -107,7 +107,7 @@ pub(crate) fn read_record(
     Ok(Some(bytes.len()))
 }
 
-// Takes one byte of a record, and answers the state after it, or none where it ends the record.
+// Takes one byte of a record. Answers the state after it, or nothing if it ends the record.
 fn take_byte(
     state: State,
     byte: u8,

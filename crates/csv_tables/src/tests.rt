@@ -13,7 +13,7 @@ fn values(rt: &HostRuntime, table: &Table) -> Result<Vec<i64>, Fail> {
     Ok(values)
 }
 
-// Texts that stand for tables, with the values of their rows, whatever the form of lines and fields.
+// Texts that stand for tables in each form of lines and fields, with the values of their rows.
 #[test]
 fn loads_each_form(rt: HostRuntime) -> Result<(), Fail> {
     for (text, columns, want) in [

@@ -14,10 +14,10 @@ use csv::{ByteRecord, Writer, WriterBuilder};
 use itoa::Buffer;
 use std::alloc::{AllocError, Global};
 
-/// The CSV text of a table: its names, and then its rows, each in a line.
+/// The CSV text of a table: one line for its names, then one line for each row.
 ///
-/// A name with a comma, a quote or a line end stands in quotes, and a header of one empty name is `""`. `load`
-/// gives the same table again, unless the first name begins with U+FEFF, which `load` takes for a byte order
+/// A name with a comma or a quote is quoted. A header of one empty name is `""`. `load` gives the
+/// same table again, unless the first name begins with U+FEFF: `load` takes that for a byte order
 /// mark.
 pub fn write_table(alloc: Global, table: &Table) -> Result<Vec<u8>, AllocError>
     ensures text { IfOk result (λ bytes. bytes.items ≡ table_text table.now) }
@@ -50,7 +50,8 @@ fn fill_names(table: &Table, fields: &mut ByteRecord) -> Result<(), AllocError>
 fn fill_row(table: &Table, row: u32, fields: &mut ByteRecord) -> Result<(), AllocError>
     requires { row < length table.now.rows }
     ensures { let values = slice_index_or table.now.rows row [] in
-        OnOk result ((fields_of fields.new ≡ map signed_decimal values) × All (FitsSigned w64) values) }
+        OnOk result ((fields_of fields.new ≡ map signed_decimal values)
+        × All (FitsSigned w64) values) }
 {
     fields.clear();
     let mut buffer = Buffer::new();
@@ -61,7 +62,7 @@ fn fill_row(table: &Table, row: u32, fields: &mut ByteRecord) -> Result<(), Allo
     Ok(())
 }
 
-// Writes a record. What fails is memory, since all records have one length and a `Vec` takes all bytes.
+// Writes a record. Only memory can fail: all records have one length, and a `Vec` takes all bytes.
 fn write_record(writer: &mut Writer<Vec<u8>>, fields: &ByteRecord) -> Result<(), AllocError>
     requires { IsWriting writer.old }
     ensures writing { OnOk result (IsWriting writer.new) }

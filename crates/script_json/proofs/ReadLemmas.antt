@@ -15,7 +15,7 @@ use Rattle.script_json.proofs.FormatMakes.{script-makes}
 use Rattle.script_json.proofs.Makes.{Makes}
 
 -- a refusal of a JSON value is one of its bytes
-RefusesScript-said : (bytes : List ℕ) (value : Data) (refusal : ScriptRefusal) → IsJson bytes value
+pub RefusesScript-said : (bytes : List ℕ) (value : Data) (refusal : ScriptRefusal) → IsJson bytes value
     → (refusal ≡ OutOfMemory) ⊎ (script value ≡ Err refusal) → RefusesScript bytes refusal
 RefusesScript-said bytes value NotJson json (inl e) = absurd cc
 RefusesScript-said bytes value NotJson json (inr said) = absurd (subst (λ r. Makes IsScript r) said (script-makes value))

@@ -5,11 +5,13 @@ use Rattle.script_json.specs.Scripts.{ReadsScript, RefusesScript}
 use Rattle.script_json.specs.declared.refusal.ScriptRefusal.TheVariants.{OutOfMemory}
 use Rattle.script_json.specs.declared.script.Script.{Script}
 
--- bytes are this script, or this is the first refusal of them; running out of memory says nothing of bytes
+-- bytes are this script, or this is their first refusal; out of memory says nothing about bytes
 abbrev pub IsVerdict : List ℕ → Reading Script → Type 0
 IsVerdict bytes (Ok script) = ReadsScript bytes script
 IsVerdict bytes (Err refusal) = RefusesScript bytes refusal × (refusal ≢ OutOfMemory)
 
--- bytes have one verdict at most
-abbrev pub HasOneVerdict : List ℕ → Type 0
-HasOneVerdict bytes = (one other : Reading Script) → IsVerdict bytes one → IsVerdict bytes other → one ≡ other
+-- bytes have exactly one verdict
+pub record HasOneVerdict (bytes : List ℕ) : Type 0 where
+  pub verdict : Reading Script
+  pub is : IsVerdict bytes verdict
+  pub only : (other : Reading Script) → IsVerdict bytes other → other ≡ verdict

@@ -2,7 +2,7 @@
 ghost use Rattle.std.specs.Prelude.{ℕ, List};
 ghost use Rattle.script_json.specs.Verdicts.{HasOneVerdict};
 
-/// Bytes are one script at most, or have one first refusal at most, and never both.
+/// Any bytes are exactly one script or have exactly one first refusal, and never both.
 pub fn one_verdict()
     ensures { (bytes : List ℕ) → HasOneVerdict bytes }
 {}

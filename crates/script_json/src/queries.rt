@@ -11,37 +11,43 @@ use crate::form::{
 use crate::refusal::ScriptRefusal;
 use crate::words::{AnyNumberForm, FunctionForm, NameForm, OperatorForm};
 use col_table::ListOf;
-use plan_ast::{Agg, Filter, Func, Join, NameRef, Output, Query};
+use plan_ast::{
+    Agg, Filter, Func, Join, MAX_AFTER, MAX_COST, MAX_FILTERS, MAX_GROUP_COLUMNS, MAX_JOINS,
+    MAX_OUTPUTS, MAX_WEIGHT, NameRef, Output, Query,
+};
 use serde_json::Value;
 use std::alloc::Global;
 
 const AFTER: WholeForm = WholeForm {
     least: 0,
-    most: 16_384,
+    most: MAX_AFTER,
 };
 
-const WEIGHT: WholeForm = WholeForm { least: 1, most: 10 };
+const WEIGHT: WholeForm = WholeForm {
+    least: 1,
+    most: MAX_WEIGHT,
+};
 
 const COST: WholeForm = WholeForm {
     least: 1,
-    most: 1_000_000,
+    most: MAX_COST,
 };
 
 const JOINS: ArrayForm<JoinForm> = ArrayForm {
     least: 0,
-    most: 2,
+    most: MAX_JOINS as u32,
     item: JoinForm,
 };
 
 const FILTERS: ArrayForm<FilterForm> = ArrayForm {
     least: 0,
-    most: 16,
+    most: MAX_FILTERS as u32,
     item: FilterForm,
 };
 
 const AGGREGATES: ArrayForm<AggregateForm> = ArrayForm {
     least: 1,
-    most: 8,
+    most: MAX_OUTPUTS as u32,
     item: AggregateForm,
 };
 
@@ -101,7 +107,10 @@ impl Form for ReferenceForm {
 fn read_joined(alloc: Global, side: &Value, name: &Value) -> Result<NameRef, ScriptRefusal>
     ensures { Gives (joined_column (view side.now) (view name.now)) result }
 {
-    let sides = WholeForm { least: 1, most: 2 };
+    let sides = WholeForm {
+        least: 1,
+        most: MAX_JOINS as u32,
+    };
     let side = under_index(0, sides.read(alloc, side))?;
     let name = under_index(1, NameForm.read(alloc, name))?;
     Ok(NameRef { side, name })
@@ -189,7 +198,7 @@ impl Form for GroupsForm {
         check_keys(alloc, value, &["by", "aggs"])?;
         let columns = ArrayForm {
             least: 1,
-            most: 2,
+            most: MAX_GROUP_COLUMNS as u32,
             item: ReferenceForm,
         };
         let by = read_required(alloc, value, "by", &columns)?;
@@ -233,7 +242,7 @@ fn read_rows(alloc: Global, value: &Value) -> Result<Output, ScriptRefusal>
     check_keys(alloc, value, &["rows", "totals", "groups"])?;
     let columns = ArrayForm {
         least: 1,
-        most: 8,
+        most: MAX_OUTPUTS as u32,
         item: ReferenceForm,
     };
     Ok(Output::Rows(read_required(alloc, value, "rows", &columns)?))

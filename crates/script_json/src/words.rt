@@ -8,7 +8,7 @@ ghost use Rattle.script_json.specs.Format.{any_number, file_name, function, func
 use crate::form::Form;
 use crate::refusal::ScriptRefusal;
 use crate::script::MAX_FILE_BYTES;
-use col_table::{Name, Text};
+use col_table::{MAX_NAME_BYTES, Name, Text};
 use plan_ast::{Func, Op};
 use serde_json::Value;
 use std::alloc::Global;
@@ -37,10 +37,13 @@ impl Form for NameForm {
     }
 }
 
-// The name of this text.
+// The name of this text. A text that is too long isn't copied.
 fn named(alloc: Global, text: &str) -> Result<Name, ScriptRefusal>
     ensures { Gives (kept is_name text.now) result }
 {
+    if text.len() > MAX_NAME_BYTES {
+        return Err(ScriptRefusal::bad_text(alloc));
+    }
     match Name::new(String::from_str(alloc, text)?) {
         Ok(name) => Ok(name),
         Err(_bad) => Err(ScriptRefusal::bad_text(alloc)),
@@ -136,7 +139,7 @@ fn function_of(text: &str) -> Option<Func>
     }
 }
 
-/// Any whole number of 64 bits with a sign.
+/// Any whole number that an `i64` holds.
 #[derive(Drop)]
 pub(crate) struct AnyNumberForm;
 

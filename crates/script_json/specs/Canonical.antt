@@ -1,5 +1,5 @@
--- The canonical form of a script: the JSON value that is written for it. It has every key of a query, a join and
--- a filter, with the keys of an object in the order of their bytes.
+-- The canonical form of a script: the JSON value that is written for it. It has every key of a
+-- query, a join and a filter. The keys of an object are in the order of their bytes.
 use Rattle.std.specs.Prelude.{ℕ, List, [], ◌∷◌, map, codes, Option, Some, None, ◌==◌, if◌then◌else◌}
 use Rattle.serde_json.specs.Data.{Data, number, string, array, object, unsigned, item, no_items, Members, member, no_members}
 use Rattle.serde_json.specs.Find.{of_integer}
@@ -104,6 +104,6 @@ script_value script = object_with (
     (codes "tables", array_with entry_value script.tables) ∷
     (codes "version", number (unsigned 1)) ∷ [])
 
--- the bytes that are written for a script, with no space and no line end
+-- the bytes of a script: its JSON with no space and no line end
 abbrev pub script_text : Script → List ℕ
 script_text script = compact_text (script_value script)

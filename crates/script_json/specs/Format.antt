@@ -1,5 +1,5 @@
--- The format of scripts, version 1: what each JSON value stands for at its place, with the first refusal where
--- it stands for nothing.
+-- The format of scripts, version 1: what each JSON value stands for at its place, or its first
+-- refusal.
 use Rattle.std.specs.Prelude.{ℕ, ◌+◌, ◌^◌, ℤ, pos, negsuc, List, [], ◌∷◌, length, codes, Bool, true, false, not, ◌&&◌, ◌==◌, nat_le, nat_lt, nat_eq, bytes_eq, is_some, Option, Some, None, option_map, find, option_and_then, if◌then◌else◌, Ok, Err, ⊤}
 use Rattle.std.specs.List.{list_any, list_all}
 use Rattle.std.specs.Option.{option_map_or}
@@ -48,8 +48,9 @@ abbrev pub named : {A : Type 0} → List (List ℕ × A) → List ℕ → Option
 named words bytes = option_map (λ word. word.1) (find (λ word. bytes_eq word.0 bytes) words)
 
 abbrev pub operator_named : List ℕ → Option Op
-operator_named =
-    named ((codes "=", Eq) ∷ (codes "<>", Ne) ∷ (codes "<", Lt) ∷ (codes "<=", Le) ∷ (codes ">", Gt) ∷ (codes ">=", Ge) ∷ [])
+operator_named = named (
+    (codes "=", Eq) ∷ (codes "<>", Ne) ∷ (codes "<", Lt) ∷
+    (codes "<=", Le) ∷ (codes ">", Gt) ∷ (codes ">=", Ge) ∷ [])
 
 -- the functions of a column
 abbrev pub function_named : List ℕ → Option Func
@@ -95,7 +96,8 @@ joined_column first second = do
   column ← under (At 1) (name second)
   Ok (record { side = side; name = column })
 
--- `[1, "k"]` or `[2, "k"]` is a column of that join's table, and a text alone a column of the scanned one
+-- `[1, "k"]` and `[2, "k"]` are columns of that join's table; a text alone is a column of the
+-- scanned table
 abbrev pub reference_among : Option Items → Form NameRef
 reference_among None value = do
   column ← name value
@@ -122,7 +124,8 @@ joins value = array_of 0 2 (λ _. join) value
 
 -- whether `fn` is `count`, which has no column
 abbrev pub counts : Data → Bool
-counts value = option_map_or (bytes_eq (codes "count")) (option_and_then as_str (get (codes "fn") value)) false
+counts value =
+    option_map_or (bytes_eq (codes "count")) (option_and_then as_str (get (codes "fn") value)) false
 
 -- a count knows no key but `fn`
 abbrev pub count_of_rows : Form Agg
@@ -177,7 +180,7 @@ groups_of value = do
   object_of output_keys value
   required (codes "groups") groups value
 
--- by which of the three keys an output has: just one
+-- by which of `rows`, `totals` and `groups` an output has: exactly one
 abbrev pub output_among : Bool → Bool → Bool → Form Output
 output_among true false false value = rows_of value
 output_among false true false value = totals_of value
@@ -187,13 +190,16 @@ output_among _ _ _ value = Err wrong_shape
 abbrev pub has : List ℕ → Data → Bool
 has key value = is_some (get key value)
 
--- an object with just one of `rows`, `totals` and `groups`
+-- an object with exactly one of `rows`, `totals` and `groups`
 abbrev pub output : Form Output
-output value = output_among (has (codes "rows") value) (has (codes "totals") value) (has (codes "groups") value) value
+output value =
+    output_among (has (codes "rows") value) (has (codes "totals") value)
+    (has (codes "groups") value) value
 
 abbrev pub query_keys : List (List ℕ)
 query_keys =
-    codes "after" ∷ codes "weight" ∷ codes "cost" ∷ codes "scan" ∷ codes "where" ∷ codes "joins" ∷ codes "output" ∷ []
+    codes "after" ∷ codes "weight" ∷ codes "cost" ∷ codes "scan" ∷
+    codes "where" ∷ codes "joins" ∷ codes "output" ∷ []
 
 -- `scan` and `output` are required, and the others have defaults
 abbrev pub query : Form Query
@@ -206,7 +212,15 @@ query value = do
   passed ← optional (codes "where") [] filters value
   joined ← optional (codes "joins") [] joins value
   put_out ← required (codes "output") output value
-  Ok (record { after = after; weight = weight; cost = cost; scan = scan; filters = passed; joins = joined; output = put_out })
+  Ok (record {
+    after = after;
+    weight = weight;
+    cost = cost;
+    scan = scan;
+    filters = passed;
+    joins = joined;
+    output = put_out;
+  })
 
 -- ---- the tables
 

@@ -1,5 +1,5 @@
--- What the forms of the format are made of. A form says of each JSON value what it stands for, or the first
--- refusal in it, whose path begins at that value.
+-- The parts of the format's forms. A form says what each JSON value stands for, or its first
+-- refusal, whose path begins at that value.
 use Rattle.std.specs.Prelude.{ℕ, ◌≡◌, ◌⊎◌, List, [], ◌∷◌, ◌++◌, length, Bool, true, false, not, ◌||◌, nat_lt, bytes_eq, Option, Some, None, Result, Ok, Err, ⊤}
 use Rattle.std.specs.List.{list_any}
 use Rattle.serde_json.specs.Data.{Data, Items, no_items, item, Members, no_members, member}
@@ -29,17 +29,17 @@ abbrev pub ◌>>◌ : {A B : Type 0} → Reading A → Reading B → Reading B
 ◌>>◌ (Ok a) next = next
 ◌>>◌ (Err refusal) next = Err refusal
 
--- the value, or this refusal where there is none
+-- the value, or this refusal if there is none
 abbrev pub or_refuse : {A : Type 0} → ScriptRefusal → Option A → Reading A
 or_refuse refusal None = Err refusal
 or_refuse refusal (Some a) = Ok a
 
--- this refusal where the test holds
+-- this refusal if the test holds
 abbrev pub refuse_if : Bool → ScriptRefusal → Reading ⊤
 refuse_if true refusal = Err refusal
 refuse_if false refusal = Ok tt
 
--- the reading of a value that stands one step below
+-- the reading of a value one step below
 abbrev pub under : {A : Type 0} → PathStep → Reading A → Reading A
 under step (Ok a) = Ok a
 under step (Err refusal) = Err (within step refusal)
@@ -79,7 +79,7 @@ object_of keys value = do
   members ← or_refuse wrong_shape (as_object value)
   refuse_if (has_other_key keys members) unknown_key
 
--- the value under a key that has to be there
+-- the value under a key that must be there
 abbrev pub required : {A : Type 0} → List ℕ → Form A → Form A
 required key form value = under (Key key) (or_refuse wrong_shape (get key value) >>= form)
 
@@ -87,7 +87,7 @@ abbrev pub read_or : {A : Type 0} → A → Form A → Option Data → Reading A
 read_or default form None = Ok default
 read_or default form (Some value) = form value
 
--- the value under a key, or the default where the key is not there
+-- the value under a key, or the default if the key is not there
 abbrev pub optional : {A : Type 0} → List ℕ → A → Form A → Form A
 optional key default form value = under (Key key) (read_or default form (get key value))
 
@@ -96,7 +96,8 @@ optional key default form value = under (Key key) (read_or default form (get key
 -- each item in order, whose form may depend on those before it
 abbrev pub each : {A : Type 0} → (List A → Form A) → List A → Items → Reading (List A)
 each form earlier no_items = Ok earlier
-each form earlier (item value rest) = under (At (length earlier)) (form earlier value) >>= λ a. each form (earlier ++ a ∷ []) rest
+each form earlier (item value rest) =
+    under (At (length earlier)) (form earlier value) >>= λ a. each form (earlier ++ a ∷ []) rest
 
 -- the items of an array of `least` to `most`
 abbrev pub items_of : ℕ → ℕ → Form Items
@@ -138,12 +139,12 @@ word_of meaning value = do
 
 -- ---- calls
 
--- what a call that reads gives: what the form says, but that memory may run out
+-- the result of a call that reads: what the form says, or out of memory
 abbrev pub Gives : {A : Type 0} → Reading A → Reading A → Type 0
 Gives said (Ok a) = said ≡ Ok a
 Gives said (Err refusal) = (refusal ≡ OutOfMemory) ⊎ (said ≡ Err refusal)
 
--- the same of a call that shows what it read by `shown`
+-- the same for a call whose result stands for what it read by `shown`
 abbrev pub Shows : {A B : Type 0} → (B → A) → Reading A → Reading B → Type 0
 Shows shown said (Ok b) = said ≡ Ok (shown b)
 Shows shown said (Err refusal) = (refusal ≡ OutOfMemory) ⊎ (said ≡ Err refusal)

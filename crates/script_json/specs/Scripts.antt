@@ -8,9 +8,10 @@ use Rattle.script_json.specs.declared.refusal.ScriptRefusal.{ScriptRefusal}
 use Rattle.script_json.specs.declared.refusal.ScriptRefusal.TheVariants.{NotJson, VersionUnknown, UnknownKey, WrongShape, WrongNumber, TooMany, BadText, TwiceNamed, AfterTooLarge, OutOfMemory}
 use Rattle.script_json.specs.declared.script.Script.{Script}
 
--- the bytes after a leading byte order mark, if there is one
+-- the bytes after a leading byte order mark, or all of them if there is none
 abbrev pub without_mark : List ℕ → List ℕ
-without_mark bytes = if starts_with nat_eq bytes (0xEF ∷ 0xBB ∷ 0xBF ∷ []) then drop 3 bytes else bytes
+without_mark bytes =
+    if starts_with nat_eq bytes (0xEF ∷ 0xBB ∷ 0xBF ∷ []) then drop 3 bytes else bytes
 
 -- bytes are JSON of this value
 pub record IsJson (bytes : List ℕ) (value : Data) : Type 0 where

@@ -1,4 +1,4 @@
-// What the forms of the format are made of: members, arrays, numbers and texts.
+// The parts of the format's forms: members, arrays, numbers and texts.
 ghost use Rattle.std.specs.Prelude.{◌≡◌, ◌<◌, ◌≤◌, ◌^◌, [], IfOk, bytes_eq, length, map, not, string_bytes};
 ghost use Rattle.std.specs.List.{list_any};
 ghost use Rattle.serde_json.specs.Data.{Data};
@@ -55,7 +55,7 @@ pub(crate) fn under_index<T: Drop>(
     }
 }
 
-/// Reads the member that an object has to have under a key.
+/// Reads the member that an object must have under a key.
 pub(crate) fn read_required<F: Form>(
     alloc: Global,
     value: &Value,
@@ -71,7 +71,7 @@ pub(crate) fn read_required<F: Form>(
     under_key(alloc, key, outcome)
 }
 
-/// Reads the member that an object may have under a key, and gives the default where it has none.
+/// Reads the member that an object may have under a key, or gives the default if it has none.
 pub(crate) fn read_optional<F: Form>(
     alloc: Global,
     value: &Value,
@@ -87,7 +87,7 @@ pub(crate) fn read_optional<F: Form>(
     }
 }
 
-/// Refuses what is no object, or has another key than these.
+/// Refuses a value that is not an object, or has a key other than these.
 pub(crate) fn check_keys(alloc: Global, value: &Value, keys: &[&str]) -> Result<(), ScriptRefusal>
     ensures { Gives (object_of (map (λ key. key.now) keys.now) (view value.now)) result }
 {
@@ -119,14 +119,15 @@ fn is_among(key: &str, keys: &[&str]) -> bool
     keys.iter().any(|listed| *listed == key)
 }
 
-/// The items of an array that has `least` to `most`.
+/// The items of an array of `least` to `most` items.
 pub(crate) fn items_within(
     alloc: Global,
     value: &Value,
     least: u32,
     most: u32,
 ) -> Result<&[Value], ScriptRefusal>
-    ensures items { Shows (λ items. items_view items.now) (items_of least most (view value.now)) result }
+    ensures items { Shows (λ items. items_view items.now)
+        (items_of least most (view value.now)) result }
     ensures few { IfOk result (λ items. length items.now ≤ most) }
 {
     let Some(items) = value.as_array() else {

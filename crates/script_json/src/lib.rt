@@ -1,11 +1,13 @@
 //! Scripts: JSON texts to tables and queries, and back.
 //!
-//! A script says which tables there are and which queries run over them. This layer stands on the queries of
-//! `plan_ast` and on the JSON values of `serde_json`. `specs/Format.antt` is the format: a definition for each
-//! form, which says what a value stands for there, or which refusal is the first and where it stands.
+//! A script says which tables there are and which queries run over them. This layer uses the
+//! queries of `plan_ast` and the JSON values of `serde_json`. The format is `specs/Format.antt`.
+//! It has a definition for each form, which says what a value stands for, or its first refusal
+//! with its path.
 //!
-//! The one fact that the layers above may use: `read_script` gives a script exactly where the bytes stand for
-//! it (`ReadsScript`), and else the first refusal with its path (`RefusesScript`).
+//! The one fact that the layers above may use: `read_script` gives a script exactly if the bytes
+//! stand for it (`ReadsScript`). Otherwise it gives the first refusal with its path
+//! (`RefusesScript`). Only out of memory can replace either.
 #![tactic(auto)]
 
 mod form;

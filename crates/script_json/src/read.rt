@@ -17,12 +17,14 @@ use plan_ast::{Query, stages};
 use serde_json::{Category, Value};
 use std::alloc::Global;
 
-/// Reads a script. One leading byte order mark is dropped, and the rest is read as JSON, in which the last value
-/// of a key stays.
+/// Reads a script. It drops one leading byte order mark and reads the rest as JSON. If an object
+/// repeats a key, its last value counts.
 ///
-/// A refusal is the first of a walk from the root, depth first, through the keys of an object in the order of the
-/// format and the items of an array in theirs. `AfterTooLarge` comes after the whole walk. Time is linear in the
-/// number of bytes, but for the look-up of keys in JSON objects.
+/// The refusal is the first one of a walk from the root, depth first. The walk takes the keys of an
+/// object in the order of the format, and the items of an array in their order. `AfterTooLarge` is
+/// checked after the whole walk. `OutOfMemory` may happen at any bytes.
+///
+/// Time is linear in the number of bytes, apart from looking up keys in JSON objects.
 pub fn read_script(alloc: Global, bytes: &[u8]) -> Result<Script, ScriptRefusal>
     ensures accepted { IfOk result (ReadsScript bytes.now) }
     ensures refused { IfErr result (RefusesScript bytes.now) }
@@ -46,7 +48,7 @@ fn parse(alloc: Global, bytes: &[u8]) -> Result<Value, ScriptRefusal>
     }
 }
 
-// The bytes after a byte order mark, if there is one.
+// The bytes after a byte order mark, if they begin with one.
 fn after_mark(bytes: &[u8]) -> &[u8]
     ensures { result.now ≡ without_mark bytes.now }
 {

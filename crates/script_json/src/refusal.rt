@@ -6,15 +6,16 @@ use col_table::{ListOf, Text};
 use std::alloc::{AllocError, AllocFailed, Global};
 use std::fmt;
 
-/// A step of a path: to the value under a key of an object, or to an item of an array, counted from 0.
+/// A step of a path: to the value under a key of an object, or to an item of an array. Items are
+/// counted from 0.
 #[derive(Debug, Drop)]
 pub enum PathStep {
     Key(Text),
     At(u32),
 }
 
-/// Where a value stands in a script: the steps from the root. As text it is `$`, and then `.key` or `[n]` for
-/// each step.
+/// The place of a value in a script: the steps from the root. As text it is `$`, and then `.key` or
+/// `[n]` for each step.
 #[derive(Debug, Drop)]
 pub struct Path {
     pub steps: ListOf<PathStep>,
@@ -22,28 +23,28 @@ pub struct Path {
 
 /// Why bytes are not a script. As text it is the words of its error line.
 ///
-/// Each path is that of the value that is refused, and of a missing value the path that it would have.
+/// Each path is that of the refused value. A missing value has the path that it would have.
 #[derive(Debug, Drop)]
 pub enum ScriptRefusal {
-    /// The bytes are no JSON, or nest deeper than 127.
+    /// The bytes are not JSON, or nest deeper than 127.
     NotJson,
     /// `version` is a number other than 1.
     VersionUnknown,
     /// An object has a key that it may not have.
     UnknownKey(Path),
-    /// A value is missing, is of another kind than wanted, or has too few items.
+    /// A value is missing, has the wrong JSON kind, or has too few items.
     WrongShape(Path),
-    /// A number is not whole, or out of its range.
+    /// A number is not whole, or is out of its range.
     WrongNumber(Path),
     /// An array has too many items.
     TooMany(Path),
-    /// A text breaks its rule, or is none of the words that may stand there.
+    /// A text is not valid at its place: a name, a file's name, or one of a few words.
     BadText(Path),
     /// A table has the name of an earlier table.
     TwiceNamed(Path),
     /// This query, counted from 0, waits for more task sets than the queries before it have.
     AfterTooLarge(u32),
-    /// Memory ran out.
+    /// Out of memory.
     OutOfMemory,
 }
 

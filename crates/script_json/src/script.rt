@@ -1,17 +1,17 @@
-// Scripts as they are in memory.
+// Scripts in memory.
 use col_table::{ListOf, Name, Text};
 use plan_ast::Query;
 
-/// The most tables that a script names.
+/// The greatest number of tables of a script.
 pub const MAX_TABLES: usize = 8;
 
-/// The most queries of a script.
+/// The greatest number of queries of a script.
 pub const MAX_QUERIES: usize = 4096;
 
 /// The greatest number of bytes of a file's name. The least is 1.
 pub const MAX_FILE_BYTES: usize = 255;
 
-/// A table of a script: the name that queries give it, and the file that it is read from.
+/// A table of a script: the name that queries use, and the file that holds it.
 #[derive(Debug, Drop)]
 pub struct TableEntry {
     pub name: Name,
@@ -21,7 +21,7 @@ pub struct TableEntry {
 /// What a script says: which tables there are, and which queries run over them.
 #[derive(Debug, Drop)]
 pub struct Script {
-    /// At most 8 tables, whose names differ.
+    /// At most 8 tables. No two names are equal.
     pub tables: ListOf<TableEntry>,
 
     /// At most 4,096 queries.

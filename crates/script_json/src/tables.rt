@@ -14,7 +14,7 @@ use col_table::{ListOf, Name};
 use serde_json::Value;
 use std::alloc::Global;
 
-/// The name of a table that none of these has.
+/// The name of a table, which no earlier entry has.
 #[derive(Drop)]
 struct NewNameForm<'a> {
     earlier: &'a [TableEntry],

@@ -11,9 +11,10 @@ use plan_ast::{Agg, Filter, Func, Join, NameRef, Op, Output, Query};
 use serde_json::{Value, json};
 use std::alloc::{AllocError, Global};
 
-/// The bytes of a script in its canonical form, which `read_script` reads as the same script: JSON with no space
-/// and no line end, the keys of each object in the order of their bytes, and every key of a query, a join and a
-/// filter, also where its value is the default.
+/// The bytes of a script in its canonical form. `read_script` reads them as the same script.
+///
+/// The form is JSON with no space and no line end. The keys of each object are in the order of
+/// their bytes. A query, a join and a filter have every key, even if its value is the default.
 pub fn write_script(alloc: Global, script: &Script) -> Result<Vec<u8>, AllocError>
     requires { IsScript script.now }
     ensures text { IfOk result (λ bytes. bytes.items ≡ script_text script.now) }
@@ -83,7 +84,8 @@ impl Written for Join {
         let left = self.left.to_json(alloc)?;
         let filters = array_of(alloc, self.filters.as_slice())?;
         json!(in alloc; {
-            "left": left, "right": self.right.as_str(), "table": self.table.as_str(), "where": filters
+            "left": left, "right": self.right.as_str(), "table": self.table.as_str(),
+            "where": filters
         })
     }
 }

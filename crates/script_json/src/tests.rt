@@ -9,7 +9,7 @@ fn outcome(rt: &HostRuntime, bytes: &[u8]) -> Result<String, Fail> {
     }
 }
 
-// The first line of a table, `TEXT => OUTCOME`, whose text between `before` and `after` has another outcome.
+// The first line `TEXT => OUTCOME` whose text, between `before` and `after`, has another outcome.
 fn first_other<'a>(
     rt: &HostRuntime,
     before: &str,
@@ -31,6 +31,9 @@ fn first_other<'a>(
 const TABLES: &str = r#"{"version":1,"queries":[],"tables":"#;
 
 const QUERIES: &str = r#"{"version":1,"tables":[],"queries":["#;
+
+const SECOND_QUERY: &str =
+    r#"{"version":1,"tables":[],"queries":[{"scan":"t","output":{"rows":["k"]}},"#;
 
 const WHERE: &str =
     r#"{"version":1,"tables":[],"queries":[{"scan":"t","output":{"rows":["k"]},"where":["#;
@@ -119,11 +122,14 @@ fn tells_what_is_wrong_with_queries(rt: HostRuntime) -> Result<(), Fail> {
 {"scan":"t","where":[1]} => wrong shape $.queries[0].where[0]
 {"scan":"t","joins":[1,2,3]} => too many $.queries[0].joins
 {"scan":"t","output":{"rows":["k"]},"after":1} => query 0: after too large
-{"scan":"t","output":{"rows":["k"]}},{"after":1,"scan":"t","output":{"rows":["k"]}} => script
-{"scan":"t","output":{"rows":["k"]}},{"after":2,"scan":"t","output":{"rows":["k"]}} => query 1: after too large
-{"scan":"t","output":{"rows":["k"]}},{"after":2,"scan":"t","output":{"rows":["k"]}},1 => wrong shape $.queries[2]
+"#;
+    let second = r#"
+{"after":1,"scan":"t","output":{"rows":["k"]}} => script
+{"after":2,"scan":"t","output":{"rows":["k"]}} => query 1: after too large
+{"after":2,"scan":"t","output":{"rows":["k"]}},1 => wrong shape $.queries[2]
 "#;
     assert_eq!(rt; first_other(&rt, QUERIES, "]}", rows)?, "none");
+    assert_eq!(rt; first_other(&rt, SECOND_QUERY, "]}", second)?, "none");
     Ok(())
 }
 
@@ -251,18 +257,33 @@ fn canonical(rt: &HostRuntime, text: &str) -> Result<Vec<u8>, Fail> {
 
 #[test]
 fn writes_the_canonical_form(rt: HostRuntime) -> Result<(), Fail> {
-    let groups =
-        r#"{"queries":[{"after":0,"cost":100,"joins":[],"output":{"groups":{"aggs":[{"col":"v","fn":"sum"}],"by":["k"]}},"scan":"t","weight":10,"where":[]}],"tables":[{"file":"t.csv","name":"t"}],"version":1}"#;
-    let shortest =
-        r#"{"version":1,"tables":[{"name":"t","file":"t.csv"}],"queries":[{"scan":"t","output":{"groups":{"by":["k"],"aggs":[{"fn":"sum","col":"v"}]}}}]}"#;
-    let joined =
-        r#"{"version":1,"tables":[{"name":"t","file":"t.csv"},{"file":"\u00e9","name":"\"u"}],"queries":[
+    let groups = concat!(
+        r#"{"queries":[{"after":0,"cost":100,"joins":[],"output":{"groups":"#,
+        r#"{"aggs":[{"col":"v","fn":"sum"}],"by":["k"]}},"scan":"t","weight":10,"where":[]}],"#,
+        r#""tables":[{"file":"t.csv","name":"t"}],"version":1}"#
+    );
+    let shortest = r#"{"version":1,"tables":[{"name":"t","file":"t.csv"}],"queries":[
+        {"scan":"t","output":{"groups":{"by":["k"],"aggs":[{"fn":"sum","col":"v"}]}}}]}"#;
+    let joined = r#"{"version":1,
+        "tables":[{"name":"t","file":"t.csv"},{"file":"\u00e9","name":"\"u"}],"queries":[
         {"scan":"t","where":[{"value":-9223372036854775808,"op":"<>","col":"k"}],"weight":3,
-         "joins":[{"right":"k","left":"k","table":"\"u","where":[{"op":">=","value":3,"col":"w"}]},{"table":"t","left":[1,"w"],"right":"v"}],
+         "joins":[{"right":"k","left":"k","table":"\"u",
+                   "where":[{"op":">=","value":3,"col":"w"}]},
+                  {"table":"t","left":[1,"w"],"right":"v"}],
          "output":{"rows":["k",[2,"v"]]}},
-        {"after":3,"cost":7,"scan":"t","output":{"totals":[{"fn":"count"},{"fn":"min","col":"v"},{"col":"v","fn":"max"}]}}]}"#;
-    let written =
-        r#"{"queries":[{"after":0,"cost":100,"joins":[{"left":"k","right":"k","table":"\"u","where":[{"col":"w","op":">=","value":3}]},{"left":[1,"w"],"right":"v","table":"t","where":[]}],"output":{"rows":["k",[2,"v"]]},"scan":"t","weight":3,"where":[{"col":"k","op":"<>","value":-9223372036854775808}]},{"after":3,"cost":7,"joins":[],"output":{"totals":[{"fn":"count"},{"col":"v","fn":"min"},{"col":"v","fn":"max"}]},"scan":"t","weight":10,"where":[]}],"tables":[{"file":"t.csv","name":"t"},{"file":"é","name":"\"u"}],"version":1}"#;
+        {"after":3,"cost":7,"scan":"t","output":
+         {"totals":[{"fn":"count"},{"fn":"min","col":"v"},{"col":"v","fn":"max"}]}}]}"#;
+    let written = concat!(
+        r#"{"queries":[{"after":0,"cost":100,"joins":[{"left":"k","right":"k","table":"\"u","#,
+        r#""where":[{"col":"w","op":">=","value":3}]},"#,
+        r#"{"left":[1,"w"],"right":"v","table":"t","where":[]}],"#,
+        r#""output":{"rows":["k",[2,"v"]]},"scan":"t","weight":3,"#,
+        r#""where":[{"col":"k","op":"<>","value":-9223372036854775808}]},"#,
+        r#"{"after":3,"cost":7,"joins":[],"#,
+        r#""output":{"totals":[{"fn":"count"},{"col":"v","fn":"min"},{"col":"v","fn":"max"}]},"#,
+        r#""scan":"t","weight":10,"where":[]}],"#,
+        r#""tables":[{"file":"t.csv","name":"t"},{"file":"é","name":"\"u"}],"version":1}"#
+    );
     for (text, wanted) in [
         (groups, groups),
         (shortest, groups),

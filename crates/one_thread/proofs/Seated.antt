@@ -4,7 +4,7 @@ use Rattle.std.proofs.lemmas.List.Elements.{All-cons}
 use Rattle.std.proofs.lemmas.Option.{get_or_from_slice_get, slice_get_within}
 use mathlib.Core.Logic.{∥∥₁_map}
 use Rattle.slot_history.specs.declared.shape.Shape.{Shape}
-use Rattle.slot_history.specs.declared.shape.TheConstants.{MOST_SLOTS, MOST_WORKERS}
+use Rattle.slot_history.specs.Bounds.{IsShape}
 use Rattle.slot_history.specs.declared.act.Act.{Act}
 use Rattle.slot_history.specs.declared.act.Act.TheVariants.{Install, Release, Announce}
 use Rattle.slot_history.specs.declared.act.Entry.{Entry}
@@ -95,8 +95,7 @@ pub record Seat {B Sub : Type 0} (b : Ghosts B Sub) : Type 0 where
   pub subject : Sub
   pub cells : List (Option B)
   pub below : worker < now.shape.workers
-  pub workers : (0 < start.shape.workers) × (start.shape.workers ≤ MOST_WORKERS)
-  pub slots : (0 < start.shape.slots) × (start.shape.slots ≤ MOST_SLOTS)
+  pub limits : IsShape start.shape
   pub queries : start.shape.queries ≡ b.queries start.subject
   pub same_shape : now.shape ≡ start.shape
   pub same_subject : now.subject ≡ start.subject
@@ -116,8 +115,7 @@ seat {k = k} s t view kept = record {
   subject = t.subject.value;
   cells = t.cells.items;
   below = s.below;
-  workers = s.workers;
-  slots = s.slots;
+  limits = s.limits;
   queries = s.queries;
   same_shape = s.shape;
   same_subject = s.subject;
@@ -202,8 +200,12 @@ module _ {B Sub : Type 0} {b : Ghosts B Sub} (x : Seat b) where
   -- ---- what the notes and the subject allow
 
   abbrev pub Allows : Act → Type 0
-  Allows a = NotesAllow (b.total subject) object.shape worker (place_of object.shape (trail_in worker (calls_of object.log)) worker)
-      (note_in object.log worker) a
+  Allows a = NotesAllow (b.total subject) (record {
+    shape = object.shape;
+    worker = worker;
+    place = place_of object.shape (trail_in worker (calls_of object.log)) worker;
+    notes = note_in object.log worker;
+  }) a
 
   own-trail-place : place_of object.shape (trail_in worker (calls_of object.log)) worker ≡ place
   own-trail-place = place-trail object.shape worker (calls_of object.log) ∙ place-of
@@ -271,8 +273,7 @@ module _ {B Sub : Type 0} {b : Ghosts B Sub} (x : Seat b) where
   abbrev SeatOver : TableStory Sub → Type 0
   SeatOver t = record {
     below : worker < t.shape.workers;
-    workers : (0 < start.shape.workers) × (start.shape.workers ≤ MOST_WORKERS);
-    slots : (0 < start.shape.slots) × (start.shape.slots ≤ MOST_SLOTS);
+    limits : IsShape start.shape;
     queries : start.shape.queries ≡ b.queries start.subject;
     shape : t.shape ≡ start.shape;
     subject : t.subject ≡ start.subject;
@@ -288,8 +289,7 @@ module _ {B Sub : Type 0} {b : Ghosts B Sub} (x : Seat b) where
       let since = ∥∥₁_map x.since (since-step start now longer worker e mine (ap (λ (t : TableStory Sub). record t { log = e ∷ t.log }) x.view)) in
       subst P (sym grows) (record {
         below = own-below;
-        workers = x.workers;
-        slots = x.slots;
+        limits = x.limits;
         queries = x.queries;
         shape = object-shape;
         subject =
@@ -330,7 +330,7 @@ module _ {B Sub : Type 0} {b : Ghosts B Sub} (x : Seat b) where
     pub seat-after : SeatOver after
     seat-after =
         let below = subst (λ (d : Shape). worker < d.workers) (x.same_shape ∙ sym new-shape) x.below in
-        record { below = below; workers = x.workers; slots = x.slots; queries = x.queries; shape = new-shape; subject = table-subject; since = new-since }
+        record { below = below; limits = x.limits; queries = x.queries; shape = new-shape; subject = table-subject; since = new-since }
 
     -- a token, by the place after the call
     pub token-for : (X : Shape → Place → Type 0) → X object.shape (place_in new worker) → X start.shape (own_place (shown_by desk new.log))

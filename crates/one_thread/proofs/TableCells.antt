@@ -70,7 +70,7 @@ module _ {B Sub : Type 0} (queries : Sub → ℕ) (total : Sub → ℕ → Optio
 
   -- what is known of the cell of v at the slot t, with this log
   abbrev Cell : List Logged → ℕ → ℕ → Option B → Type 0
-  Cell l t v x = CellOf (fits subject v) d h (note_in l) t v x
+  Cell l t v x = CellOf (fits subject v) (record { shape = d; history = h; notes = note_in l }) (record { slot = t; worker = v; value = x })
 
   -- the worker has cells of the slot s alone, and exchanges that of c there
   exchanged : (s c : ℕ) (n : Note) → c < d.workers → ((t : ℕ) → t ≢ s → has_own_cell (S.places w) t ≡ false)

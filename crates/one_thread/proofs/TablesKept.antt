@@ -4,6 +4,7 @@ use Rattle.std.specs.List.{slice_get}
 use Rattle.slot_history.specs.declared.shape.Shape.{Shape}
 use Rattle.slot_history.specs.declared.act.Act.{Act}
 use Rattle.slot_history.specs.declared.act.Entry.{Entry}
+use Rattle.slot_history.specs.declared.place.Place.{Place}
 use Rattle.slot_history.specs.Histories.{IsLegal, entry, place_of}
 use Rattle.slot_history.proofs.Subject.{subject-goes-on}
 use Rattle.slot_station.specs.declared.log.Logged.{Logged}
@@ -12,7 +13,7 @@ use Rattle.slot_station.proofs.CellsKept.{cell-call}
 use Rattle.one_thread.specs.Tables.{IsTableKept}
 use Rattle.one_thread.specs.Seats.{trail_in}
 use Rattle.one_thread.proofs.Trails.{place-trail}
-use Rattle.slot_station.specs.Cells.{NotesAllow}
+use Rattle.slot_station.specs.Cells.{Caller, NotesAllow}
 use Rattle.slot_station.proofs.OwnCells.{installs-of}
 
 module _ {B Sub : Type 0} (queries : Sub → ℕ) (total : Sub → ℕ → Option ℕ) (fits : Sub → ℕ → ℕ → List (ℕ × ℕ) → B → Type 0) (d : Shape)
@@ -27,17 +28,19 @@ module _ {B Sub : Type 0} (queries : Sub → ℕ) (total : Sub → ℕ → Optio
     cells_are = λ s v x in_s in_v at. none (s * d.workers + v) x at;
   }
 
+  abbrev caller_with : List Logged → ℕ → Place → Caller
+  caller_with log w p = record { shape = d; worker = w; place = p; notes = note_in log w }
+
   -- a call whose worker's notes allow it, by its place that its trail gives
   pub table-call : (log : List Logged) (cells : List (Option B)) (w : ℕ) (a : Act) → IsLegal d (calls_of (call w a ∷ log))
-      → NotesAllow (total subject) d w (place_of d (trail_in w (calls_of log)) w) (note_in log w) a
+      → NotesAllow (total subject) (caller_with log w (place_of d (trail_in w (calls_of log)) w)) a
       → IsTableKept queries total fits d subject log cells → IsTableKept queries total fits d subject (call w a ∷ log) cells
   table-call log cells w a legal allow ok =
       let h : List Entry = calls_of log in
       let totals : ℕ → Option ℕ = total subject in
-      let may : NotesAllow totals d w (place_of d h w) (note_in log w) a = subst (λ p. NotesAllow totals d w p (note_in log w) a)
-      (place-trail d w h) allow in record {
+      let may : NotesAllow totals (caller_with log w (place_of d h w)) a = subst (λ p. NotesAllow totals (caller_with log w p) a) (place-trail d w h) allow in record {
         queries_are = ok.queries_are;
-        of_subject = subject-goes-on totals d (entry w a) h ok.of_subject (installs-of totals d w (place_of d h w) (note_in log w) a may);
+        of_subject = subject-goes-on totals d (entry w a) h ok.of_subject (installs-of totals (caller_with log w (place_of d h w)) a may);
         count = ok.count;
         cells_are = λ s v x in_s in_v at. cell-call (fits subject v) totals d h (note_in log) w a legal may s x v in_v (ok.cells_are s v x in_s in_v at);
       }

@@ -4,7 +4,7 @@ use Rattle.slot_history.specs.declared.shape.Shape.{Shape}
 use Rattle.slot_history.specs.Histories.{IsOfTotals}
 use Rattle.slot_station.specs.declared.log.Logged.{Logged}
 use Rattle.slot_station.specs.Cells.{CellOf}
-use Rattle.slot_station.specs.Log.{calls_of, note_in}
+use Rattle.slot_station.specs.Log.{calls_of, moment_of}
 
 -- how large the table is, the subject that it serves, and its log
 pub record TableStory (Sub : Type 0) : Type 0 where
@@ -22,4 +22,4 @@ pub record IsTableKept {B Sub : Type 0} (queries : Sub → ℕ) (total : Sub →
   pub count : length cells ≡ d.slots * d.workers
   pub cells_are : (s v : ℕ) (x : Option B) → s < d.slots → v < d.workers
       → slice_get cells (s * d.workers + v) ≡ Some x
-      → CellOf (fits subject v) d (calls_of log) (note_in log) s v x
+      → CellOf (fits subject v) (moment_of d log) (record { slot = s; worker = v; value = x })

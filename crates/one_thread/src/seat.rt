@@ -3,7 +3,7 @@ ghost use Rattle.std.specs.Prelude.{◌≡◌, ◌≢◌, ℕ, ◌+◌, ◌<◌,
 ghost use Rattle.std.proofs.Props.{props};
 ghost use Rattle.std.proofs.Common.{subst};
 ghost use Rattle.std.specs.Coded.{Coded-set};
-ghost use Rattle.slot_history.specs.declared.shape.TheConstants.{MOST_SLOTS, MOST_WORKERS};
+ghost use Rattle.slot_history.specs.Bounds.{IsShape};
 ghost use Rattle.slot_station.specs.Cells.{has_cell, kept_note, fresh_note};
 ghost use Rattle.slot_station.specs.Desks.{own_place, Owns, Exchanges, ExchangesOwn, OwnFits, NextFits, OwnCellSays, CellSays};
 ghost use Rattle.one_thread.specs.Seats.{IsSince, SeatOrigin, desk_over, seen_by, shown_by};
@@ -31,8 +31,7 @@ pub struct OneSeat<'a, B: Fits, O: SlotObject> {
     /// The table as it was when the seat was made, for contracts alone.
     pub start: Snapshot<OneTable<B, O>>,
     ghost below: { worker < table.now.shape.workers },
-    ghost workers: { (0 < start.value.shape.workers) × (start.value.shape.workers ≤ MOST_WORKERS) },
-    ghost slots: { (0 < start.value.shape.slots) × (start.value.shape.slots ≤ MOST_SLOTS) },
+    ghost limits: { IsShape start.value.shape },
     ghost queries: { start.value.shape.queries ≡ B.queries start.value.subject },
     ghost shape: { table.now.shape ≡ start.value.shape },
     ghost subject: { table.now.subject ≡ start.value.subject } by { Prim.hlevel (props, Coded-set B.Subject.code) },
@@ -294,5 +293,9 @@ impl<'a, B: Fits, O: SlotObject> Station<B> for OneSeat<'a, B, O> {
         old
     }
 
-    ghost sound = { λ s. record { below = subst (λ d. s.worker < d.workers) s.shape s.below; workers = s.workers; slots = s.slots; queries_are = s.queries } };
+    ghost sound = { λ s. record {
+      shape_is = s.limits;
+      below = subst (λ d. s.worker < d.workers) s.shape s.below;
+      queries_are = s.queries;
+    } };
 }

@@ -1,27 +1,26 @@
 -- What an object keeps follows its calls.
-use Rattle.std.proofs.Common.{◌≡◌, ◌≢◌, ℕ, ◌<◌, ◌≤◌, Bool, List, ◌∷◌, set, get_or, slice_get, slice_set, Some, sym, ap, ◌∙◌, subst, arith}
+use Rattle.std.proofs.Common.{◌≡◌, ◌≢◌, ℕ, ◌<◌, Bool, List, ◌∷◌, set, get_or, slice_get, slice_set, Some, sym, ap, ◌∙◌, subst, arith}
 use Rattle.std.proofs.lemmas.Option.{get_or_from_slice_get}
 use Rattle.slot_history.specs.declared.shape.Shape.{Shape}
-use Rattle.slot_history.specs.declared.shape.TheConstants.{MOST_WORKERS}
 use Rattle.slot_history.specs.declared.act.Act.{Act}
 use Rattle.slot_history.specs.declared.place.Place.{Place}
-use Rattle.slot_history.specs.declared.place.Place.TheVariants.{Free, Asking, Announcing}
+use Rattle.slot_history.specs.declared.place.Place.TheVariants.{Free}
 use Rattle.slot_history.specs.Sets.{upd}
 use Rattle.slot_history.specs.States.{SlotState, ObjectState, slot_of, owes}
 use Rattle.slot_history.specs.Steps.{site, moved, slot_after, changes_after, returns_after, admitted_after, finished_after, next}
 use Rattle.slot_history.specs.Allowed.{IsAllowed}
 use Rattle.slot_history.specs.Histories.{IsLegal}
-use Rattle.slot_history.specs.Table.{Duty, Meets, IsTable}
-use Rattle.slot_history.specs.Bounds.{IsPlaceWithin, IsWithin}
+use Rattle.slot_history.specs.Table.{IsTable}
+use Rattle.slot_history.specs.Bounds.{IsWithin}
 use Rattle.slot_history.proofs.Table.{table}
 use Rattle.slot_history.proofs.Within.{within, within-slots}
-use Rattle.slot_history.proofs.Duties.{asking-leads}
-use Rattle.slot_history.proofs.Sets.{upd-same, count-most}
+use Rattle.slot_history.proofs.Sets.{upd-same}
 use Rattle.plain_slots.specs.declared.object.PlainObject.TheInside.{Inside}
 use Rattle.slot_station.specs.declared.log.Logged.{Logged}
 use Rattle.plain_slots.specs.declared.slot.Slot.{Slot}
 use Rattle.slot_station.specs.Log.{calls_of, call}
 use Rattle.slot_station.specs.Places.{IsCounted}
+use Rattle.slot_station.proofs.PlaceCounts as counts
 use Rattle.plain_slots.specs.Slots.{shown}
 use Rattle.one_thread.specs.Stories.{Story, MakesCall, place_in, state_in}
 use Rattle.plain_slots.specs.Objects.{HasSlots, HasDebts, HasMasks, IsObject}
@@ -30,15 +29,6 @@ use Rattle.plain_slots.proofs.Objects.{after-call, slots-kept, debts-kept}
 -- an element that is known is the one that is read
 pub read : {A : Type 0} (l : List A) (i : ℕ) (x r : A) → slice_get l i ≡ Some x → r ≡ get_or l i r → r ≡ x
 read l i x r is e = e ∙ get_or_from_slice_get l i x r is
-
-counted : (d : Shape) (p : Place) (D : Duty) → d.workers ≤ MOST_WORKERS → Meets d (slot_of p) D p → IsPlaceWithin d p → IsCounted p
-counted d (Asking s id n m) D most meets low =
-    let (e, is, asked) = asking-leads d s id n m D meets in
-    let less = asked.within in
-    let marks = asked.marks in
-    let some = count-most d.workers e.marked in (omega arith, omega arith)
-counted d (Announcing s again told) D most meets low = let less = low.1 in omega arith
-counted d p D most meets low = tt
 
 abbrev pub Kept : Inside → Type 0
 Kept o = IsObject o.shape o.slots.items o.owing.items o.places.items o.returns.items o.changes.items o.admitted o.finished o.log
@@ -72,7 +62,7 @@ module _ (o : Inside) (ok : Kept o) where
     place-is = ok.places_are.are w low
 
     pub place-counted : IsCounted ((now_of o).places w)
-    place-counted = let p = (now_of o).places w in counted o.shape p _ ok.shape.workers.1 (tabled.duty (slot_of p) w low) (bounded.places w)
+    place-counted = counts.place-counted o.shape (calls_of o.log) w ok.shape ok.legal low
 
     -- for a step, the counts of the place that is read
     pub counted-at : (p : Place) → slice_get o.places.items w ≡ Some p → IsCounted p

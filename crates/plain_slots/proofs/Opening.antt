@@ -2,7 +2,6 @@
 use Rattle.std.proofs.Common.{◌≡◌, ℕ, ◌+◌, ◌*◌, ◌<◌, Bool, false, List, [], length, replicate, slice_get, Some, refl, ap, ◌∙◌, arith}
 use Rattle.std.proofs.lemmas.Nat.Bits.{bit_at-zero}
 use Rattle.std.proofs.lemmas.List.{get_or-replicate, length-replicate}
-use Rattle.std.proofs.lemmas.Option.{slice_get-get_or}
 use Rattle.slot_history.specs.declared.shape.Shape.{Shape}
 use Rattle.slot_history.specs.declared.shape.TheConstants.{PARTS}
 use Rattle.slot_history.specs.declared.place.Place.{Place}
@@ -12,12 +11,8 @@ use Rattle.plain_slots.specs.declared.slot.Slot.{Slot}
 use Rattle.plain_slots.specs.declared.slot.Slot.TheVariants.{Empty}
 use Rattle.slot_station.specs.Shapes.{IsShape}
 use Rattle.plain_slots.specs.Objects.{HasMasks, IsObject}
-use Rattle.slot_station.proofs.Lists.{pair-within}
+use Rattle.slot_station.proofs.Lists.{get-replicate, pair-within}
 use Rattle.plain_slots.proofs.Masks.{word-within}
-
-get-replicate : {A : Type 0} (n k : ℕ) (x : A) → k < n → slice_get (replicate n x) k ≡ Some x
-get-replicate n k x h = let l : length (replicate n x) ≡ n = length-replicate n x in slice_get-get_or (replicate n x) k x (omega arith)
-    ∙ ap Some (get_or-replicate n k x x h)
 
 no-masks : (d : Shape) → HasMasks d (λ w s. false) (replicate {A = ℕ} (d.workers * PARTS) 0)
 no-masks d = record {

@@ -51,8 +51,10 @@ became-used d S w (SweepOthers n) s id ok e = absurd (cc)
 became-used d S w (ReserveGot t) s id ok e = absurd (cc)
 became-used d S w (AdmitGot q) s id ok e = absurd (let r : Holding ok.0 (held_after (AdmitGot q) ok.1) ≡ Used s id = sym (ap (moved d (AdmitGot q)) ok.2)
     ∙ e in cc)
-became-used d S w (NoteDone k) s id ok e = absurd (let r : Holding ok.0 (held_after (NoteDone k) ok.1) ≡ Used s id = sym (ap (moved d (NoteDone k)) ok.2) ∙ e in cc)
-became-used d S w (SetTotal t) s id ok e = absurd (let r : Holding ok.0 (held_after (SetTotal t) ok.1) ≡ Used s id = sym (ap (moved d (SetTotal t)) ok.2) ∙ e in cc)
+became-used d S w (NoteDone k) s id ok e = absurd (
+    let r : Holding ok.0 (held_after (NoteDone k) ok.1) ≡ Used s id = sym (ap (moved d (NoteDone k)) ok.2) ∙ e in cc)
+became-used d S w (SetTotal t) s id ok e = absurd (
+    let r : Holding ok.0 (held_after (SetTotal t) ok.1) ≡ Used s id = sym (ap (moved d (SetTotal t)) ok.2) ∙ e in cc)
 became-used d S w (Install jd) s id ok e = absurd (cc)
 became-used d S w Release s id ok e = absurd (cc)
 became-used d S w Announce s id ok e = absurd (told-unused d ok.0 ok.1 ok.2 s id (sym (ap (moved d Announce) ok.3) ∙ e))

@@ -90,7 +90,8 @@ stays-clear : (part w : ℕ) (f : ℕ → ℕ → Bool) (v s : ℕ) → f v s �
 stays-clear part w f v s h =
     upd-cases f w (taken part (f w)) v (λ g. g s ≡ false) (λ e. taken-clear part (f w) s (ap (λ j. f j s) (sym e) ∙ h)) (λ k. h)
 
-notice-clear : (again : Bool) (a : Act) (w : ℕ) (p : Place) (f : ℕ → ℕ → Bool) (v s : ℕ) → a ≢ Announce → f v s ≡ false → notices_after again w a p f v s ≡ false
+notice-clear : (again : Bool) (a : Act) (w : ℕ) (p : Place) (f : ℕ → ℕ → Bool) (v s : ℕ) → a ≢ Announce → f v s ≡ false
+    → notices_after again w a p f v s ≡ false
 notice-clear again Announce w p f v s n h = absurd (n refl)
 notice-clear true (TakeReturn part bits) w p f v s n h = stays-clear part w f v s h
 notice-clear false (TakeChange part bits) w p f v s n h = stays-clear part w f v s h

@@ -9,7 +9,7 @@ use Rattle.std.proofs.Math.Nat.{pow-suc}
 use Rattle.std.proofs.lemmas.Bool.{cond_both}
 use Rattle.slot_history.specs.Sets.{upd}
 use Rattle.slot_history.specs.Steps.{taken, is_in_part}
-use Rattle.slot_history.specs.Allowed.{IsMask}
+use Rattle.slot_history.specs.Allowed.{IsMask, bit_of}
 use Rattle.slot_history.specs.Calls.{mask_of}
 use Rattle.slot_history.proofs.Sets.{upd-else}
 
@@ -56,9 +56,9 @@ cond-or true c = refl
 cond-or false c = refl
 
 -- the word of the slot's part gets its bit
-pub mask-comes : (f : ℕ → Bool) (n s : ℕ) → IsMask (s / 64) f n → IsMask (s / 64) (upd f s true) (bit_or n (1 * 2 ^ (s % 64) % 2 ^ 64))
+pub mask-comes : (f : ℕ → Bool) (n s : ℕ) → IsMask (s / 64) f n → IsMask (s / 64) (upd f s true) (bit_or n (bit_of s))
 mask-comes f n s was = record {
-  small = or_lt 64 n (1 * 2 ^ (s % 64) % 2 ^ 64) was.small (omega arith);
+  small = or_lt 64 n (bit_of s) was.small (omega arith);
   each = λ j low. set-bit n (s % 64) j (cond (f (s / 64 * 64 + j)) 1 0) (omega arith) (was.each j low) (ℕ_discrete j (s % 64))
       ∙ cond-or (eqb j (s % 64)) (f (s / 64 * 64 + j)) ∙ ap
       (λ b. cond (cond b true (f (s / 64 * 64 + j))) 1 0) (sym (place-eqb s j low (ℕ_discrete j (s % 64))));

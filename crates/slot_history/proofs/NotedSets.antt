@@ -123,7 +123,8 @@ pays d S w (AdmitGot q) low tab ok = λ k. let x : SlotState = S.slots (slot_of 
 pays d S w (NoteDone n) low tab ok = let at : ok.0 ≡ slot_of (S.places w) = sym (ap slot_of ok.2) in
     subst (λ j. IsSlotSound (S.slots j) → S.finished + n + note_room (held_on (NoteDone n) (S.slots j)) + STAGES *
     (STAGES + 1) * S.admitted ≤ S.finished + note_room (S.slots j) + STAGES * (STAGES + 1) * S.admitted) at
-    (λ k. let y : ℕ = note_room (held_on (NoteDone n) (S.slots ok.0)) in let z : ℕ = note_room (S.slots ok.0) in let f : ℕ = S.finished in let m : ℕ = S.admitted in
+    (λ k. let y : ℕ = note_room (held_on (NoteDone n) (S.slots ok.0)) in let z : ℕ = note_room (S.slots ok.0) in let f : ℕ = S.finished in
+    let m : ℕ = S.admitted in
     let e : n + y ≤ z = room-noted (S.slots ok.0) w n ok.1 ok.3 ok.4 ok.6 (holder-slot d S tab w ok.0 ok.1 low ok.2) k in
     let r : f + n + y + STAGES * (STAGES + 1) * m ≤ f + z + STAGES * (STAGES + 1) * m = omega arith in r)
 pays d S w (SetTotal t) low tab ok = λ k. let x : SlotState = S.slots (slot_of (S.places w)) in let e : note_room (held_on (SetTotal t) x) ≡ note_room x =

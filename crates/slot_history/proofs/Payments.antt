@@ -9,7 +9,7 @@ use Rattle.slot_history.specs.Sets.{upd, count_of}
 use Rattle.slot_history.specs.States.{TaskSet, Ending, Shut, ObjectState, SlotState, slot_of, owes}
 use Rattle.slot_history.specs.Steps.{ended, next_asked, slot_after}
 use Rattle.slot_history.specs.Allowed.{IsAllowed, debts}
-use Rattle.slot_history.specs.Table.{owing, duty_of, Meets, IsChain, IsChainOf, IsLed, IsTable}
+use Rattle.slot_history.specs.Table.{owing, duty_of, Meets, IsChain, IsChainOf, Asker, IsLed, IsTable}
 use Rattle.slot_history.specs.Payments.{IsOnePaid, IsOneMarked, DebtsGoOn}
 use Rattle.slot_history.proofs.Sets.{upd-cases, upd-same, count-more, count-same}
 use Rattle.slot_history.proofs.Duties.{owing-owes, owes-slot, owing-else, paid-clear}
@@ -100,9 +100,10 @@ pub record IsUnmarked (d : Shape) (e : Ending) : Type 0 where
   pub marked : e.marked (next_asked d e) ≡ false
   pub paid : e.paid (next_asked d e) ≡ false
 
-pub next-unmarked : (d : Shape) (x : SlotState) (w id n m : ℕ) → w < d.workers → n + 1 < d.workers → IsChainOf d x → (l : IsLed d x w id n m)
-    → IsUnmarked d l.ending
-next-unmarked d x w id n m low more chain l =
+pub next-unmarked : (d : Shape) (x : SlotState) (k : Asker) → k.asked + 1 < d.workers → IsChainOf d x → (l : IsLed d x k) → IsUnmarked d l.ending
+next-unmarked d x k more chain l =
+    let n : ℕ = k.asked in
+    let m : ℕ = k.marked in
     let e : Ending = l.ending in
     let c : IsChain d e = subst (IsChainOf d) l.slot chain in
     let is = next-is d e n m l.asked c.coordinator more in
@@ -118,7 +119,7 @@ marks-one : (d : Shape) (S : ObjectState) (w : ℕ) → IsTable d S → w < d.wo
     → let x = S.slots ok.0 in IsOneMarked d x (slot_after d w MarkMarked x)
 marks-one d S w tab low ok =
     let l = led d S tab w ok.0 ok.1 ok.2 ok.3 low ok.4 in
-    let u = next-unmarked d (S.slots ok.0) w ok.1 ok.2 ok.3 low ok.5 (tab.chain ok.0) l in
+    let u = next-unmarked d (S.slots ok.0) (record { worker = w; id = ok.1; asked = ok.2; marked = ok.3 }) ok.5 (tab.chain ok.0) l in
     subst (λ x. IsOneMarked d x (slot_after d w MarkMarked x)) (sym l.slot)
     (refl, debt-marked d (next_asked d l.ending) l.task l.ending u.low u.marked u.paid, mark-counts d (next_asked d l.ending) l.ending u.low u.marked)
 

@@ -1,5 +1,5 @@
 -- Which call a worker may make in a state, and which answer it has there.
-use Rattle.std.specs.Prelude.{◌≡◌, ◌≢◌, ℕ, ◌+◌, ◌*◌, ◌^◌, ◌<◌, ◌≤◌, ◌⊎◌, Bool, true, false, cond, min, None, IsSome}
+use Rattle.std.specs.Prelude.{◌≡◌, ◌≢◌, ℕ, ◌+◌, ◌*◌, ◌%◌, ◌^◌, ◌<◌, ◌≤◌, ◌⊎◌, Bool, true, false, cond, min, None, IsSome}
 use Rattle.std.specs.Int.{bit_at}
 use Rattle.slot_history.specs.declared.shape.Shape.{Shape}
 use Rattle.slot_history.specs.declared.shape.TheConstants.{STAGES, PARTS, MOST_CLAIM, MOST_TOTAL}
@@ -25,6 +25,10 @@ next_is_at d S s x = false
 pub record IsMask (part : ℕ) (pending : ℕ → Bool) (bits : ℕ) : Type 0 where
   pub small : bits < 2 ^ 64
   pub each : (k : ℕ) → k < 64 → bit_at bits k ≡ cond (pending (part * 64 + k)) 1 0
+
+-- the bit of a slot in the mask word of its part
+abbrev pub bit_of : ℕ → ℕ
+bit_of s = 1 * 2 ^ (s % 64) % 2 ^ 64
 
 -- whether the task set after this holding is one that the holder may install: its total is set, and
 -- after a finalisation that of one stage was noted and the query may have one more

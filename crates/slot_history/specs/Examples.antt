@@ -48,8 +48,8 @@ BothPayBeforeSweep =
     ∷ (0, Entering 0) ∷ (0, Looking) ∷ (0, Claiming 16) ∷ (1, Entering 0) ∷ (2, Entering 0)
     ∷ (0, Shutting) ∷ (0, Leaving) ∷ (0, Marking) ∷ (0, Marking) ∷ (1, Looking) ∷ (2, Looking)
     ∷ (1, Leaving) ∷ (1, Paying) ∷ (2, Leaving) ∷ (2, Paying) ∷ (0, Sweeping) ∷ []))
-    ≡ opened_answers ++ (Announce ∷ Announce ∷ Announce ∷ Enter 0 ∷ LookOpen 0 ∷ ClaimUsed 16 ∷ Enter 0
-    ∷ Enter 0 ∷ ShutWon ∷ LeaveLeft ∷ MarkMarked ∷ MarkMarked ∷ LookInvalid ∷ LookInvalid
+    ≡ opened_answers ++ (Announce ∷ Announce ∷ Announce ∷ Enter 0 ∷ LookOpen 0 ∷ ClaimUsed 16
+    ∷ Enter 0 ∷ Enter 0 ∷ ShutWon ∷ LeaveLeft ∷ MarkMarked ∷ MarkMarked ∷ LookInvalid ∷ LookInvalid
     ∷ LeaveOwe 0 ∷ PayDone ∷ LeaveOwe 0 ∷ PayDone ∷ SweepLast ∷ [])
 
 -- a worker that looked before the task set was installed is marked for it, learns the id from its
@@ -78,8 +78,8 @@ SlotIsFilledAgain =
     ∷ (0, Releasing) ∷ (0, Reserving 0) ∷ (0, Admitting 1) ∷ (0, SettingTotal 5) ∷ (0, Installing 8)
     ∷ (1, Looking) ∷ (1, Claiming 16) ∷ []))
     ≡ pair_answers ++ (Enter 0 ∷ LookOpen 0 ∷ ClaimUsed 16 ∷ ShutWon ∷ LeaveLeft ∷ MarkMissed
-    ∷ Enter 0 ∷ SweepLast ∷ NoteDone 1 ∷ Release ∷ ReserveGot 0 ∷ AdmitGot 1 ∷ SetTotal 5 ∷ Install 8
-    ∷ LookOpen 8 ∷ ClaimRange 16 0 5 ∷ [])
+    ∷ Enter 0 ∷ SweepLast ∷ NoteDone 1 ∷ Release ∷ ReserveGot 0 ∷ AdmitGot 1 ∷ SetTotal 5
+    ∷ Install 8 ∷ LookOpen 8 ∷ ClaimRange 16 0 5 ∷ [])
 
 -- A worker takes the return notice of a slot whose change notice is still to come: the slot's
 -- second query is announced by worker 0, and its second stage by worker 1, which is faster.
@@ -95,9 +95,10 @@ NoticesCross =
     ∷ (1, AnnouncingNext) ∷ (1, AnnouncingNext) ∷ (1, AnnouncingNext) ∷ (2, TakingReturn 0)
     ∷ (2, TakingChange 0) ∷ (2, Entering 0) ∷ (2, Looking) ∷ (2, Leaving) ∷ (0, AnnouncingNext)
     ∷ (2, TakingChange 0) ∷ (2, AskingArrivals) ∷ []))
-    ≡ opened_answers ++ (Announce ∷ Announce ∷ Announce ∷ TakeChange 0 1 ∷ Enter 0 ∷ LookOpen 0 ∷ ClaimUsed 16
-    ∷ ShutWon ∷ LeaveLeft ∷ MarkMissed ∷ MarkMissed ∷ SweepLast ∷ NoteDone 1 ∷ Release ∷ ReserveGot 0
-    ∷ AdmitGot 1 ∷ SetTotal 0 ∷ Install 8 ∷ Announce ∷ Announce ∷ TakeChange 0 1 ∷ Enter 0 ∷ LookOpen 8
-    ∷ ClaimUsed 16 ∷ ShutWon ∷ LeaveLeft ∷ MarkMissed ∷ MarkMissed ∷ SweepLast ∷ NoteDone 1 ∷ SetTotal 0
-    ∷ Install 9 ∷ Announce ∷ Announce ∷ Announce ∷ TakeReturn 0 1 ∷ TakeChange 0 0 ∷ Enter 0 ∷ LookOpen 9
-    ∷ LeaveLeft ∷ Announce ∷ TakeChange 0 1 ∷ Arrivals 2 ∷ [])
+    ≡ opened_answers ++ (Announce ∷ Announce ∷ Announce ∷ TakeChange 0 1 ∷ Enter 0 ∷ LookOpen 0
+    ∷ ClaimUsed 16 ∷ ShutWon ∷ LeaveLeft ∷ MarkMissed ∷ MarkMissed ∷ SweepLast ∷ NoteDone 1
+    ∷ Release ∷ ReserveGot 0 ∷ AdmitGot 1 ∷ SetTotal 0 ∷ Install 8 ∷ Announce ∷ Announce
+    ∷ TakeChange 0 1 ∷ Enter 0 ∷ LookOpen 8 ∷ ClaimUsed 16 ∷ ShutWon ∷ LeaveLeft ∷ MarkMissed
+    ∷ MarkMissed ∷ SweepLast ∷ NoteDone 1 ∷ SetTotal 0 ∷ Install 9 ∷ Announce ∷ Announce ∷ Announce
+    ∷ TakeReturn 0 1 ∷ TakeChange 0 0 ∷ Enter 0 ∷ LookOpen 9 ∷ LeaveLeft ∷ Announce ∷ TakeChange 0 1
+    ∷ Arrivals 2 ∷ [])

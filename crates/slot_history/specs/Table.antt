@@ -122,19 +122,28 @@ pub record IsTable (d : Shape) (S : ObjectState) : Type 0 where
   pub chain : (s : ℕ) → IsChainOf d (S.slots s)
   pub duty : (s v : ℕ) → v < d.workers → Meets d s (duty_of (S.slots s) v) (S.places v)
 
--- The slot of a coordinator w that asked n of the others for this id and marked m of them: it is
--- shut with the id, w shut it and has not swept, and whom it asks next is number n of the others.
-pub record IsLed (d : Shape) (x : SlotState) (w id n m : ℕ) : Type 0 where
+-- a coordinator that asks: its number, the id of its task set, and how many of the others it asked
+-- and marked
+pub record Asker : Type 0 where
+  pub worker : ℕ
+  pub id : ℕ
+  pub asked : ℕ
+  pub marked : ℕ
+
+-- The slot of a coordinator that asks: it is shut with the coordinator's id, the coordinator shut
+-- it and has not swept, and whom it asks next is the one after those that it asked.
+pub record IsLed (d : Shape) (x : SlotState) (asker : Asker) : Type 0 where
   pub task : TaskSet
   pub ending : Ending
   pub slot : x ≡ Shut task ending
-  pub named : task.id ≡ id
-  pub mine : w ≡ ending.coordinator
+  pub named : task.id ≡ asker.id
+  pub mine : asker.worker ≡ ending.coordinator
   pub unswept : ending.swept ≡ false
-  pub asked : HasAsked d ending n m
-  pub next : n + 1 < d.workers → next_asked d ending ≡ nth_other w n
+  pub asked : HasAsked d ending asker.asked asker.marked
+  pub next : asker.asked + 1 < d.workers
+      → next_asked d ending ≡ nth_other asker.worker asker.asked
 
 -- of each coordinator that asks
 abbrev pub AreLed : Shape → ObjectState → Type 0
 AreLed d S = (w s id n m : ℕ) → w < d.workers → S.places w ≡ Asking s id n m
-    → IsLed d (S.slots s) w id n m
+    → IsLed d (S.slots s) (record { worker = w; id = id; asked = n; marked = m })

@@ -1,50 +1,37 @@
 -- One step of the machine of words, whatever the call.
-use Rattle.std.proofs.Common.{◌≡◌, ℕ, ◌<◌, ◌≤◌, List, [], ◌∷◌, length, get_or, replicate, Some, slice_get, slice_index, slice_set, refl, sym, ap, ap₂, ◌∙◌, subst, length-set, arith}
-use Rattle.std.proofs.lemmas.List.{get_or-replicate, length-replicate}
+use Rattle.std.proofs.Common.{◌≡◌, ℕ, ◌<◌, List, [], ◌∷◌, length, get_or, replicate, Some, slice_get, slice_index, slice_set, refl, sym, ap, ap₂, ◌∙◌, subst, length-set, arith}
+use Rattle.std.proofs.lemmas.List.{length-replicate}
 use Rattle.std.proofs.lemmas.Option.{get_or_from_slice_get, slice_get-get_or}
 use mathlib.Core.Logic.{dite}
 use native.Mathlib.Decide.{ℕ_discrete}
 use Rattle.slot_history.specs.declared.shape.Shape.{Shape}
-use Rattle.slot_history.specs.declared.shape.TheConstants.{MOST_WORKERS}
 use Rattle.slot_history.specs.declared.act.Act.{Act}
 use Rattle.slot_history.specs.declared.place.Place.{Place}
-use Rattle.slot_history.specs.declared.place.Place.TheVariants.{Free, Asking, Announcing}
+use Rattle.slot_history.specs.declared.place.Place.TheVariants.{Free}
 use Rattle.slot_history.specs.Sets.{upd}
-use Rattle.slot_history.specs.States.{ObjectState, slot_of}
+use Rattle.slot_history.specs.States.{ObjectState}
 use Rattle.slot_history.specs.Steps.{moved}
-use Rattle.slot_history.specs.Table.{Duty, Meets, duty_of}
 use Rattle.slot_history.specs.Bounds.{IsShape, IsPlaceWithin}
 use Rattle.slot_history.specs.Histories.{IsLegal, entry}
 use Rattle.slot_history.specs.Calls.{Call}
-use Rattle.slot_history.proofs.Duties.{asking-leads}
-use Rattle.slot_history.proofs.Sets.{count-most, upd-same, upd-else}
-use Rattle.slot_history.proofs.Table.{table}
+use Rattle.slot_history.proofs.Sets.{upd-same, upd-else}
 use Rattle.slot_history.proofs.Within.{within}
 use Rattle.slot_station.specs.declared.log.Logged.{Logged}
 use Rattle.slot_station.specs.Log.{calls_of, call}
 use Rattle.one_thread.specs.Stories.{MakesCall, state_in, place_in}
 use Rattle.slot_station.specs.Places.{IsCounted}
-use Rattle.slot_station.proofs.Lists.{get-set_same, get-set_other}
+use Rattle.slot_station.proofs.PlaceCounts as counts
+use Rattle.slot_station.proofs.Lists.{get-replicate, get-set_same, get-set_other}
 use Rattle.slot_words.specs.declared.address.Address.{Address}
 use Rattle.slot_words.specs.Addresses.{index}
 use Rattle.slot_words.specs.Steps.{change_of, answer_of}
 use Rattle.slot_words.specs.Words.{StandsFor, AreFirst, word_at}
 use Rattle.slot_words.specs.Numbers.{IsSmall}
-use Rattle.slot_words.specs.Laws.{IsLawful, stepped}
+use Rattle.slot_words.specs.Laws.{Turn, IsLawful, stepped}
 use Rattle.slot_proto.specs.declared.machine.Machine.TheInside.{Inside}
 use Rattle.slot_words.proofs.Law.{law}
 use Rattle.slot_words.proofs.Openings.{first-words-stand}
 use Rattle.slot_proto.specs.Machines.{Running, IsMachine, IsCallOn, IsStepOf, Calls, place_now, story_of}
-
--- an asking and a telling have come no further than there are workers
-counted : (d : Shape) (p : Place) (D : Duty) → d.workers ≤ MOST_WORKERS → Meets d (slot_of p) D p → IsPlaceWithin d p → IsCounted p
-counted d (Asking s id n m) D most meets low =
-    let (e, is, asked) = asking-leads d s id n m D meets in
-    let less = asked.within in
-    let marks = asked.marks in
-    let some = count-most d.workers e.marked in (omega arith, omega arith)
-counted d (Announcing s again told) D most meets low = let less = low.1 in omega arith
-counted d p D most meets low = tt
 
 -- the worker that calls is then where the call moves it, and what the reply brings is so by that place
 pub brings : (old new : Running) (w : ℕ) (a b : Act) (Brings : Place → Type 0) → Calls old w b new → b ≡ a → (q : Place) → q ≡ place_now old w
@@ -73,14 +60,16 @@ module _ (r : Running) (places : List Place) (ok : IsMachine r.shape r.words pla
   place-within = (within r.shape (calls_of r.log) ok.words_are.legal).places w
 
   pub place-counted : w < r.shape.workers → IsCounted p
-  place-counted low =
-      let t = table r.shape (calls_of r.log) ok.words_are.legal in
-      counted r.shape p (duty_of (S.slots (slot_of p)) w) ok.words_are.shape.workers.1 (t.duty (slot_of p) w low) place-within
+  place-counted low = counts.place-counted r.shape (calls_of r.log) w ok.words_are.shape ok.words_are.legal low
+
+  abbrev turn_of : Call → Turn
+  turn_of c = record { shape = r.shape; history = calls_of r.log; worker = w; call = c }
 
   -- the law of the call
-  pub lawful : (c : Call) (a : Address) → IsCallOn r w c a → IsLawful r.shape (calls_of r.log) w c a (change_of c p) (answer_of c p) r.words
+  pub lawful : (c : Call) (a : Address) → IsCallOn r w c a
+      → IsLawful (turn_of c) (record { address = a; change = change_of c p; answer = answer_of c p }) r.words
   lawful c a on =
-      subst (λ b. IsLawful r.shape (calls_of r.log) w c b (change_of c p) (answer_of c p) r.words) (sym on.on)
+      subst (λ b. IsLawful (turn_of c) (record { address = b; change = change_of c p; answer = answer_of c p }) r.words) (sym on.on)
       (law c r.shape (calls_of r.log) w r.words ok.words_are on.below on.may)
 
   -- the words, the places and the log that the step leaves
@@ -168,10 +157,6 @@ module _ (o : Inside) (ok : IsMachine o.shape o.words.items o.places.items o.log
 
   pub read-counted : w < r.shape.workers → (q : Place) → q ≡ get_or o.places.items w q → IsCounted q
   read-counted low q is = subst IsCounted (sym (place-read low q is)) (place-counted r o.places.items sound w low)
-
-get-replicate : (n k : ℕ) (x : Place) → k < n → slice_get (replicate n x) k ≡ Some x
-get-replicate n k x h =
-    let l : length (replicate n x) ≡ n = length-replicate n x in slice_get-get_or (replicate n x) k x (omega arith) ∙ ap Some (get_or-replicate n k x x h)
 
 -- a machine that nobody has used
 pub opens : (d : Shape) (words : List ℕ) (places : List Place) (log : List Logged) → IsShape d → AreFirst d words → places ≡ replicate d.workers Free

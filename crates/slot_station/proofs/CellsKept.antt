@@ -18,7 +18,7 @@ use Rattle.slot_station.specs.Cells.{noted}
 use Rattle.slot_station.specs.Cells.{CellAt}
 use Rattle.slot_station.proofs.CellSteps.{cell-ranges, cell-notes}
 use Rattle.slot_station.proofs.CellPlaces.{note-mine, note-other, notes-held}
-use Rattle.slot_station.specs.Cells.{notes_after, CellOf}
+use Rattle.slot_station.specs.Cells.{Cell, CellOf, caller_then, notes_after}
 use Rattle.slot_history.proofs.Inside.{inside-one}
 use Rattle.slot_station.specs.Cells.{NotesAllow}
 use Rattle.slot_station.proofs.OwnCells.{own-cell}
@@ -41,7 +41,7 @@ module _ (d : Shape) (h : List Entry) (w : ℕ) (low : w < d.workers) (legal : I
 -- a call of w after a history, with notes of cells that allow it, and a cell of the slot s that has x
 module _ {B : Type 0} (fits : ℕ → List (ℕ × ℕ) → B → Type 0) (totals : ℕ → Option ℕ) (d : Shape) (h : List Entry) (N : ℕ → ℕ → Note) (w : ℕ) (a : Act)
     (legal : IsLegal d (entry w a ∷ h))
-    (allow : NotesAllow totals d w (place_of d h w) (N w) a) (s : ℕ) (x : Option B) where
+    (allow : NotesAllow totals (caller_then (record { shape = d; history = h; notes = N }) w) a) (s : ℕ) (x : Option B) where
   abbrev X : SlotState
   X = (state_after d h).slots s
 
@@ -78,7 +78,8 @@ module _ {B : Type 0} (fits : ℕ → List (ℕ × ℕ) → B → Type 0) (total
       (subst (λ m. CellAt fits R X (has_own_cell (place_of d h u) s) m H x) (sym (note-other w a N u u other)) c))
 
   -- the call keeps what is known of the cell of v
-  pub cell-call : (v : ℕ) → v < d.workers → CellOf fits d h N s v x → CellOf fits d (entry w a ∷ h) N' s v x
+  pub cell-call : (v : ℕ) → v < d.workers → let cell : Cell B = record { slot = s; worker = v; value = x } in
+      CellOf fits (record { shape = d; history = h; notes = N }) cell → CellOf fits (record { shape = d; history = entry w a ∷ h; notes = N' }) cell
   cell-call v in_v c =
       let S : ObjectState = state_after d h in
       let H : ℕ → Note = λ u. N' u v in

@@ -82,7 +82,8 @@ module _ (d : Shape) (h : List Entry) (w : ℕ) (low : w < d.workers) (legal : I
 
   -- it is as the own note says
   pub own-cell-is : {B : Type 0} (fits : ℕ → List (ℕ × ℕ) → B → Type 0) (N : ℕ → ℕ → Note) (x : Option B)
-      → CellOf fits d h N (slot_of p) w x ≡ NoteSays (FitsClaims fits (λ id. ranges_of d w id h) (id_at p)) (λ b. ⊥) (N w w) x
+      → CellOf fits (record { shape = d; history = h; notes = N }) (record { slot = slot_of p; worker = w; value = x })
+      ≡ NoteSays (FitsClaims fits (λ id. ranges_of d w id h) (id_at p)) (λ b. ⊥) (N w w) x
   own-cell-is fits N x =
       ap (λ b. CellAt fits (λ id. ranges_of d w id h) X b (N w w) (λ u. N u w) x) own
       ∙ inside-says fits (λ id. ranges_of d w id h) (λ u. N u w) x X (N w w) inside-at.0
@@ -104,8 +105,12 @@ module _ {B : Type 0} (fits : ℕ → List (ℕ × ℕ) → B → Type 0) (d : S
   abbrev S : ObjectState
   S = state_after d h
 
+  -- what is known of the cell of v at the slot t, with these notes
+  abbrev Known : (ℕ → ℕ → Note) → ℕ → ℕ → Type 0
+  Known M t v = CellOf fits (record { shape = d; history = h; notes = M }) (record { slot = t; worker = v; value = x })
+
   -- the cell of another worker there
-  cell-beside : (v : ℕ) → v ≢ c → CellOf fits d h N s v x → CellOf fits d h N' s v x
+  cell-beside : (v : ℕ) → v ≢ c → Known N s v → Known N' s v
   cell-beside v other k =
       let R : ℕ → List (ℕ × ℕ) = λ id. ranges_of d v id h in
       let b : Bool = has_own_cell (S.places v) s in
@@ -113,7 +118,7 @@ module _ {B : Type 0} (fits : ℕ → List (ℕ × ℕ) → B → Type 0) (d : S
       (cell-notes fits R (S.slots s) b (N v v) (λ u. N u v) (λ u. N' u v) x (λ u k held. elses u v other) k)
 
   -- a cell of another slot
-  cell-elsewhere : (t v : ℕ) → t ≢ s → CellOf fits d h N t v x → CellOf fits d h N' t v x
+  cell-elsewhere : (t v : ℕ) → t ≢ s → Known N t v → Known N' t v
   cell-elsewhere t v other k =
       let R : ℕ → List (ℕ × ℕ) = λ id. ranges_of d v id h in
       let X : SlotState = S.slots t in
@@ -127,7 +132,7 @@ module _ {B : Type 0} (fits : ℕ → List (ℕ × ℕ) → B → Type 0) (d : S
       (λ else_. subst (λ m. CellAt fits R X (has_own_cell (S.places v) t) m H x) (sym (others v v else_)) noted_so)
 
   -- every other cell is known as before
-  pub cell-else : (t v : ℕ) → (t ≡ s → v ≢ c) → CellOf fits d h N t v x → CellOf fits d h N' t v x
+  pub cell-else : (t v : ℕ) → (t ≡ s → v ≢ c) → Known N t v → Known N' t v
   cell-else t v other k = dite (ℕ_discrete t s)
-      (λ same. subst (λ a. CellOf fits d h N a v x → CellOf fits d h N' a v x) (sym same) (cell-beside v (other same)) k)
+      (λ same. subst (λ a. Known N a v → Known N' a v) (sym same) (cell-beside v (other same)) k)
       (λ ne. cell-elsewhere t v ne k)

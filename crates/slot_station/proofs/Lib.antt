@@ -2,9 +2,11 @@ pub mod CellPlaces
 pub mod CellSteps
 pub mod CellsKept
 pub mod Exchanges
+pub mod ExchangesKept
 pub mod Memos
 pub mod Follows
 pub mod Lists
 pub mod OwnCells
+pub mod PlaceCounts
 pub mod SlotCells
 pub mod TokensKept

@@ -1,5 +1,6 @@
 -- Lists whose elements are the values of a function, with one of them set.
-use Rattle.std.proofs.Common.{◌≡◌, ◌≢◌, ℕ, zero, suc, ◌+◌, ◌*◌, ◌<◌, List, [], ◌∷◌, length, set, slice_get, Some, refl, sym, ap, ◌∙◌, subst, arith, mul_comm, length-set, get_or-set_same}
+use Rattle.std.proofs.Common.{◌≡◌, ◌≢◌, ℕ, zero, suc, ◌+◌, ◌*◌, ◌<◌, List, [], ◌∷◌, length, replicate, set, slice_get, Some, refl, sym, ap, ◌∙◌, subst, arith, mul_comm, length-set, get_or-set_same}
+use Rattle.std.proofs.lemmas.List.{get_or-replicate, length-replicate}
 use Rattle.std.proofs.lemmas.Nat.{mul-add-lt}
 use Rattle.std.proofs.lemmas.Option.{slice_get-get_or}
 use native.Mathlib.Decide.{ℕ_discrete}
@@ -7,6 +8,11 @@ use Rattle.slot_history.specs.Sets.{upd}
 use Rattle.slot_history.proofs.Sets.{upd-same, upd-else}
 
 module _ {A : Type 0} where
+  pub get-replicate : (n k : ℕ) (x : A) → k < n → slice_get (replicate n x) k ≡ Some x
+  get-replicate n k x h =
+      let l : length (replicate n x) ≡ n = length-replicate n x in slice_get-get_or (replicate n x) k x (omega arith)
+      ∙ ap Some (get_or-replicate n k x x h)
+
   pub get-set_same : (l : List A) (i : ℕ) (x : A) → i < length l → slice_get (set l i x) i ≡ Some x
   get-set_same l i x h = slice_get-get_or (set l i x) i x (rw (length-set l i x) h) ∙ ap Some (get_or-set_same l i x x h)
 

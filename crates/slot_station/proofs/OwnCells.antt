@@ -14,17 +14,16 @@ use Rattle.slot_history.specs.Allowed.{IsAllowed}
 use Rattle.slot_history.specs.Histories.{ranges_after}
 use Rattle.slot_station.specs.declared.note.Note.{Note}
 use Rattle.slot_station.specs.declared.note.Note.TheVariants as note
-use Rattle.slot_station.specs.Cells.{has_cell, loosened, noted, NotesAllow}
+use Rattle.slot_station.specs.Cells.{has_cell, loosened, noted, Caller, NotesAllow}
 use Rattle.slot_history.specs.Subject.{InstallsOf}
 use Rattle.slot_station.specs.Cells.{CellAt}
 use Rattle.slot_station.proofs.CellSteps.{cell-ranges, cell-outside, cell-enters, cell-leaves, cell-claims}
 use Rattle.slot_history.proofs.Places.{own-has}
 
 -- the call is of the subject then
-pub installs-of : (totals : ℕ → Option ℕ) (d : Shape) (w : ℕ) (p : Place) (notes : ℕ → Note) (a : Act) → NotesAllow totals d w p notes a
-    → InstallsOf totals a (held_at p).total
-installs-of totals d w p notes (Install id) allow = allow.1
-installs-of totals d w p notes _ allow = tt
+pub installs-of : (totals : ℕ → Option ℕ) (k : Caller) (a : Act) → NotesAllow totals k a → InstallsOf totals a (held_at k.place).total
+installs-of totals k (Install id) allow = allow.1
+installs-of totals k _ allow = tt
 
 -- ---- places from which a worker has no own cell
 
@@ -62,8 +61,8 @@ module _ {B : Type 0} (fits : ℕ → List (ℕ × ℕ) → B → Type 0) (d : S
   own-leaves p q n out kept c = subst (λ b. CellAt fits R X b n N x) (sym out)
       (cell-leaves fits R X (has_own_cell p s) n n N x (λ h. kept (own-has p s h)) c)
 
-  pub own-cell : (totals : ℕ → Option ℕ) (notes : ℕ → Note) (a : Act) → IsAllowed d S w a → NotesAllow totals d w (S.places w) notes a
-      → Own a (S.places w) (notes w)
+  pub own-cell : (totals : ℕ → Option ℕ) (notes : ℕ → Note) (a : Act) → IsAllowed d S w a
+      → NotesAllow totals (record { shape = d; worker = w; place = S.places w; notes = notes }) a → Own a (S.places w) (notes w)
   own-cell totals notes (Enter t) ok allow = subst (λ q. Own (Enter t) q (notes w)) (sym ok.0) (λ c. c)
   own-cell totals notes (LookOpen id) ok allow = subst (λ q. Own (LookOpen id) q (notes w)) (sym ok.1) (own-looks ok.0 id (notes w))
   own-cell totals notes LookInvalid ok allow = subst (λ q. Own LookInvalid q (notes w)) (sym ok.1) (λ c. c)

@@ -25,7 +25,7 @@ use Rattle.slot_history.proofs.Places.{held-outside}
 use Rattle.slot_station.proofs.CellPlaces.{note-mine}
 use Rattle.slot_station.specs.Cells.{notes_after}
 use Rattle.slot_history.proofs.Inside.{unclaimed}
-use Rattle.slot_station.specs.Cells.{NotesAllow}
+use Rattle.slot_station.specs.Cells.{caller_then, NotesAllow}
 
 -- the cell of the worker v at the slot s, which has x; its values meet `fits`
 module _ {B : Type 0} (fits : ℕ → List (ℕ × ℕ) → B → Type 0) (d : Shape) (h : List Entry) (N : ℕ → ℕ → Note) (w s v : ℕ) (in_v : v < d.workers)
@@ -87,8 +87,9 @@ module _ {B : Type 0} (fits : ℕ → List (ℕ × ℕ) → B → Type 0) (d : S
       (cell-opened fits (ranges (Install id)) n (notes (Install id)) x w id k (old.slots s) held next (opened-unclaimed id legal)
       (note-mine w (Install id) N v ∙ fresh))
 
-  pub slot-cell : (totals : ℕ → Option ℕ) (a : Act) → IsLegal d (entry w a ∷ h) → NotesAllow totals d w (old.places w) (N w) a → s ≡ site a (old.places w)
-      → At a (old.slots s) → At a (slot_after d w a (old.slots s))
+  pub slot-cell : (totals : ℕ → Option ℕ) (a : Act) → IsLegal d (entry w a ∷ h)
+      → NotesAllow totals (caller_then (record { shape = d; history = h; notes = N }) w) a
+      → s ≡ site a (old.places w) → At a (old.slots s) → At a (slot_after d w a (old.slots s))
   slot-cell totals (ClaimRange k from to) legal allow is = cell-claimed fits (ranges (ClaimRange k from to)) _ _ _ x k (old.slots s)
   slot-cell totals (ClaimUsed k) legal allow is = cell-claimed fits (ranges (ClaimUsed k)) _ _ _ x k (old.slots s)
   slot-cell totals ShutWon legal allow is = cell-shut fits (ranges ShutWon) _ _ _ x w (old.slots s)

@@ -71,7 +71,8 @@ abbrev pub reserver_of : ℕ → ℕ → Holder
 reserver_of w s = record { worker = w; slot = s; query = None; stage = 0; again = false }
 
 abbrev pub reserve_of : ℕ → ℕ → SlotState → Reserve
-reserve_of w s x = cond (is_empty x) (reserve.Got (reserver_of w s)) (reserve.Taken (slot_word x))
+reserve_of w s slot =
+    cond (is_empty slot) (reserve.Got (reserver_of w s)) (reserve.Taken (slot_word slot))
 
 -- where so many queries are admitted
 abbrev pub admit_of : ℕ → ℕ → Admit

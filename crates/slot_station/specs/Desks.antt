@@ -1,13 +1,16 @@
 -- A worker's desk, what a station shows of itself, and what a call or an exchange changes of that.
-use Rattle.std.specs.Prelude.{◌≡◌, ◌≢◌, ℕ, ◌<◌, ◌≤◌, true, List, Option}
+use Rattle.std.specs.Prelude.{◌≡◌, ◌≢◌, ℕ, ◌<◌, true, List, Option}
 use Rattle.slot_history.specs.declared.shape.Shape.{Shape}
-use Rattle.slot_history.specs.declared.shape.TheConstants.{MOST_SLOTS, MOST_WORKERS}
 use Rattle.slot_history.specs.declared.act.Act.{Act}
 use Rattle.slot_history.specs.declared.act.Entry.{Entry}
 use Rattle.slot_history.specs.declared.place.Held.{Held}
 use Rattle.slot_history.specs.declared.place.Place.{Place}
+use Rattle.slot_history.specs.declared.place.Place.TheVariants.{Leading}
 use Rattle.slot_history.specs.States.{id_at, held_at}
+use Rattle.slot_history.specs.Bounds.{IsShape}
 use Rattle.slot_history.specs.Histories.{Called, IsOfTotals, place_of, ranges_of}
+use Rattle.slot_station.specs.declared.reply.Leave.{Leave}
+use Rattle.slot_station.specs.declared.reply.Leave.TheVariants.{Left}
 use Rattle.slot_station.specs.declared.note.Note.{Note}
 use Rattle.slot_station.specs.declared.note.Note.TheVariants.{Kept}
 use Rattle.slot_station.specs.Cells.{has_cell, noted, NoteSays, FitsNext, FitsFinalised}
@@ -19,16 +22,16 @@ pub record Desk (Sub : Type 0) : Type 0 where
   pub shape : Shape
   pub subject : Sub
 
--- what holds of the desk of every station: the numbers are in range, the queries the subject's
+-- what holds of the desk of every station: the shape is one that an object may have, the worker is
+-- one of its workers, and the queries are the subject's
 pub record IsDesk {Sub : Type 0} (queries : Sub → ℕ) (desk : Desk Sub) : Type 0 where
+  pub shape_is : IsShape desk.shape
   pub below : desk.worker < desk.shape.workers
-  pub workers : (0 < desk.shape.workers) × (desk.shape.workers ≤ MOST_WORKERS)
-  pub slots : (0 < desk.shape.slots) × (desk.shape.slots ≤ MOST_SLOTS)
   pub queries_are : desk.shape.queries ≡ queries desk.subject
 
--- What a station shows of itself: its origin and its desk, which no call changes; all that its worker
--- has seen, the newest first; and of each worker the note of its cell at the slot at which the
--- station's worker is, if that cell is with it.
+-- What a station shows of itself: its origin and its desk, which no call changes; all that its
+-- worker has seen, the newest first; and of each worker the note of its cell at the slot at which
+-- the station's worker is, if that cell is with it.
 pub record Seen (O Sub : Type 0) : Type 0 where
   pub origin : O
   pub desk : Desk Sub
@@ -38,39 +41,48 @@ pub record Seen (O Sub : Type 0) : Type 0 where
 module _ {O Sub : Type 0} where
   -- where the worker is, by its trail
   abbrev pub own_place : Seen O Sub → Place
-  own_place x = place_of x.desk.shape x.trail x.desk.worker
+  own_place seen = place_of seen.desk.shape seen.trail seen.desk.worker
 
   -- what it holds, by its trail
   abbrev pub own_holding : Seen O Sub → Held
-  own_holding x = held_at (own_place x)
+  own_holding seen = held_at (own_place seen)
 
   -- the ranges that it claimed of the task set with which it is inside, the newest first
   abbrev pub own_ranges : Seen O Sub → List (ℕ × ℕ)
-  own_ranges x = ranges_of x.desk.shape x.desk.worker (id_at (own_place x)) x.trail
+  own_ranges seen = ranges_of seen.desk.shape seen.desk.worker (id_at (own_place seen)) seen.trail
 
   -- the totals of the subject's task sets, by their ids
   abbrev pub totals_of : (Sub → ℕ → Option ℕ) → Seen O Sub → ℕ → Option ℕ
-  totals_of total x = total x.desk.subject
+  totals_of total seen = total seen.desk.subject
 
   -- the total of the task set with which the worker is inside
   abbrev pub own_total : (Sub → ℕ → Option ℕ) → Seen O Sub → Option ℕ
-  own_total total x = totals_of total x (id_at (own_place x))
+  own_total total seen = totals_of total seen (id_at (own_place seen))
 
-  -- a token, or what a reply brings, is this worker's: `Is` says so by a shape, a worker and its place
+  -- the total that was set in this holding is that of the subject's task set of this id
+  abbrev pub HasTotal : (Sub → ℕ → Option ℕ) → Seen O Sub → ℕ → Type 0
+  HasTotal total seen id = (own_holding seen).total ≡ totals_of total seen id
+
+  -- whoever shut the task set leaves without a debt
+  abbrev pub LeaderOwesNothing : Seen O Sub → Leave → Type 0
+  LeaderOwesNothing seen leave = (s id : ℕ) → own_place seen ≡ Leading s id → leave ≡ Left
+
+  -- a token, or what a reply brings, is this worker's: `Is` says so by a shape, a worker and its
+  -- place
   abbrev pub Owns : {X : Type 0} → (Shape → ℕ → Place → X → Type 0) → Seen O Sub → X → Type 0
-  Owns Is x token = Is x.desk.shape x.desk.worker (own_place x) token
+  Owns Is seen token = Is seen.desk.shape seen.desk.worker (own_place seen) token
 
   -- every cell that is with the worker has this note
   abbrev pub AllNoted : Note → Seen O Sub → Type 0
-  AllNoted note x = (v : ℕ) → v < x.desk.shape.workers → x.notes v ≡ note
+  AllNoted note seen = (v : ℕ) → v < seen.desk.shape.workers → seen.notes v ≡ note
 
   -- a worker that has its own cell has kept it
   abbrev pub KeptOwn : Seen O Sub → Type 0
-  KeptOwn x = has_cell (own_place x) ≡ true → x.notes x.desk.worker ≡ Kept
+  KeptOwn seen = has_cell (own_place seen) ≡ true → seen.notes seen.desk.worker ≡ Kept
 
-  -- The worker made this call. Its trail went on by what it had not seen and ends with the call; it is
-  -- a legal history of the subject, and of the worker it has just its own calls. The notes changed as
-  -- the call says.
+  -- The worker made this call. Its trail went on by what it had not seen and ends with the call;
+  -- it is a legal history of the subject, and of the worker it has just its own calls. The notes
+  -- changed as the call says.
   pub record Makes (total : Sub → ℕ → Option ℕ) (a : Act) (old new : Seen O Sub) : Type 0 where
     pub origin : new.origin ≡ old.origin
     pub desk : new.desk ≡ old.desk
@@ -95,26 +107,27 @@ module _ {O Sub : Type 0} where
   abbrev pub ExchangesOwn : Note → Seen O Sub → Seen O Sub → Type 0
   ExchangesOwn note old new = Exchanges old.desk.worker note old new
 
-  -- what the values of cells have to fit: `fits` is of a subject, a worker, a task set and its ranges
-  module _ {B : Type 0} (fits : Sub → ℕ → ℕ → List (ℕ × ℕ) → B → Type 0) (x : Seen O Sub) where
+  -- what the values of cells have to fit: `fits` is of a subject, a worker, a task set and its
+  -- ranges
+  module _ {B : Type 0} (fits : Sub → ℕ → ℕ → List (ℕ × ℕ) → B → Type 0) (seen : Seen O Sub) where
     -- of the own cell: the ranges that the worker claimed of the task set with which it is inside
     abbrev pub OwnFits : B → Type 0
-    OwnFits b = fits x.desk.subject x.desk.worker (id_at (own_place x)) (own_ranges x) b
+    OwnFits b = fits seen.desk.subject seen.desk.worker (id_at (own_place seen)) (own_ranges seen) b
 
     -- of the cell of v at the slot that is held: the task set that may be installed next, no ranges
     abbrev pub NextFits : ℕ → B → Type 0
-    NextFits v b = FitsNext (fits x.desk.subject v) (own_holding x) b
+    NextFits v b = FitsNext (fits seen.desk.subject v) (own_holding seen) b
 
     -- of that cell: the ranges that v claimed of the task set that is finalised
     abbrev pub FinalisedFits : ℕ → B → Type 0
     FinalisedFits v b =
-        let ranges : ℕ → List (ℕ × ℕ) = λ id. ranges_of x.desk.shape v id x.trail in
-        FitsFinalised (fits x.desk.subject v) ranges (own_holding x) b
+        let ranges : ℕ → List (ℕ × ℕ) = λ id. ranges_of seen.desk.shape v id seen.trail in
+        FitsFinalised (fits seen.desk.subject v) ranges (own_holding seen) b
 
     -- the own cell holds what its note says
     abbrev pub OwnCellSays : Option B → Type 0
-    OwnCellSays c = NoteSays OwnFits (λ b. ⊥) (x.notes x.desk.worker) c
+    OwnCellSays value = NoteSays OwnFits (λ b. ⊥) (seen.notes seen.desk.worker) value
 
     -- the cell of v at the slot that is held holds what its note says
     abbrev pub CellSays : ℕ → Option B → Type 0
-    CellSays v c = NoteSays (FinalisedFits v) (NextFits v) (x.notes v) c
+    CellSays v value = NoteSays (FinalisedFits v) (NextFits v) (seen.notes v) value

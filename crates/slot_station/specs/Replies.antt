@@ -34,31 +34,31 @@ look_act look.Vacant = act.LookVacant
 -- a claim of n tuples
 abbrev pub claim_act : ℕ → Claim → Act
 claim_act n (claim.Range from to) = act.ClaimRange n from to
-claim_act n (claim.Exhausted x) = act.ClaimUsed n
+claim_act n (claim.Exhausted token) = act.ClaimUsed n
 
 abbrev pub shut_act : Shut → Act
-shut_act (shut.Won x) = act.ShutWon
+shut_act (shut.Won token) = act.ShutWon
 shut_act shut.Lost = act.ShutLost
 
 abbrev pub leave_act : Leave → Act
 leave_act leave.Left = act.LeaveLeft
-leave_act (leave.Owe x) = act.LeaveOwe x.id
+leave_act (leave.Owe token) = act.LeaveOwe token.id
 
 abbrev pub mark_act : Mark → Act
 mark_act mark.Marked = act.MarkMarked
 mark_act mark.Missed = act.MarkMissed
 
 abbrev pub sweep_act : Sweep → Act
-sweep_act (sweep.Last x) = act.SweepLast
+sweep_act (sweep.Last token) = act.SweepLast
 sweep_act (sweep.Others n) = act.SweepOthers n
 
 abbrev pub pay_act : Pay → Act
-pay_act (pay.Last x) = act.PayLast
+pay_act (pay.Last token) = act.PayLast
 pay_act pay.Done = act.PayDone
 
 -- a reservation of the slot s
 abbrev pub reserve_act : ℕ → Reserve → Act
-reserve_act s (reserve.Got x) = act.ReserveGot s
+reserve_act s (reserve.Got token) = act.ReserveGot s
 reserve_act s (reserve.Taken word) = act.ReserveTaken s word
 
 -- an admission of the query q
@@ -77,17 +77,17 @@ SeesTaskSet total _ = Unit {0}
 abbrev pub IsCutRange : Option ℕ → ℕ → Claim → Type 0
 IsCutRange total n (claim.Range from to) =
     IsSomeAnd total (λ t. (from < t) × (to ≡ min t (from + n)))
-IsCutRange total n (claim.Exhausted x) = Unit {0}
+IsCutRange total n (claim.Exhausted token) = Unit {0}
 
 -- a range begins where each of these ended, or later
 abbrev pub LiesPast : List (ℕ × ℕ) → Claim → Type 0
 LiesPast ranges (claim.Range from to) = All (λ (r : ℕ × ℕ). r.1 ≤ from) ranges
-LiesPast ranges (claim.Exhausted x) = Unit {0}
+LiesPast ranges (claim.Exhausted token) = Unit {0}
 
 -- a debt is for a task set of the subject
 abbrev pub OwesTaskSet : (ℕ → Option ℕ) → Leave → Type 0
 OwesTaskSet total leave.Left = Unit {0}
-OwesTaskSet total (leave.Owe x) = IsSome (total x.id)
+OwesTaskSet total (leave.Owe token) = IsSome (total token.id)
 
 -- how many more a mark counts
 abbrev pub marked_more : Mark → ℕ
@@ -96,12 +96,13 @@ marked_more mark.Missed = 0
 
 -- what a mark makes of the coordinator
 abbrev pub marked_coordinator : Mark → Coordinator → Coordinator
-marked_coordinator m c = record c { asked = c.asked + 1; marked = c.marked + marked_more m }
+marked_coordinator reply token =
+    record token { asked = token.asked + 1; marked = token.marked + marked_more reply }
 
 -- what the admission makes of the holder
 abbrev pub admitted_holder : ℕ → Admit → Holder → Holder
-admitted_holder q admit.Got h = record h { query = Some q }
-admitted_holder q (admit.Lost now) h = h
+admitted_holder q admit.Got token = record token { query = Some q }
+admitted_holder q (admit.Lost now) token = token
 
 -- a mask names slots of the object alone
 abbrev pub NamesSlots : ℕ → ℕ → ℕ → Type 0

@@ -30,71 +30,71 @@ use Rattle.slot_station.specs.declared.reply.Reserve.TheVariants as reserve
 -- of the worker w, at the place p, of an object of shape d
 module _ (d : Shape) (w : ℕ) (p : Place) where
   -- the worker found the task set used up
-  pub record IsSpent (x : Spent) : Type 0 where
-    pub worker : x.worker ≡ w
-    pub place : p ≡ Used x.slot x.id
+  pub record IsSpent (token : Spent) : Type 0 where
+    pub worker : token.worker ≡ w
+    pub place : p ≡ Used token.slot token.id
 
   -- the worker was marked for the task set, and has left the slot
-  pub record IsDebt (x : Debt) : Type 0 where
-    pub worker : x.worker ≡ w
-    pub place : p ≡ Owing x.slot x.id
+  pub record IsDebt (token : Debt) : Type 0 where
+    pub worker : token.worker ≡ w
+    pub place : p ≡ Owing token.slot token.id
 
   -- the worker shut the task set, and asked and marked nobody so far
-  pub record IsFirst (x : Coordinator) : Type 0 where
-    pub worker : x.worker ≡ w
-    pub workers : x.workers ≡ d.workers
-    pub place : p ≡ Leading x.slot x.id
-    pub asked : x.asked ≡ 0
-    pub marked : x.marked ≡ 0
+  pub record IsFirst (token : Coordinator) : Type 0 where
+    pub worker : token.worker ≡ w
+    pub workers : token.workers ≡ d.workers
+    pub place : p ≡ Leading token.slot token.id
+    pub asked : token.asked ≡ 0
+    pub marked : token.marked ≡ 0
 
   -- the worker shut the task set, has left the slot, and asked and marked so many others
-  pub record IsCoordinator (x : Coordinator) : Type 0 where
-    pub worker : x.worker ≡ w
-    pub workers : x.workers ≡ d.workers
-    pub place : p ≡ Asking x.slot x.id x.asked x.marked
+  pub record IsCoordinator (token : Coordinator) : Type 0 where
+    pub worker : token.worker ≡ w
+    pub workers : token.workers ≡ d.workers
+    pub place : p ≡ Asking token.slot token.id token.asked token.marked
 
   -- the worker holds the slot, after a reservation or a finalisation
-  pub record IsHolder (x : Holder) : Type 0 where
-    pub worker : x.worker ≡ w
+  pub record IsHolder (token : Holder) : Type 0 where
+    pub worker : token.worker ≡ w
     pub noted : ℕ
     pub total : Option ℕ
-    pub place : p ≡ Holding x.slot (record {
-      query = x.query;
-      stage = x.stage;
-      again = x.again;
+    pub place : p ≡ Holding token.slot (record {
+      query = token.query;
+      stage = token.stage;
+      again = token.again;
       noted = noted;
       total = total;
     })
 
   -- the worker opened the slot, and told so many workers
-  pub record IsAnnouncer (x : Announcer) : Type 0 where
-    pub worker : x.worker ≡ w
-    pub workers : x.workers ≡ d.workers
-    pub place : p ≡ Announcing x.slot x.again x.told
+  pub record IsAnnouncer (token : Announcer) : Type 0 where
+    pub worker : token.worker ≡ w
+    pub workers : token.workers ≡ d.workers
+    pub place : p ≡ Announcing token.slot token.again token.told
 
   -- the tokens that replies bring
   abbrev pub ClaimGives : Claim → Type 0
   ClaimGives (claim.Range from to) = Unit {0}
-  ClaimGives (claim.Exhausted x) = IsSpent x
+  ClaimGives (claim.Exhausted token) = IsSpent token
 
   abbrev pub ShutGives : Shut → Type 0
-  ShutGives (shut.Won x) = IsFirst x
+  ShutGives (shut.Won token) = IsFirst token
   ShutGives shut.Lost = Unit {0}
 
   abbrev pub LeaveGives : Leave → Type 0
   LeaveGives leave.Left = Unit {0}
-  LeaveGives (leave.Owe x) = IsDebt x
+  LeaveGives (leave.Owe token) = IsDebt token
 
   abbrev pub SweepGives : Sweep → Type 0
-  SweepGives (sweep.Last x) = IsHolder x
+  SweepGives (sweep.Last token) = IsHolder token
   SweepGives (sweep.Others n) = Unit {0}
 
   abbrev pub PayGives : Pay → Type 0
-  PayGives (pay.Last x) = IsHolder x
+  PayGives (pay.Last token) = IsHolder token
   PayGives pay.Done = Unit {0}
 
   abbrev pub ReserveGives : Reserve → Type 0
-  ReserveGives (reserve.Got x) = IsHolder x
+  ReserveGives (reserve.Got token) = IsHolder token
   ReserveGives (reserve.Taken word) = Unit {0}
 
 abbrev pub opens : Act → Bool
@@ -109,9 +109,10 @@ last_opened d w (e ∷ es) =
     cond (eqb w e.worker && opens e.act) (Some (slot_of p, (held_at p).again)) (last_opened d w es)
 
 -- the token of the worker's last install, after it has told every worker
-pub record IsDone {O Sub : Type 0} (x : Seen O Sub) (token : Announcer) : Type 0 where
-  pub worker : token.worker ≡ x.desk.worker
-  pub workers : token.workers ≡ x.desk.shape.workers
-  pub told : token.told ≡ x.desk.shape.workers
-  pub free : own_place x ≡ Free
-  pub opened : last_opened x.desk.shape x.desk.worker x.trail ≡ Some (token.slot, token.again)
+pub record IsDone {O Sub : Type 0} (seen : Seen O Sub) (token : Announcer) : Type 0 where
+  pub worker : token.worker ≡ seen.desk.worker
+  pub workers : token.workers ≡ seen.desk.shape.workers
+  pub told : token.told ≡ seen.desk.shape.workers
+  pub free : own_place seen ≡ Free
+  pub opened : last_opened seen.desk.shape seen.desk.worker seen.trail
+      ≡ Some (token.slot, token.again)

@@ -1,4 +1,5 @@
-//! The replies that bring tokens, made of the caller's place, and where the words of a slot and of a worker lie in lists.
+//! The replies that bring tokens, made of the caller's place, and where the words of a slot and of
+//! a worker lie in lists.
 ghost use Rattle.std.specs.Prelude.{◌≡◌, ℕ, ◌+◌, ◌*◌, ◌/◌, ◌%◌, ◌<◌, ◌≤◌, Some, None};
 ghost use Rattle.slot_history.specs.declared.shape.TheConstants.{PARTS, MOST_WORKERS};
 ghost use Rattle.slot_history.specs.declared.place.Place.TheVariants.{Asking};

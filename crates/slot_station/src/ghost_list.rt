@@ -1,21 +1,13 @@
 //! A list that only contracts see. At run time it is one word and a seat of no bytes.
 ghost use Rattle.std.specs.Prelude.{◌≡◌, List, ℕ, [], ◌∷◌, ◌<◌, IfOk};
 
+use crate::any_word::AnyWord;
 pub use crate::history::History;
 pub use crate::memo::Memo;
-use atomic_table::{Badge, Play, Seat, Table, TableRule};
+use atomic_table::{Badge, Play, Seat, Table};
 use std::alloc::{AllocError, Global};
 use std::collections::LinkedList;
 use std::marker::Model;
-
-/// Nothing is asked of the word or of the views.
-struct AnyWord;
-
-impl<E> TableRule<E, LinkedList<E>, ()> for AnyWord {
-    ghost holds = { λ _ _. Unit {0} };
-
-    ghost first = { λ _. [] };
-}
 
 /// What is said is one more in the view.
 struct Push;
@@ -37,7 +29,10 @@ impl<E> Model for GhostList<E> {
 
     ghost view = { λ n. n.seat.me.0 };
 
-    ghost invariant = { λ n. (n.seat.table_id ≡ n.table.shared.table_id) × (0 < n.table.shared.table_id.words) × (n.table.shared.table_id.slots ≡ 0) × (n.seat.me.1 ≡ []) };
+    ghost invariant = { λ n. (n.seat.table_id ≡ n.table.shared.table_id)
+        × (0 < n.table.shared.table_id.words)
+        × (n.table.shared.table_id.slots ≡ 0)
+        × (n.seat.me.1 ≡ []) };
 }
 
 impl<E> GhostList<E> {

@@ -1,15 +1,16 @@
 //! The history of an object that has ended.
-ghost use Rattle.std.specs.Prelude.{◌≡◌, [], ◌∷◌, ◌<◌};
+ghost use Rattle.std.specs.Prelude.{◌≡◌, ◌∷◌, ◌<◌};
 ghost use Rattle.slot_station.specs.Log.{calls_in};
 
+use crate::any_word::AnyWord;
 use crate::log::Logged;
-use atomic_table::{Badge, Play, Table, TableRule};
+use atomic_table::{Badge, Play, Table};
 use std::alloc::{AllocError, Global};
 use std::collections::LinkedList;
 use std::marker::Model;
 
-/// The history of an object that has ended. It holds a seat's view and no entries at run time; contracts see the list of
-/// its entries, the newest first.
+/// The history of an object that has ended. It holds a seat's view and no entries at run time;
+/// contracts see the list of its entries, the newest first.
 #[derive(Drop)]
 pub struct History {
     badge: Badge<LinkedList<Logged>>,
@@ -41,15 +42,6 @@ pub trait ShowsHistory {
 
     // Its entries, the newest first.
     ghost history: { Self → List Entry };
-}
-
-/// Nothing is asked of the word or of the views.
-struct AnyWord;
-
-impl<X> TableRule<X, LinkedList<Logged>, ()> for AnyWord {
-    ghost holds = { λ _ _. Unit {0} };
-
-    ghost first = { λ _. [] };
 }
 
 /// The view is the log of the history that is told.

@@ -1,11 +1,13 @@
 //! Laws that hold of every station, and of the cells of every form of the object.
-ghost use Rattle.slot_station.specs.Laws.{RepliesFollow, CellsGoOn};
+ghost use Rattle.slot_station.specs.Laws.{RepliesFollow, CellsGoOn, RepliesAllowed, ExchangesGoOn};
 
 use crate::station::{Fits, Station};
 
-/// What a reply says follows from what its call made. So a form of the object owes a call's `Makes` alone: that the
-/// numbers of the reply are the subject's and the object's, that ranges are cut and lie past the worker's own ones, that a
-/// coordinator leaves without a debt, and where the worker is then, is had for every form.
+/// What a reply says follows from what its call made, for every form of the object.
+///
+/// So a form owes a call's `Makes` alone. The rest follows: that the numbers of the reply are the
+/// subject's and the object's, that ranges are cut and lie past the worker's own ones, that a
+/// coordinator leaves without a debt, and where the worker is then.
 pub fn replies_follow<B: Fits, S: Station<B>>()
     ensures { RepliesFollow B.total S.Origin }
 {}
@@ -13,4 +15,17 @@ pub fn replies_follow<B: Fits, S: Station<B>>()
 /// A call that the notes of its worker allow keeps what is known of every cell.
 pub fn cells_go_on<B: Fits>(subject: &B::Subject, worker: u32)
     ensures { CellsGoOn (B.fits subject.now worker) }
+{}
+
+/// What the notes allow of a call, they allow whatever its reply is.
+///
+/// So a worker asks by its notes before the reply is known, and `cells_go_on` holds of the reply.
+pub fn replies_allowed()
+    ensures { RepliesAllowed }
+{}
+
+/// An exchange by a worker that has the cell keeps what is known of every cell: the worker finds
+/// what its note says, what it puts is as the new note says, and the other cells are as before.
+pub fn exchanges_go_on<B: Fits>(subject: &B::Subject, worker: u32)
+    ensures { ExchangesGoOn (B.fits subject.now worker) }
 {}

@@ -5,7 +5,8 @@ use crate::ghost_list::GhostList;
 use std::alloc::{AllocError, Global};
 use std::marker::Model;
 
-/// The numbers noted so far, in the order of noting: one word at run time, and contracts see the list.
+/// The numbers noted so far, in the order of noting: one word at run time, and contracts see the
+/// list.
 #[derive(Drop)]
 pub struct Memo {
     numbers: GhostList<u64>,

@@ -76,8 +76,8 @@ pub fn can_leave(place: &Place) -> bool
     )
 }
 
-/// Whether a holding may install its next task set: the total is set, and after a finalisation one task set was noted
-/// and the query may have another stage.
+/// Whether a holding may install its next task set: the total is set, and after a finalisation one
+/// task set was noted and the query may have another stage.
 pub fn is_ready(held: &Held) -> bool
     ensures { IsTrue result ↔ IsReady held.now }
 {

@@ -1,6 +1,6 @@
-//! What a worker holds between calls that belong together. A token's fields are what the trail gives for its worker;
-//! they are public so that every form of the station can make them. A token may be dropped: its worker then stays at
-//! its place.
+//! What a worker holds between calls that belong together. A token's fields are what the trail
+//! gives for its worker; they are public so that every form of the station can make them. A token
+//! may be dropped: its worker then stays at its place.
 ghost use Rattle.std.specs.Prelude.{◌≡◌, ◌↔◌, ◌+◌, IsTrue};
 
 use crate::reply::{Admit, Mark};

@@ -1,5 +1,5 @@
 -- A call leaves the words that it is not on: what they hold for a state they hold for the next one.
-use Rattle.std.proofs.Common.{◌≡◌, ◌≢◌, ℕ, ◌+◌, ◌<◌, Bool, true, false, cond, eqb, refl, sym, ap, ap₂, ◌∙◌, subst}
+use Rattle.std.proofs.Common.{◌≡◌, ◌≢◌, ℕ, ◌/◌, ◌+◌, ◌<◌, Bool, true, false, cond, eqb, refl, sym, ap, ap₂, ◌∙◌, subst}
 use Rattle.std.proofs.lemmas.Bool.{cond_both}
 use Rattle.slot_history.specs.declared.shape.Shape.{Shape}
 use Rattle.slot_history.specs.declared.act.Act.{Act}
@@ -50,8 +50,9 @@ module _ (d : Shape) (S : ObjectState) (w : ℕ) (low : w < d.workers) (tab : Is
   held s h at = subst (λ q. IsHeldBy w h (S.slots (slot_of q))) (sym at) (holder-slot d S tab w s h low at)
 
   -- a coordinator's slot
-  pub leads : (s id n m : ℕ) → p ≡ Asking s id n m → IsLed d (S.slots (slot_of p)) w id n m
-  leads s id n m at = subst (λ q. IsLed d (S.slots (slot_of q)) w id n m) (sym at) (led d S tab w s id n m low at)
+  pub leads : (s id n m : ℕ) → p ≡ Asking s id n m → IsLed d (S.slots (slot_of p)) (record { worker = w; id = id; asked = n; marked = m })
+  leads s id n m at = subst (λ q. IsLed d (S.slots (slot_of q)) (record { worker = w; id = id; asked = n; marked = m })) (sym at)
+      (led d S tab w s id n m low at)
 
   -- ---- words of slots
 
@@ -206,38 +207,44 @@ module _ (d : Shape) (S : ObjectState) (w : ℕ) (low : w < d.workers) (tab : Is
 
   -- ---- masks
 
+  -- the word of another worker or part, of one kind of notices f, when a slot's notice comes and when a part is taken
+  told-same : (Of : ℕ → ℕ → Address) (f : ℕ → ℕ → Bool) (s k v part n : ℕ) → Of v part ≢ Of k (s / 64) → IsMask part (f v) n
+      → IsMask part (upd f k (upd (f k) s true) v) n
+  told-same Of f s k v part n far m =
+      upd-cases f k (upd (f k) s true) v (λ g. IsMask part g n)
+      (λ e. mask-stays (f k) part n s (λ q. far (ap₂ Of e q)) (subst (λ u. IsMask part (f u) n) e m)) (λ ne. m)
+
+  taken-same : (Of : ℕ → ℕ → Address) (f : ℕ → ℕ → Bool) (k v part n : ℕ) → Of v part ≢ Of w k → IsMask part (f v) n
+      → IsMask part (upd f w (taken k (f w)) v) n
+  taken-same Of f k v part n far m =
+      upd-cases f w (taken k (f w)) v (λ g. IsMask part g n)
+      (λ e. mask-left (f w) k part n (λ q. far (ap₂ Of e q)) (subst (λ u. IsMask part (f u) n) e m)) (λ ne. m)
+
+  -- what is told by a worker at this place
   told-return : (s k : ℕ) (again : Bool) (v part n : ℕ) → (ReturnOf v part ≢ address_of w (call_of Announce) (Announcing s again k))
       → IsMask part (S.returns v) n → IsMask part (told true (Announcing s again k) S.returns v) n
-  told-return s k true v part n far m =
-      upd-cases S.returns k (upd (S.returns k) s true) v (λ g. IsMask part g n)
-      (λ e. mask-stays (S.returns k) part n s (λ q. far (ap₂ ReturnOf e q)) (subst (λ u. IsMask part (S.returns u) n) e m)) (λ ne. m)
+  told-return s k true v part n far m = told-same ReturnOf S.returns s k v part n far m
   told-return s k false v part n far m = m
 
   told-change : (s k : ℕ) (again : Bool) (v part n : ℕ) → (ChangeOf v part ≢ address_of w (call_of Announce) (Announcing s again k))
       → IsMask part (S.changes v) n → IsMask part (told false (Announcing s again k) S.changes v) n
-  told-change s k false v part n far m =
-      upd-cases S.changes k (upd (S.changes k) s true) v (λ g. IsMask part g n)
-      (λ e. mask-stays (S.changes k) part n s (λ q. far (ap₂ ChangeOf e q)) (subst (λ u. IsMask part (S.changes u) n) e m)) (λ ne. m)
+  told-change s k false v part n far m = told-same ChangeOf S.changes s k v part n far m
   told-change s k true v part n far m = m
 
   return-same : (a : Act) → IsAllowed d S w a → (v part n : ℕ) → Spares a (ReturnOf v part)
       → IsMask part (S.returns v) n → IsMask part (returns_after w a p S.returns v) n
   return-same Announce ok v part n far m =
-      let spared = subst (λ q. ReturnOf v part ≢ address_of w (call_of Announce) q) ok.3 far in
-      subst (λ q. IsMask part (returns_after w Announce q S.returns v) n) (sym ok.3) (told-return ok.0 ok.2 ok.1 v part n spared m)
-  return-same (TakeReturn k bits) ok v part n far m =
-      upd-cases S.returns w (taken k (S.returns w)) v (λ g. IsMask part g n)
-      (λ e. mask-left (S.returns w) k part n (λ q. far (ap₂ ReturnOf e q)) (subst (λ u. IsMask part (S.returns u) n) e m)) (λ ne. m)
+      subst (λ q. ReturnOf v part ≢ address_of w (call_of Announce) q → IsMask part (returns_after w Announce q S.returns v) n) (sym ok.3)
+      (λ spared. told-return ok.0 ok.2 ok.1 v part n spared m) far
+  return-same (TakeReturn k bits) ok v part n far m = taken-same ReturnOf S.returns k v part n far m
   return-same _ ok v part n far m = m
 
   change-same : (a : Act) → IsAllowed d S w a → (v part n : ℕ) → Spares a (ChangeOf v part)
       → IsMask part (S.changes v) n → IsMask part (changes_after w a p S.changes v) n
   change-same Announce ok v part n far m =
-      let spared = subst (λ q. ChangeOf v part ≢ address_of w (call_of Announce) q) ok.3 far in
-      subst (λ q. IsMask part (changes_after w Announce q S.changes v) n) (sym ok.3) (told-change ok.0 ok.2 ok.1 v part n spared m)
-  change-same (TakeChange k bits) ok v part n far m =
-      upd-cases S.changes w (taken k (S.changes w)) v (λ g. IsMask part g n)
-      (λ e. mask-left (S.changes w) k part n (λ q. far (ap₂ ChangeOf e q)) (subst (λ u. IsMask part (S.changes u) n) e m)) (λ ne. m)
+      subst (λ q. ChangeOf v part ≢ address_of w (call_of Announce) q → IsMask part (changes_after w Announce q S.changes v) n) (sym ok.3)
+      (λ spared. told-change ok.0 ok.2 ok.1 v part n spared m) far
+  change-same (TakeChange k bits) ok v part n far m = taken-same ChangeOf S.changes k v part n far m
   change-same _ ok v part n far m = m
 
   -- ---- the two numbers

@@ -120,7 +120,7 @@ module _ (d : Shape) (S : ObjectState) (w : ℕ) (low : w < d.workers) (fit : Is
 
   -- the slot whose end w leads
   record Leads (s id n m : ℕ) : Type 0 where
-    lead : IsLed d (S.slots s) w id n m
+    lead : IsLed d (S.slots s) (record { worker = w; id = id; asked = n; marked = m })
     count : Counted d lead.task lead.ending
 
   leading : (s id n m : ℕ) → p ≡ Asking s id n m → Leads s id n m
@@ -176,7 +176,7 @@ module _ (d : Shape) (S : ObjectState) (w : ℕ) (low : w < d.workers) (fit : Is
 
   -- the worker that is asked next
   record Asks (s id n m : ℕ) : Type 0 where
-    lead : IsLed d (S.slots s) w id n m
+    lead : IsLed d (S.slots s) (record { worker = w; id = id; asked = n; marked = m })
     other : nth_other w n ≢ w
     is_next : next_asked d lead.ending ≡ nth_other w n
     unmarked : lead.ending.marked (nth_other w n) ≡ false
@@ -185,7 +185,7 @@ module _ (d : Shape) (S : ObjectState) (w : ℕ) (low : w < d.workers) (fit : Is
   asking : (s id n m : ℕ) → p ≡ Asking s id n m → n + 1 < d.workers → Asks s id n m
   asking s id n m at more =
       let l = led d S fit.table w s id n m low at in let e = l.ending in
-      let u = next-unmarked d (S.slots s) w id n m low more (fit.table.chain s) l in record {
+      let u = next-unmarked d (S.slots s) (record { worker = w; id = id; asked = n; marked = m }) more (fit.table.chain s) l in record {
         lead = l;
         other = nth-other-differs w n;
         is_next = l.next more;

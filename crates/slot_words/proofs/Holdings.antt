@@ -11,14 +11,14 @@ use Rattle.slot_history.specs.declared.place.Place.TheVariants.{Free, Holding, A
 use Rattle.slot_history.specs.Sets.{upd}
 use Rattle.slot_history.specs.States.{Empty, ObjectState, slot_word, is_empty}
 use Rattle.slot_history.specs.Steps.{slot_after, held_on, opened, taken}
-use Rattle.slot_history.specs.Allowed.{IsMask}
+use Rattle.slot_history.specs.Allowed.{IsMask, bit_of}
 use Rattle.slot_history.proofs.Sets.{upd-same}
 use Rattle.slot_history.proofs.SlotWords.{word-empty, word-full}
 use Rattle.slot_history.proofs.Holdings.{holder-slot}
 use Rattle.slot_history.proofs.Masks.{mask-only, mask-comes, mask-taken}
 use Rattle.slot_words.specs.Encodings.{open_word, cursor_word}
 use Rattle.slot_words.specs.Words.{IsCursor}
-use Rattle.slot_words.specs.Steps.{added, bit_of}
+use Rattle.slot_words.specs.Steps.{added}
 use Rattle.slot_words.proofs.Fit.{IsFit}
 use Rattle.slot_words.proofs.SlotWords.{held-opens, held-totals}
 use Rattle.slot_words.proofs.Readings.{Reads, state-after}

@@ -1,4 +1,4 @@
--- The law of a call.
+-- The law of a call: what its one atomic step is, and when that is lawful.
 use Rattle.std.specs.Prelude.{◌≡◌, ℕ, ◌<◌, List, [], ◌∷◌, length, slice_set}
 use Rattle.slot_history.specs.Bounds.{IsShape}
 use Rattle.slot_history.specs.declared.shape.Shape.{Shape}
@@ -20,41 +20,63 @@ use Rattle.slot_words.specs.Words.{IsCounter, StandsFor, AreFirst, word_at}
 abbrev pub stepped : Shape → List ℕ → Address → (ℕ → ℕ) → List ℕ
 stepped d words a change = slice_set words (index d a) (change (word_at d words a))
 
--- the history with a call of w after it
-abbrev pub then : List Entry → ℕ → Act → List Entry
-then h w a = entry w a ∷ h
+-- a call of a worker that is made after a history
+pub record Turn : Type 0 where
+  pub shape : Shape
+  pub history : List Entry
+  pub worker : ℕ
+  pub call : Call
 
--- One step of w, on the words that a history left: it is on one of them. What it answers is the
--- reply of the definition, with numbers that are small. The history with this entry is legal, and
--- the words stand for the state that it leaves.
-pub record IsLawful (d : Shape) (h : List Entry) (w : ℕ) (c : Call) (a : Address)
-    (change : ℕ → ℕ) (answer : ℕ → Act) (words : List ℕ) : Type 0 where
-  pub there : index d a < length words
-  pub reply : answer (word_at d words a) ≡ reply_of d (state_after d h) w c
-  pub small : IsSmall (answer (word_at d words a))
-  pub legal : IsLegal d (then h w (answer (word_at d words a)))
-  pub stands : StandsFor d (stepped d words a change)
-      (state_after d (then h w (answer (word_at d words a))))
+-- the reply of the definition
+abbrev pub reply_at : Turn → Act
+reply_at turn = reply_of turn.shape (state_after turn.shape turn.history) turn.worker turn.call
+
+-- the history with the call after it, answered so
+abbrev pub answered : Turn → Act → List Entry
+answered turn act = entry turn.worker act ∷ turn.history
+
+-- one atomic step: the word that it is on, what it makes of this word, and what it answers of it
+pub record AtomicStep : Type 0 where
+  pub address : Address
+  pub change : ℕ → ℕ
+  pub answer : ℕ → Act
+
+-- what the step answers on these words
+abbrev pub answer_on : Shape → List ℕ → AtomicStep → Act
+answer_on d words step = step.answer (word_at d words step.address)
+
+-- The step of a call on the words that the history left: it is on one of them. What it answers is
+-- the reply of the definition, with numbers that are small. The history with this entry is legal,
+-- and the words stand for the state that it leaves.
+pub record IsLawful (turn : Turn) (step : AtomicStep) (words : List ℕ) : Type 0 where
+  pub there : index turn.shape step.address < length words
+  pub reply : answer_on turn.shape words step ≡ reply_at turn
+  pub small : IsSmall (answer_on turn.shape words step)
+  pub legal : IsLegal turn.shape (answered turn (answer_on turn.shape words step))
+  pub stands : StandsFor turn.shape (stepped turn.shape words step.address step.change)
+      (state_after turn.shape (answered turn (answer_on turn.shape words step)))
 
 -- the words stand for the state that a legal history leaves
-pub record AreWordsOf (d : Shape) (h : List Entry) (words : List ℕ) : Type 0 where
+pub record AreWordsOf (d : Shape) (history : List Entry) (words : List ℕ) : Type 0 where
   pub shape : IsShape d
-  pub legal : IsLegal d h
-  pub stands : StandsFor d words (state_after d h)
+  pub legal : IsLegal d history
+  pub stands : StandsFor d words (state_after d history)
 
 -- The law of a call: where a worker may make it, its one step is on the word `on`, makes `change`
 -- of it and answers what `answer` reads in it, and this is lawful. All three are given by the
 -- worker and its place, which its own calls give.
 abbrev pub IsLaw : Call → (ℕ → Place → Address) → (Place → ℕ → ℕ) → (Place → ℕ → Act) → Type 0
-IsLaw c on change answer = (d : Shape) (h : List Entry) (w : ℕ) (words : List ℕ)
-    → AreWordsOf d h words → w < d.workers → MayCall d (state_after d h) w c
-    → let p = place_of d h w in IsLawful d h w c (on w p) (change p) (answer p) words
+IsLaw c on change answer = (d : Shape) (history : List Entry) (w : ℕ) (words : List ℕ)
+    → AreWordsOf d history words → w < d.workers → MayCall d (state_after d history) w c
+    → let p = place_of d history w in
+    IsLawful (record { shape = d; history = history; worker = w; call = c })
+    (record { address = on w p; change = change p; answer = answer p }) words
 
 -- the counters of words that a legal history left say who still has to pay
 abbrev pub CountersSay : Type 0
-CountersSay = (d : Shape) (h : List Entry) (words : List ℕ) → AreWordsOf d h words
+CountersSay = (d : Shape) (history : List Entry) (words : List ℕ) → AreWordsOf d history words
     → (s : ℕ) → s < d.slots
-    → IsCounter d ((state_after d h).slots s) (word_at d words (CounterOf s))
+    → IsCounter d ((state_after d history).slots s) (word_at d words (CounterOf s))
 
 -- the words at the start are those of the empty history
 abbrev pub FirstWordsStand : Type 0
@@ -64,10 +86,10 @@ FirstWordsStand = (d : Shape) (words : List ℕ)
 -- the word of a slot's state is packed of its id
 abbrev pub packed : SlotState → ℕ
 packed Empty = 0
-packed (Reserved w h) = 1
+packed (Reserved w held) = 1
 packed (Open t) = open_word t.id
-packed (Shut t e) = tagged (open_word t.id)
-packed (Finishing id w h) = tagged (open_word id)
+packed (Shut t end) = tagged (open_word t.id)
+packed (Finishing id w held) = tagged (open_word id)
 
 abbrev pub StatesArePacked : Type 0
 StatesArePacked = (x : SlotState) → slot_word x ≡ packed x

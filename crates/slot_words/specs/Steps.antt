@@ -8,6 +8,7 @@ use Rattle.slot_history.specs.declared.place.Place.{Place}
 use Rattle.slot_history.specs.declared.place.Place.TheVariants.{Asking, Announcing}
 use Rattle.slot_history.specs.States.{slot_of, id_at}
 use Rattle.slot_history.specs.Calls.{Call, Entering, Looking, Claiming, Shutting, Leaving, Paying, Marking, Sweeping, Reserving, Admitting, AskingArrivals, AskingFinished, NotingDone, SettingTotal, Installing, Releasing, AnnouncingNext, TakingReturn, TakingChange}
+use Rattle.slot_history.specs.Allowed.{bit_of}
 use Rattle.slot_history.specs.Table.{nth_other}
 use Rattle.slot_words.specs.declared.address.Address.{Address}
 use Rattle.slot_words.specs.declared.address.Address.TheVariants.{ArrivalsAt, FinishedAt, StateOf, CursorOf, CounterOf, WorkerOf, ReturnOf, ChangeOf}
@@ -24,10 +25,6 @@ one_less n = (n + (2 ^ 64 - 1)) % 2 ^ 64
 -- a compare and exchange
 abbrev pub exchanged : ℕ → ℕ → ℕ → ℕ
 exchanged old new n = either (eqb n old) new n
-
--- the bit of a slot in its mask word
-abbrev pub bit_of : ℕ → ℕ
-bit_of s = 1 * 2 ^ (s % 64) % 2 ^ 64
 
 -- ---- what a call reads in its word
 
@@ -71,11 +68,11 @@ admit_answer q n = cond (eqb n q) (AdmitGot q) (AdmitLost q n)
 
 -- how many others a coordinator has asked, and how many of them it marked
 abbrev pub asked_at : Place → ℕ
-asked_at (Asking s id n m) = n
+asked_at (Asking s id asked marks) = asked
 asked_at _ = 0
 
 abbrev pub marked_at : Place → ℕ
-marked_at (Asking s id n m) = m
+marked_at (Asking s id asked marks) = marks
 marked_at _ = 0
 
 -- the mask word that an announcer writes: of returns after a finalisation, else of changes
@@ -99,7 +96,7 @@ address_of w (Admitting q) p = ArrivalsAt
 address_of w AskingArrivals p = ArrivalsAt
 address_of w AskingFinished p = FinishedAt
 address_of w (NotingDone k) p = FinishedAt
-address_of w (SettingTotal t) p = CursorOf (slot_of p)
+address_of w (SettingTotal total) p = CursorOf (slot_of p)
 address_of w (Installing id) p = StateOf (slot_of p)
 address_of w Releasing p = StateOf (slot_of p)
 address_of w AnnouncingNext p = mask_told p
@@ -122,7 +119,7 @@ change_of (Admitting q) p n = exchanged q (q + 1) n
 change_of AskingArrivals p n = n
 change_of AskingFinished p n = n
 change_of (NotingDone k) p n = added k n
-change_of (SettingTotal t) p n = cursor_word t 0
+change_of (SettingTotal total) p n = cursor_word total 0
 change_of (Installing id) p n = open_word id
 change_of Releasing p n = 0
 change_of AnnouncingNext p n = bit_or n (bit_of (slot_of p))
@@ -144,7 +141,7 @@ answer_of (Admitting q) p n = admit_answer q n
 answer_of AskingArrivals p n = Arrivals n
 answer_of AskingFinished p n = Finished n
 answer_of (NotingDone k) p n = NoteDone k
-answer_of (SettingTotal t) p n = SetTotal t
+answer_of (SettingTotal total) p n = SetTotal total
 answer_of (Installing id) p n = Install id
 answer_of Releasing p n = Release
 answer_of AnnouncingNext p n = Announce

@@ -15,10 +15,10 @@ use Rattle.slot_words.specs.Encodings.{at_word, mark_for, cursor_word, zero_coun
 -- nothing is said
 abbrev pub IsCursor : SlotState → ℕ → Type 0
 IsCursor Empty n = Unit {0}
-IsCursor (Reserved w h) n = IfSome h.total (λ t. n ≡ cursor_word t 0)
+IsCursor (Reserved w held) n = IfSome held.total (λ total. n ≡ cursor_word total 0)
 IsCursor (Open t) n = n ≡ cursor_word t.total t.cursor
-IsCursor (Shut t e) n = n ≡ cursor_word t.total t.cursor
-IsCursor (Finishing id w h) n = IfSome h.total (λ t. n ≡ cursor_word t 0)
+IsCursor (Shut t end) n = n ≡ cursor_word t.total t.cursor
+IsCursor (Finishing id w held) n = IfSome held.total (λ total. n ≡ cursor_word total 0)
 
 -- the counter of a slot: payments count down, and the sweep adds the marks
 abbrev pub counter_of : Shape → SlotState → ℕ

@@ -6,7 +6,7 @@ ghost use Rattle.slot_words.specs.Addresses as indices;
 use slot_history::shape::{PARTS, Shape};
 
 /// A word of the object, by name. Slots, workers and parts of masks are counted from 0.
-#[derive(Clone, Copy, PartialEq, Eq)]
+#[derive(Clone, Copy, Debug, PartialEq, Eq)]
 pub enum Address {
     /// 0 for ever.
     Meeting,
@@ -56,7 +56,7 @@ pub fn index(shape: &Shape, address: Address) -> usize
 }
 
 /// How many words there are.
-pub fn words_in(shape: &Shape) -> usize
+pub fn count_of_words(shape: &Shape) -> usize
     ensures { result ≡ indices.count_of_words shape.now }
 {
     worker_index(shape, shape.workers)

@@ -9,10 +9,11 @@ ghost use Rattle.std.specs.Prelude.{ℕ, ◌+◌, bit_or};
 ghost use Rattle.slot_history.specs.declared.act.Act.TheVariants.{Enter, Arrivals, Finished, NoteDone, SetTotal, Install, Release, Announce, TakeReturn, TakeChange};
 ghost use Rattle.slot_history.specs.States.{slot_of, id_at};
 ghost use Rattle.slot_history.specs.Calls.{Entering, Looking, Claiming, Shutting, Leaving, Paying, Marking, Sweeping, Reserving, Admitting, AskingArrivals, AskingFinished, NotingDone, SettingTotal, Installing, Releasing, AnnouncingNext, TakingReturn, TakingChange};
+ghost use Rattle.slot_history.specs.Allowed.{bit_of};
 ghost use Rattle.slot_history.specs.Table.{nth_other};
 ghost use Rattle.slot_words.specs.declared.address.Address.TheVariants.{ArrivalsAt, FinishedAt, StateOf, CursorOf, CounterOf, WorkerOf, ReturnOf, ChangeOf};
 ghost use Rattle.slot_words.specs.Encodings.{open_word, at_word, marked, cursor_word};
-ghost use Rattle.slot_words.specs.Steps.{added, one_less, exchanged, bit_of, look_answer, claim_answer, shut_answer, leave_answer, pay_answer, mark_answer, sweep_answer, reserve_answer, admit_answer, asked_at, marked_at, mask_told};
+ghost use Rattle.slot_words.specs.Steps.{added, one_less, exchanged, look_answer, claim_answer, shut_answer, leave_answer, pay_answer, mark_answer, sweep_answer, reserve_answer, admit_answer, asked_at, marked_at, mask_told};
 ghost use Rattle.slot_words.specs.Laws.{IsLaw, CountersSay, FirstWordsStand, StatesArePacked};
 
 /// A store on the own state word.
@@ -117,7 +118,8 @@ pub fn finished()
 ///
 /// No lock: two additions both count, in either order.
 pub fn note_done()
-    ensures { (k : ℕ) → IsLaw (NotingDone k) (λ w p. FinishedAt) (λ p n. added k n) (λ p n. NoteDone k) }
+    ensures { (k : ℕ) → IsLaw (NotingDone k) (λ w p. FinishedAt)
+        (λ p n. added k n) (λ p n. NoteDone k) }
 {}
 
 /// A store of the total and the cursor 0 in the slot's cursor word.
@@ -180,8 +182,8 @@ pub fn first_words_stand()
     ensures { FirstWordsStand }
 {}
 
-/// The state word of a slot is 0 if it is empty and 1 if it is reserved. Else it is the open word of
-/// its id, with the tag once the task set is shut.
+/// The state word of a slot is 0 if it is empty and 1 if it is reserved. Else it is the open word
+/// of its id, with the tag once the task set is shut.
 pub fn states_are_packed()
     ensures { StatesArePacked }
 {}

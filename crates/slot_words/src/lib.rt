@@ -15,3 +15,8 @@ pub mod laws;
 pub mod opening;
 #[cfg(test)]
 mod tests;
+
+pub use address::{Address, count_of_words, index};
+pub use encoding::{at_word, counter_word, cursor_word, marked, open_word, tagged};
+pub use opening::first_words;
+pub use slot_history::{act, place, shape};

@@ -4,7 +4,7 @@ ghost use Rattle.std.specs.Prelude.{◌≡◌, IfOk};
 ghost use Rattle.slot_history.specs.Bounds.{IsShape};
 ghost use Rattle.slot_words.specs.Words.{AreFirst};
 
-use crate::address::{Address, index, words_in};
+use crate::address::{Address, count_of_words, index};
 use crate::encoding::counter_word;
 use slot_history::shape::Shape;
 use std::alloc::{AllocError, Global};
@@ -14,7 +14,7 @@ pub fn first_words(alloc: Global, shape: &Shape) -> Result<Vec<u64>, AllocError>
     requires { IsShape shape.now }
     ensures { IfOk result (λ words. AreFirst shape.now words.items) }
 {
-    let mut words = vec![in alloc; 0u64; words_in(shape)]?;
+    let mut words = vec![in alloc; 0u64; count_of_words(shape)]?;
     for slot in 0..shape.slots {
         words[index(shape, Address::CounterOf(slot))] = counter_word(0);
     }

@@ -1,7 +1,8 @@
 use Rattle.std.proofs.Common.{refl, ap, ap₂, ◌∙◌, bit_or}
 use Rattle.slot_history.specs.Calls.{AnnouncingNext}
 use Rattle.slot_history.specs.States.{slot_of}
-use Rattle.slot_words.specs.Steps.{mask_told, bit_of}
+use Rattle.slot_history.specs.Allowed.{bit_of}
+use Rattle.slot_words.specs.Steps.{mask_told}
 use Rattle.slot_proto.proofs.machine.MachineSlotObject.announce.Goals as goal
 
 pub found-found-requires : goal.found-found-requires

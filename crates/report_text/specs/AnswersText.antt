@@ -44,7 +44,7 @@ totals_line values = codes "total " ++ totals_text values
 abbrev pub group_line : Group → List ℕ
 group_line group = codes "group " ++ row_text group.key ++ codes ": " ++ totals_text group.values
 
--- the lines of an answer: one a row, one for totals, or one a group
+-- the lines of an answer: one for each row, one for totals, or one for each group
 abbrev pub answer_lines : Answer → List (List ℕ)
 answer_lines (Rows rows) = map row_line rows
 answer_lines (Totals values) = totals_line values ∷ []
@@ -52,7 +52,8 @@ answer_lines (Groups groups) = map group_line groups
 
 -- the line above the lines of an answer, or in place of them
 abbrev pub heading : ℕ → Reply → List ℕ
-heading query (reply.Answer answer) = codes "query " ++ decimal query ++ codes " lines " ++ decimal (length (answer_lines answer))
+heading query (reply.Answer answer) =
+    codes "query " ++ decimal query ++ codes " lines " ++ decimal (length (answer_lines answer))
 heading query reply.Memory = codes "query " ++ decimal query ++ codes " memory"
 
 -- the lines of a reply
@@ -67,7 +68,7 @@ reply_bytes told = flat_map line (reply_lines told.query told.reply)
 abbrev pub answers_bytes : List QueryReply → List ℕ
 answers_bytes replies = flat_map reply_bytes replies
 
--- what stands before a value of a list: a comma, but before the first nothing
+-- what precedes a value of a list: a comma, or nothing before the first value
 abbrev pub comma_before : ℕ → List ℕ
 comma_before zero = []
 comma_before (suc place) = codes ","

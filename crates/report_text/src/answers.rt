@@ -9,11 +9,12 @@ use plan_ast::{AggValue, Answer, Group};
 use std::alloc::{AllocError, Global};
 use std::fmt::Write;
 
-/// The answers part of a report: for each reply, in the order given, the line `query Q lines N` and the N lines of
-/// the answer, or the line `query Q memory`.
+/// The answers of a report, in the order of the replies. An answer is the line `query Q lines N`
+/// and its N lines. A query that ran out of memory is the line `query Q memory`.
 ///
-/// A row is `row ` and its values, totals are `total ` and theirs, and a group is `group `, the values of its key,
-/// `: ` and its totals. Commas stand between values. A least or a greatest of nothing is `-`.
+/// A row is `row ` and its values. Totals are `total ` and their values. A group is `group `, the
+/// values of its key, `: ` and its totals. Commas separate values. The least or greatest of nothing
+/// is `-`.
 pub fn answers_text(alloc: Global, replies: &[QueryReply]) -> Result<Vec<u8>, AllocError>
     ensures { IfOk result (λ text. text.items ≡ answers_bytes replies.now) }
 {
@@ -90,7 +91,8 @@ fn write_rows(text: &mut String, rows: &[ListOf<i64>]) -> Result<(), AllocError>
 
 // Adds the line of a row.
 fn write_row(text: &mut String, row: &[i64]) -> Result<(), AllocError>
-    ensures { OnOk result (string_bytes text.new ≡ string_bytes text.old ++ line (row_line row.now)) }
+    ensures { OnOk result (string_bytes text.new
+        ≡ string_bytes text.old ++ line (row_line row.now)) }
 {
     text.push_str("row ")?;
     write_values(text, row)?;
@@ -120,7 +122,7 @@ fn write_group(text: &mut String, group: &Group) -> Result<(), AllocError>
     text.push_str("\n")
 }
 
-// Adds values, with commas between.
+// Adds values, with commas between them.
 fn write_values(text: &mut String, values: &[i64]) -> Result<(), AllocError>
     ensures { OnOk result (string_bytes text.new ≡ string_bytes text.old ++ row_text values.now) }
 {
@@ -131,9 +133,10 @@ fn write_values(text: &mut String, values: &[i64]) -> Result<(), AllocError>
     Ok(())
 }
 
-// Adds totals, with commas between.
+// Adds totals, with commas between them.
 fn write_totals(text: &mut String, values: &[AggValue]) -> Result<(), AllocError>
-    ensures { OnOk result (string_bytes text.new ≡ string_bytes text.old ++ totals_text values.now) }
+    ensures { OnOk result (string_bytes text.new
+        ≡ string_bytes text.old ++ totals_text values.now) }
 {
     for (place, value) in values.iter().enumerate() {
         write_comma(text, place)?;
@@ -142,7 +145,7 @@ fn write_totals(text: &mut String, values: &[AggValue]) -> Result<(), AllocError
     Ok(())
 }
 
-// Adds a comma before each value but the first.
+// Adds a comma, except before the first value.
 fn write_comma(text: &mut String, place: usize) -> Result<(), AllocError>
     ensures { OnOk result (string_bytes text.new ≡ string_bytes text.old ++ comma_before place) }
 {

@@ -1,8 +1,7 @@
-//! The printed text of reports. So far that is the answers to queries.
+//! The printed text of reports: so far, the answers to queries.
 //!
-//! It stands on `plan_ast`, which has answers. What the layers above may use: the text of a list of replies is,
-//! byte for byte, the one that `specs/AnswersText.antt` gives it.
-
+//! This layer uses the answers of `plan_ast`. The one fact that the layers above may use: the text
+//! of a list of replies is the one that `specs/AnswersText.antt` gives it, byte for byte.
 #![tactic(auto)]
 
 mod answers;

@@ -1,15 +1,14 @@
-// What became of the queries of a run.
-
+// The replies to the queries of a run.
 use plan_ast::Answer;
 
-/// What became of a query: its answer, or that memory ran out.
+/// The reply to a query: its answer, or that it ran out of memory.
 #[derive(Debug, Drop)]
 pub enum Reply {
     Answer(Answer),
     Memory,
 }
 
-/// The reply to a query, which is told by its number in the script.
+/// The reply to a query, with the query's number in the script, from 0.
 #[derive(Debug, Drop)]
 pub struct QueryReply {
     pub query: u32,

@@ -1,4 +1,4 @@
-pub mod Built
 pub mod Folding
+pub mod Grouping
 pub mod Joining
 pub mod Placed

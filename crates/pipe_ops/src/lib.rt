@@ -1,18 +1,19 @@
-//! The answers to queries, and the work of their stages.
+//! The answers to queries.
 //!
-//! `plain_answer` answers a checked query in one go, by nested loops over the columns of its tables.
+//! `plain_answer` answers a checked query in one go, by nested loops over the rows of its tables.
 //!
-//! It stands on `plan_ast`, which says what the answer to a query is. What the layers above may use: the answer is
-//! the definition's, whatever the query.
+//! It stands on `plan_ast`, which says what the answer to a query is. What the layers above may
+//! use: the answer is the definition's, whatever the query.
 
 #![tactic(auto)]
 
 mod aggregates;
+mod groups;
 mod joins;
 mod plain;
 mod rows;
 
-pub use plain::{is_built, plain_answer};
+pub use plain::plain_answer;
 
 #[cfg(test)]
 mod tests;

@@ -1,6 +1,6 @@
 // Worked answers.
 
-use crate::{is_built, plain_answer};
+use crate::plain_answer;
 use col_table::{ListOf, Name, Table, Text};
 use plan_ast::{
     Agg, AggValue, Answer, Filter, Func, Join, NameRef, NamedTable, Op, Output, Query, check,
@@ -72,7 +72,6 @@ fn answer(
         output,
     };
     assert!(rt; query.in_bounds());
-    assert!(rt; is_built(&query));
     let rows = [[2, 5], [1, 20], [1, 10], [1, 10]];
     let tables = vec![in rt.alloc(); table(rt, "t", ["k", "v"], &rows)?]?;
     let checked = check(rt.alloc(), &query, tables.as_slice()).expect(rt, "all names are there");
@@ -163,12 +162,41 @@ fn joins_tables(rt: HostRuntime) -> Result<(), Fail> {
         output: Output::Totals(ListOf::of(vec![in alloc; agg(&rt, Func::Count)?, sum]?)),
     };
     assert!(rt; query.in_bounds());
-    assert!(rt; is_built(&query));
     let checked = check(alloc, &query, tables.as_slice()).expect(&rt, "all names are there");
     let Answer::Totals(totals) = plain_answer(alloc, &checked, tables.as_slice())? else {
         return Err("totals".into());
     };
     let expected = matches!(totals.as_slice(), [AggValue::Count(3), AggValue::Sum(22)]);
     assert!(rt; expected);
+    Ok(())
+}
+
+#[test]
+fn folds_groups(rt: HostRuntime) -> Result<(), Fail> {
+    let alloc = rt.alloc();
+    let by = vec![in alloc; column(&rt, "k")?]?;
+    let aggs = vec![in alloc; agg(&rt, Func::Count)?, agg(&rt, Func::Sum)?]?;
+    let output = Output::Groups {
+        by: ListOf::of(by),
+        aggs: ListOf::of(aggs),
+    };
+    let Answer::Groups(groups) = answer(&rt, "v", Op::Ge, 0, output)? else {
+        return Err("groups".into());
+    };
+    let [first, second] = groups.as_slice() else {
+        return Err("two groups".into());
+    };
+    assert_eq!(rt; first.key.as_slice(), [1].as_slice());
+    let of_one = matches!(
+        first.values.as_slice(),
+        [AggValue::Count(3), AggValue::Sum(40)]
+    );
+    assert!(rt; of_one);
+    assert_eq!(rt; second.key.as_slice(), [2].as_slice());
+    let of_two = matches!(
+        second.values.as_slice(),
+        [AggValue::Count(1), AggValue::Sum(5)]
+    );
+    assert!(rt; of_two);
     Ok(())
 }

@@ -1,5 +1,5 @@
 //! The history of an object that has ended.
-ghost use Rattle.std.specs.Prelude.{◌≡◌, ◌∷◌, ◌<◌};
+ghost use Rattle.std.specs.Prelude.{◌≡◌, ◌<◌};
 ghost use Rattle.slot_station.specs.Log.{calls_in};
 
 use crate::any_word::AnyWord;

@@ -1,5 +1,5 @@
 -- What a worker finds in a cell that it exchanges, and that the exchange keeps what is known of every cell.
-use Rattle.std.proofs.Common.{◌≡◌, ◌≢◌, ℕ, ◌<◌, ◌⊎◌, true, false, cond, eqb, ◌&&◌, List, Option, IfSome, inl, inr, ⊎_elim, refl, sym, ap, ap₂, ◌∙◌, subst, eq-eqb, ne_eqb}
+use Rattle.std.proofs.Common.{◌≡◌, ◌≢◌, ℕ, ◌⊎◌, true, false, cond, eqb, ◌&&◌, List, Option, IfSome, inl, inr, ⊎_elim, refl, sym, ap, ap₂, ◌∙◌, subst, eq-eqb, ne_eqb}
 use Rattle.std.proofs.Math.Path.{transport}
 use Rattle.std.proofs.Math.Bool.{and-false}
 use mathlib.Core.Bool.{true≢false}
@@ -10,7 +10,6 @@ use Rattle.slot_history.specs.declared.place.Place.{Place}
 use Rattle.slot_history.specs.declared.place.Place.TheVariants.{Holding}
 use Rattle.slot_history.specs.States.{Finishing, ObjectState, slot_of, id_at, id_of, finalised_id, has_own_cell, holds}
 use Rattle.slot_history.specs.Steps.{state_after}
-use Rattle.slot_history.specs.Histories.{IsLegal}
 use Rattle.slot_history.specs.Bounds.{IsFinalisation, IsSlotSound}
 use Rattle.slot_history.proofs.Table.{table}
 use Rattle.slot_history.proofs.Holdings.{holder-slot, slots-sound, holder-place}
@@ -19,8 +18,8 @@ use Rattle.slot_history.proofs.Duties.{IsHeldBy}
 use Rattle.slot_history.proofs.Places.{own-has}
 use Rattle.slot_station.specs.declared.log.Exchange.{Exchange}
 use Rattle.slot_station.specs.declared.note.Note.{Note}
-use Rattle.slot_station.specs.Cells.{has_cell, Moment, Cell, CellOf, place_then, ranges_then, kept_note, NoteSays, FitsNext, FitsFinalised, FitsClaims}
-use Rattle.slot_station.specs.Exchanges.{IsExchange, own_slot, exchanged_cell, notes_exchanged, after_exchange, put_note, FitsKept, FitsFresh, FitsPut}
+use Rattle.slot_station.specs.Cells.{has_cell, Moment, Cell, CellOf, place_then, ranges_then, NoteSays, FitsNext, FitsFinalised, FitsClaims}
+use Rattle.slot_station.specs.Exchanges.{IsExchange, exchanged_cell, notes_exchanged, after_exchange, put_note, FitsKept, FitsFresh, FitsPut}
 use Rattle.slot_station.specs.Laws.{ExchangesGoOn}
 use Rattle.slot_station.proofs.Exchanges.{says-kept, says-fresh, says-held, held-says, own-cell-is, inside-only, inside-holds, cell-else}
 

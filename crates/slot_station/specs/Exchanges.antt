@@ -1,6 +1,6 @@
 -- An exchange of a cell: who may make it, what a value that is found or put has to fit, and what is
 -- known of cells after it.
-use Rattle.std.specs.Prelude.{◌≡◌, ℕ, ◌<◌, cond, eqb, ◌&&◌, List, Option}
+use Rattle.std.specs.Prelude.{ℕ, ◌<◌, cond, eqb, ◌&&◌, List, Option}
 use Rattle.slot_history.specs.declared.place.Place.{Place}
 use Rattle.slot_history.specs.declared.place.Place.TheVariants.{Holding}
 use Rattle.slot_history.specs.States.{HasCell, slot_of, id_at}

@@ -1,15 +1,12 @@
 -- The laws of stations and of cells, as the functions of module `laws` state them.
 use Rattle.std.specs.Prelude.{◌≡◌, ◌≢◌, ◌↔◌, ℕ, ◌<◌, List, ◌∷◌, Option, Some, IsSome, IfSome}
-use Rattle.slot_history.specs.declared.shape.Shape.{Shape}
 use Rattle.slot_history.specs.declared.act.Act.{Act}
 use Rattle.slot_history.specs.declared.act.Act.TheVariants.{TakeReturn, TakeChange}
-use Rattle.slot_history.specs.declared.act.Entry.{Entry}
 use Rattle.slot_history.specs.declared.place.Place.TheVariants.{Inside}
 use Rattle.slot_history.specs.Steps.{moved, state_after}
 use Rattle.slot_history.specs.Calls.{Call, reply_of}
 use Rattle.slot_history.specs.Histories.{IsLegal, entry}
 use Rattle.slot_history.specs.Numbers.{named_id}
-use Rattle.slot_station.specs.declared.note.Note.{Note}
 use Rattle.slot_station.specs.declared.reply.Claim.{Claim}
 use Rattle.slot_station.specs.declared.reply.Leave.{Leave}
 use Rattle.slot_station.specs.declared.reply.Look.{Look}

@@ -1,6 +1,5 @@
 use Rattle.std.proofs.Common.{sym, subst}
 use Rattle.slot_history.specs.Steps.{state_after}
-use Rattle.slot_history.specs.Calls.{reply_of}
 use Rattle.slot_history.proofs.Table.{table}
 use Rattle.slot_history.proofs.OneAnswer.{is-answered}
 use Rattle.slot_station.specs.Cells.{caller_then, CellsAllow}

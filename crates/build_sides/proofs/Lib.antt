@@ -1,0 +1,5 @@
+mod Links
+mod Distinct
+mod Items
+mod Hashed
+mod Adding

@@ -1,11 +1,10 @@
 -- The lines that say why there is no answer.
 use Rattle.std.specs.Prelude.{ℕ, List, ◌++◌, codes, decimal}
-use Rattle.csv_tables.specs.declared.refusal.TableRefusal.{TableRefusal}
-use Rattle.csv_tables.specs.declared.refusal.TableRefusal.TheVariants as table
+use Rattle.csv_tables.specs.RefusalText.{refusal_text as table_refusal_text}
 use Rattle.plan_ast.specs.declared.refusals.PlanRefusal.{PlanRefusal}
 use Rattle.plan_ast.specs.declared.refusals.PlanRefusal.TheVariants as plan
 use Rattle.report_text.specs.AnswersText.{line}
-use Rattle.script_json.specs.Paths.{refusal_text}
+use Rattle.script_json.specs.Paths.{refusal_text as script_refusal_text}
 use Rattle.sched_tool.specs.declared.refusal.QueryFault.{QueryFault}
 use Rattle.sched_tool.specs.declared.refusal.QueryFault.TheVariants as query_fault
 use Rattle.sched_tool.specs.declared.refusal.ScriptFault.{ScriptFault}
@@ -28,29 +27,13 @@ query_text query_fault.NotBuilt = codes "not built"
 
 abbrev pub script_fault_text : ScriptFault → List ℕ
 script_fault_text script_fault.TooLong = codes "too long"
-script_fault_text (script_fault.Unread refusal) = refusal_text refusal
+script_fault_text (script_fault.Unread refusal) = script_refusal_text refusal
 script_fault_text (script_fault.Query number fault) =
     codes "query " ++ (decimal number ++ (codes ": " ++ query_text fault))
 
--- a place in a table
-abbrev pub place_text : ℕ → ℕ → List ℕ
-place_text row field = decimal row ++ (codes " field " ++ decimal field)
-
--- why bytes are no table
-abbrev pub table_text : TableRefusal → List ℕ
-table_text table.NoHeader = codes "no header"
-table_text table.TooManyColumns = codes "too many columns"
-table_text (table.BadName field) = codes "bad name field " ++ decimal field
-table_text (table.TwiceNamed field) = codes "named twice field " ++ decimal field
-table_text (table.Ragged row) = codes "ragged record " ++ decimal row
-table_text (table.NotANumber row field) = codes "not a number record " ++ place_text row field
-table_text (table.OutOfRange row field) = codes "out of range record " ++ place_text row field
-table_text table.TooManyRows = codes "too many rows"
-table_text table.OutOfMemory = codes "out of memory"
-
 abbrev pub table_fault_text : TableFault → List ℕ
 table_fault_text table_fault.TooLong = codes "too long"
-table_fault_text (table_fault.Unread refusal) = table_text refusal
+table_fault_text (table_fault.Unread refusal) = table_refusal_text refusal
 
 abbrev pub error_text : Refusal → List ℕ
 error_text Usage = codes "error: usage"

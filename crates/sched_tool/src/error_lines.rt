@@ -1,7 +1,5 @@
-//! The lines that say why there is no answer: as text, a refusal is its line without the line's
-//! end.
+//! The lines that say why there is no answer. As text, a refusal is its line without the line end.
 use super::refusal::{QueryFault, Refusal, ScriptFault, TableFault};
-use csv_tables::TableRefusal;
 use plan_ast::PlanRefusal;
 use std::fmt;
 
@@ -49,36 +47,7 @@ impl fmt::Display for TableFault {
     fn fmt<W: fmt::Write>(&self, f: &mut fmt::Formatter<W>) -> fmt::Result {
         match self {
             TableFault::TooLong => write!(f, "too long"),
-            TableFault::Unread(refusal) => write!(f, "{}", TableText(refusal)),
-        }
-    }
-}
-
-// Why bytes are no table, as text.
-#[derive(Clone, Copy)]
-struct TableText<'a>(&'a TableRefusal);
-
-impl fmt::Display for TableText<'_> {
-    ghost use Rattle.std.specs.Prelude.{Some};
-    ghost use Rattle.sched_tool.specs.ErrorLines.{table_text};
-
-    ghost output = { λ text. Some (table_text text.0.now) };
-
-    fn fmt<W: fmt::Write>(&self, f: &mut fmt::Formatter<W>) -> fmt::Result {
-        match self.0 {
-            TableRefusal::NoHeader => write!(f, "no header"),
-            TableRefusal::TooManyColumns => write!(f, "too many columns"),
-            TableRefusal::BadName(field) => write!(f, "bad name field {field}"),
-            TableRefusal::TwiceNamed(field) => write!(f, "named twice field {field}"),
-            TableRefusal::Ragged(row) => write!(f, "ragged record {row}"),
-            TableRefusal::NotANumber(row, field) => {
-                write!(f, "not a number record {row} field {field}")
-            }
-            TableRefusal::OutOfRange(row, field) => {
-                write!(f, "out of range record {row} field {field}")
-            }
-            TableRefusal::TooManyRows => write!(f, "too many rows"),
-            TableRefusal::OutOfMemory => write!(f, "out of memory"),
+            TableFault::Unread(refusal) => write!(f, "{refusal}"),
         }
     }
 }

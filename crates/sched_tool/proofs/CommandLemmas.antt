@@ -3,12 +3,11 @@ use Rattle.std.proofs.Common.{◌≡◌, ◌⊎◌, ◌<◌, ℕ, zero, suc, get
 use Rattle.std.specs.Io.KnownBytes.{Appends}
 use Rattle.outside_io.specs.Faults.{CountedOne, OnlyFailed}
 use Rattle.outside_io.specs.Pieces.{AppendsPrefix}
-use Rattle.sched_tool.proofs.BehaviourLemmas.{IsLawful}
+use Rattle.sched_tool.proofs.BehaviourLemmas.{IsSound}
 use Rattle.sched_tool.proofs.FaultLemmas.{OneFaultAtMost-at}
 use Rattle.sched_tool.specs.Behaviours.{Behaviour}
 use Rattle.sched_tool.specs.Commands.{Gives, GivesUp}
 use Rattle.sched_tool.specs.ErrorLines.{error_bytes}
-use Rattle.sched_tool.specs.Outsides.{Outside}
 use Rattle.sched_tool.specs.ReadFaults.{FaultsAt, OneFaultAtMost}
 use Rattle.sched_tool.specs.Statuses.{status_of, statuses}
 use Rattle.sched_tool.specs.Writing.{IsFinding, IsMemoryText, IsRefusalWritten, IsTextOf, IsWritten, SinkState, TellsRefusal, WritesOne}
@@ -17,28 +16,28 @@ use Rattle.sched_tool.specs.declared.refusal.Refusal.{Refusal}
 use Rattle.sched_tool.specs.declared.refusal.Refusal.TheVariants.{Usage, CannotRead, Script, Table, OutOfMemory}
 
 -- how a command ended: the faults of its reads, and what was written of which text or line
-pub data Ends (does : Behaviour) (outside : Outside) (before after : List (List ℕ)) (old new : SinkState) (result : ℕ) : Type 0 where
-  whole : (text : List ℕ) → does.answers outside text → after ≡ before → IsWritten old new text 0 result → Ends does outside before after old new result
-  part : (text : List ℕ) → does.answers_in_part outside text → after ≡ before → IsWritten old new text 7 result → Ends does outside before after old new result
-  refused : (r : Refusal) → does.refuses outside r → FaultsAt r before after → IsWritten old new (error_bytes r) (status_of r) result
-      → Ends does outside before after old new result
+pub data Ends (does : Behaviour) (before after : List (List ℕ)) (old new : SinkState) (result : ℕ) : Type 0 where
+  whole : (text : List ℕ) → does.answers text → after ≡ before → IsWritten old new text 0 result → Ends does before after old new result
+  part : (text : List ℕ) → does.answers_in_part text → after ≡ before → IsWritten old new text 7 result → Ends does before after old new result
+  refused : (r : Refusal) → does.refuses r → FaultsAt r before after → IsWritten old new (error_bytes r) (status_of r) result
+      → Ends does before after old new result
   -- memory ran out for the line of a refusal
-  unsaid : (r : Refusal) → does.refuses outside r → FaultsAt r before after → IsWritten old new (error_bytes OutOfMemory) 7 result
-      → Ends does outside before after old new result
+  unsaid : (r : Refusal) → does.refuses r → FaultsAt r before after → IsWritten old new (error_bytes OutOfMemory) 7 result
+      → Ends does before after old new result
 
 -- how a command ended, from what it gave and how that was told
-pub Ends-from : (does : Behaviour) (outside : Outside) (before after : List (List ℕ)) (old new : SinkState) (result : ℕ) (ended : Result Output Refusal)
-    → IfOk ended (Gives does outside before after)
-    → IfErr ended (GivesUp does outside before after)
+pub Ends-from : (does : Behaviour) (before after : List (List ℕ)) (old new : SinkState) (result : ℕ) (ended : Result Output Refusal)
+    → IfOk ended (Gives does before after)
+    → IfErr ended (GivesUp does before after)
     → IfOk ended (λ output. IsWritten old new output.text.items output.status result)
     → IfErr ended (λ refusal. IsRefusalWritten old new refusal result)
-    → Ends does outside before after old new result
-Ends-from does outside before after old new result (Ok output) gives up written told =
+    → Ends does before after old new result
+Ends-from does before after old new result (Ok output) gives up written told =
     elim gives.text [
       | inl t ↦ whole output.text.items t.1 gives.no_fault (subst (λ status. IsWritten old new output.text.items status result) t.0 written)
       | inr t ↦ part output.text.items t.1 gives.no_fault (subst (λ status. IsWritten old new output.text.items status result) t.0 written)
     ]
-Ends-from does outside before after old new result (Err refusal) gives up written told =
+Ends-from does before after old new result (Err refusal) gives up written told =
     elim told.is [
       | inl is ↦ refused refusal up.cause up.faults (subst (λ r. IsWritten old new (error_bytes r) (status_of r) result) is told.written)
       | inr is ↦ unsaid refusal up.cause up.faults (subst (λ r. IsWritten old new (error_bytes r) (status_of r) result) is told.written)
@@ -114,9 +113,9 @@ is_memory (Script fault) e = absurd (omega arith)
 is_memory (Table file fault) e = absurd (omega arith)
 is_memory OutOfMemory e = refl
 
-module _ (does : Behaviour) (outside : Outside) (before after : List (List ℕ)) (old new : SinkState) (result : ℕ) where
+module _ (does : Behaviour) (before after : List (List ℕ)) (old new : SinkState) (result : ℕ) where
   -- 0
-  pub at_answered : Ends does outside before after old new result → result ≡ 0 → WritesOne (does.answers outside) old.written new.written
+  pub at_answered : Ends does before after old new result → result ≡ 0 → WritesOne does.answers old.written new.written
   at_answered (whole text answers none (inl w)) is = (text, answers, w.1)
   at_answered (whole text answers none (inr w)) is = absurd (omega (arith, w.0, is))
   at_answered (part text answers none (inl w)) is = absurd (omega (arith, w.0, is))
@@ -127,8 +126,8 @@ module _ (does : Behaviour) (outside : Outside) (before after : List (List ℕ))
   at_answered (unsaid r cause faults (inr w)) is = absurd (omega (arith, w.0, is))
 
   -- a status other than 0, 4 and 7
-  refused_at : Ends does outside before after old new result → result ≢ 0 → result ≢ 4 → result ≢ 7
-      → (r : Refusal) × does.refuses outside r × FaultsAt r before after × (result ≡ status_of r) × Appends old.written new.written (error_bytes r)
+  refused_at : Ends does before after old new result → result ≢ 0 → result ≢ 4 → result ≢ 7
+      → (r : Refusal) × does.refuses r × FaultsAt r before after × (result ≡ status_of r) × Appends old.written new.written (error_bytes r)
   refused_at (whole text answers none (inl w)) not_zero not_four not_seven = absurd (not_zero w.0)
   refused_at (whole text answers none (inr w)) not_zero not_four not_seven = absurd (not_four w.0)
   refused_at (part text answers none (inl w)) not_zero not_four not_seven = absurd (not_seven w.0)
@@ -139,7 +138,7 @@ module _ (does : Behaviour) (outside : Outside) (before after : List (List ℕ))
   refused_at (unsaid r cause faults (inr w)) not_zero not_four not_seven = absurd (not_four w.0)
 
   -- 2, 5 and 6
-  pub at_refused : Ends does outside before after old new result → Contains (2 ∷ 5 ∷ 6 ∷ []) result → TellsRefusal does outside old.written new.written result
+  pub at_refused : Ends does before after old new result → Contains (2 ∷ 5 ∷ 6 ∷ []) result → TellsRefusal does old.written new.written result
   at_refused ends is =
       let no = finding_status result is in
       let w = refused_at ends no.0 no.2 no.3 in
@@ -152,21 +151,21 @@ module _ (does : Behaviour) (outside : Outside) (before after : List (List ℕ))
       }
 
   -- 3
-  pub at_cannot_read : IsLawful does → Ends does outside before after old new result → result ≡ 3
-      → (file : List ℕ) × does.reads outside file × OnlyFailed before after file × Appends old.written new.written (error_bytes (CannotRead file))
-  at_cannot_read laws ends is =
+  pub at_cannot_read : IsSound does → Ends does before after old new result → result ≡ 3
+      → (file : List ℕ) × does.reads file × OnlyFailed before after file × Appends old.written new.written (error_bytes (CannotRead file))
+  at_cannot_read sound ends is =
       let w = refused_at ends (λ h. omega (arith, h, is)) (λ h. omega (arith, h, is)) (λ h. omega (arith, h, is)) in
       let named = names_file w.0 (sym w.3 ∙ is) in (
         named.0,
-        laws.reads outside named.0 (subst (does.refuses outside) named.1 w.1),
+        sound.reads named.0 (subst does.refuses named.1 w.1),
         subst (λ r. FaultsAt r before after) named.1 w.2,
         subst
             (λ r. Appends old.written new.written (error_bytes r)) named.1 w.4,
       )
 
   -- 4
-  pub at_cannot_write : Ends does outside before after old new result → result ≡ 4
-      → CountedOne old.faults new.faults × ((text : List ℕ) × IsTextOf does outside before after text × AppendsPrefix old.written new.written text)
+  pub at_cannot_write : Ends does before after old new result → result ≡ 4
+      → CountedOne old.faults new.faults × ((text : List ℕ) × IsTextOf does before after text × AppendsPrefix old.written new.written text)
   at_cannot_write (whole text answers none (inl w)) is = absurd (omega (arith, w.0, is))
   at_cannot_write (whole text answers none (inr w)) is = (w.2, (text, inl (answers, none), w.1))
   at_cannot_write (part text answers none (inl w)) is = absurd (omega (arith, w.0, is))
@@ -178,7 +177,7 @@ module _ (does : Behaviour) (outside : Outside) (before after : List (List ℕ))
   at_cannot_write (unsaid r cause faults (inr w)) is = (w.2, (error_bytes OutOfMemory, inr (inr (inl refl)), w.1))
 
   -- any other status
-  pub at_written : Ends does outside before after old new result → result ≢ 4 → new.faults ≡ old.faults
+  pub at_written : Ends does before after old new result → result ≢ 4 → new.faults ≡ old.faults
   at_written (whole text answers none (inl w)) not_four = w.2
   at_written (whole text answers none (inr w)) not_four = absurd (not_four w.0)
   at_written (part text answers none (inl w)) not_four = w.2
@@ -189,7 +188,7 @@ module _ (does : Behaviour) (outside : Outside) (before after : List (List ℕ))
   at_written (unsaid r cause faults (inr w)) not_four = absurd (not_four w.0)
 
   -- 7
-  pub at_memory : Ends does outside before after old new result → result ≡ 7 → WritesOne (IsMemoryText does outside) old.written new.written
+  pub at_memory : Ends does before after old new result → result ≡ 7 → WritesOne (IsMemoryText does) old.written new.written
   at_memory (whole text answers none (inl w)) is = absurd (omega (arith, w.0, is))
   at_memory (whole text answers none (inr w)) is = absurd (omega (arith, w.0, is))
   at_memory (part text answers none (inl w)) is = (text, inr answers, w.1)
@@ -208,7 +207,7 @@ module _ (does : Behaviour) (outside : Outside) (before after : List (List ℕ))
   listed (Table file fault) is = (5, lit< tt, sym is)
   listed OutOfMemory is = (6, lit< tt, sym is)
 
-  pub at_status : Ends does outside before after old new result → Contains statuses result
+  pub at_status : Ends does before after old new result → Contains statuses result
   at_status (whole text answers none (inl w)) = (0, lit< tt, sym w.0)
   at_status (whole text answers none (inr w)) = (3, lit< tt, sym w.0)
   at_status (part text answers none (inl w)) = (6, lit< tt, sym w.0)
@@ -219,7 +218,7 @@ module _ (does : Behaviour) (outside : Outside) (before after : List (List ℕ))
   at_status (unsaid r cause faults (inr w)) = (3, lit< tt, sym w.0)
 
   -- 0, 2, 5 and 6
-  quiet : Ends does outside before after old new result → result ≢ 3 → result ≢ 4 → result ≢ 7 → after ≡ before
+  quiet : Ends does before after old new result → result ≢ 3 → result ≢ 4 → result ≢ 7 → after ≡ before
   quiet (whole text answers none w) not_three not_four not_seven = none
   quiet (part text answers none w) not_three not_four not_seven = none
   quiet (refused r cause faults (inl w)) not_three not_four not_seven =
@@ -228,16 +227,16 @@ module _ (does : Behaviour) (outside : Outside) (before after : List (List ℕ))
   quiet (unsaid r cause faults (inl w)) not_three not_four not_seven = absurd (not_seven w.0)
   quiet (unsaid r cause faults (inr w)) not_three not_four not_seven = absurd (not_four w.0)
 
-  pub at_quiet : Ends does outside before after old new result → Contains (0 ∷ 2 ∷ 5 ∷ 6 ∷ []) result → after ≡ before
+  pub at_quiet : Ends does before after old new result → Contains (0 ∷ 2 ∷ 5 ∷ 6 ∷ []) result → after ≡ before
   at_quiet ends is = let no = quiet_status result is in quiet ends no.0 no.1 no.2
 
   -- any status
-  at_any : IsLawful does → (r : Refusal) → does.refuses outside r → FaultsAt r before after → OneFaultAtMost (does.reads outside) before after
-  at_any laws r cause faults =
-      OneFaultAtMost-at (does.reads outside) before after r faults (λ file is. laws.reads outside file (subst (does.refuses outside) is cause))
+  at_any : IsSound does → (r : Refusal) → does.refuses r → FaultsAt r before after → OneFaultAtMost does.reads before after
+  at_any sound r cause faults =
+      OneFaultAtMost-at does.reads before after r faults (λ file is. sound.reads file (subst does.refuses is cause))
 
-  pub faults_at_any : IsLawful does → Ends does outside before after old new result → OneFaultAtMost (does.reads outside) before after
-  faults_at_any laws (whole text answers none w) = inl none
-  faults_at_any laws (part text answers none w) = inl none
-  faults_at_any laws (refused r cause faults w) = at_any laws r cause faults
-  faults_at_any laws (unsaid r cause faults w) = at_any laws r cause faults
+  pub faults_at_any : IsSound does → Ends does before after old new result → OneFaultAtMost does.reads before after
+  faults_at_any sound (whole text answers none w) = inl none
+  faults_at_any sound (part text answers none w) = inl none
+  faults_at_any sound (refused r cause faults w) = at_any sound r cause faults
+  faults_at_any sound (unsaid r cause faults w) = at_any sound r cause faults

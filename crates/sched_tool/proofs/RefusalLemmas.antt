@@ -1,7 +1,7 @@
 -- Why `check` is refused, from why a part of it is.
 use Rattle.std.proofs.Common.{◌≡◌, ℕ, List, inl, inr, subst, sym}
 use Rattle.plan_ast.specs.Subject.{Subject}
-use Rattle.sched_tool.specs.Outsides.{Outside}
+use Rattle.sched_tool.specs.Outsides.{Contents}
 use Rattle.sched_tool.specs.ReadFaults.{FaultsAt}
 use Rattle.sched_tool.specs.Refusals.{AreQueriesRefused, AreTablesRefused, IsCheckRefused, IsEntryRefused}
 use Rattle.sched_tool.specs.Subjects.{HoldsScript, HoldsSubject, IsNext}
@@ -10,23 +10,23 @@ use Rattle.script_json.specs.declared.script.TableEntry.{TableEntry}
 use Rattle.sched_tool.specs.declared.refusal.Refusal.{Refusal}
 use Rattle.sched_tool.specs.declared.refusal.Refusal.TheVariants as refusal
 
-entry_refused : (outside : Outside) (file : List ℕ) (script : Script) (entry : TableEntry) (r : Refusal) → HoldsScript outside file script
-    → IsNext outside script.tables entry → IsEntryRefused outside entry r → IsCheckRefused outside file r
-entry_refused outside file script entry refusal.Usage held next h = h
-entry_refused outside file script entry (refusal.CannotRead name) held next h = inr (entry, record { script = script; held = held; next = next }, h)
-entry_refused outside file script entry (refusal.Script fault) held next h = elim h [ ]
-entry_refused outside file script entry (refusal.Table name fault) held next h = (h.0, (entry, record { script = script; held = held; next = next }, h.1))
-entry_refused outside file script entry refusal.OutOfMemory held next h = tt
+entry_refused : (holds : Contents) (file : List ℕ) (script : Script) (entry : TableEntry) (r : Refusal) → HoldsScript holds file script
+    → IsNext holds script.tables entry → IsEntryRefused holds entry r → IsCheckRefused holds file r
+entry_refused holds file script entry refusal.Usage held next h = h
+entry_refused holds file script entry (refusal.CannotRead name) held next h = inr (entry, record { script = script; held = held; next = next }, h)
+entry_refused holds file script entry (refusal.Script fault) held next h = elim h [ ]
+entry_refused holds file script entry (refusal.Table name fault) held next h = (h.0, (entry, record { script = script; held = held; next = next }, h.1))
+entry_refused holds file script entry refusal.OutOfMemory held next h = tt
 
-pub tables_refused : (outside : Outside) (file : List ℕ) (script : Script) (r : Refusal) → HoldsScript outside file script
-    → AreTablesRefused outside script.tables r → IsCheckRefused outside file r
-tables_refused outside file script r held (inl is) = subst (IsCheckRefused outside file) (sym is) tt
-tables_refused outside file script r held (inr h) = entry_refused outside file script h.0 r held h.1 h.2
+pub tables_refused : (holds : Contents) (file : List ℕ) (script : Script) (r : Refusal) → HoldsScript holds file script
+    → AreTablesRefused holds script.tables r → IsCheckRefused holds file r
+tables_refused holds file script r held (inl is) = subst (IsCheckRefused holds file) (sym is) tt
+tables_refused holds file script r held (inr h) = entry_refused holds file script h.0 r held h.1 h.2
 
-pub queries_refused : (outside : Outside) (file : List ℕ) (subject : Subject) (r : Refusal) → HoldsSubject outside file subject → AreQueriesRefused subject r
-    → IsCheckRefused outside file r
-queries_refused outside file subject r held (inl is) = subst (IsCheckRefused outside file) (sym is) tt
-queries_refused outside file subject r held (inr h) = subst (IsCheckRefused outside file) (sym h.2) (subject, held, h.3)
+pub queries_refused : (holds : Contents) (file : List ℕ) (subject : Subject) (r : Refusal) → HoldsSubject holds file subject → AreQueriesRefused subject r
+    → IsCheckRefused holds file r
+queries_refused holds file subject r held (inl is) = subst (IsCheckRefused holds file) (sym is) tt
+queries_refused holds file subject r held (inr h) = subst (IsCheckRefused holds file) (sym h.2) (subject, held, h.3)
 
 -- queries are refused where no read met a fault
 pub FaultsAt-queries : (subject : Subject) (r : Refusal) (old new : List (List ℕ)) → AreQueriesRefused subject r → new ≡ old → FaultsAt r old new

@@ -1,7 +1,7 @@
 -- What files hold.
 use Rattle.std.proofs.Common.{◌≡◌, ℕ, zero, suc, ◌<◌, List, [], ◌∷◌, ◌++◌, length, Option, Some, None, IfSome, refl, arith}
 use Rattle.plan_ast.specs.declared.queries.NamedTable.{NamedTable}
-use Rattle.sched_tool.specs.Outsides.{Outside, possible}
+use Rattle.sched_tool.specs.Outsides.{Contents, may_hold}
 use Rattle.sched_tool.specs.Subjects.{HoldsTable, HoldsTooMuch, HoldTables}
 use Rattle.script_json.specs.declared.script.TableEntry.{TableEntry}
 
@@ -21,13 +21,13 @@ longer_bytes None limit h = let longer = some_longer limit in (longer.0, tt, lon
 longer_bytes (Some file) limit h = (file, refl, h)
 
 pub holds_too_much : (content : List ℕ → Option (List ℕ)) (file : List ℕ) → IfSome (content file) (λ bytes. 67_108_864 < length bytes)
-    → HoldsTooMuch (possible content) file
+    → HoldsTooMuch (may_hold content) file
 holds_too_much content file long = let bytes = longer_bytes (content file) 67_108_864 long in record { bytes = bytes.0; held = bytes.1; long = bytes.2 }
 
 -- one more table
-pub HoldTables-push : (outside : Outside) (entries : List TableEntry) (entry : TableEntry) (tables : List NamedTable) (table : NamedTable)
-    → HoldTables outside entries tables → HoldsTable outside entry table → HoldTables outside (entries ++ entry ∷ []) (tables ++ table ∷ [])
-HoldTables-push outside [] entry [] table all one = (one, tt)
-HoldTables-push outside [] entry (t ∷ ts) table all one = elim all [ ]
-HoldTables-push outside (e ∷ es) entry [] table all one = elim all [ ]
-HoldTables-push outside (e ∷ es) entry (t ∷ ts) table all one = (all.0, HoldTables-push outside es entry ts table all.1 one)
+pub HoldTables-push : (holds : Contents) (entries : List TableEntry) (entry : TableEntry) (tables : List NamedTable) (table : NamedTable)
+    → HoldTables holds entries tables → HoldsTable holds entry table → HoldTables holds (entries ++ entry ∷ []) (tables ++ table ∷ [])
+HoldTables-push holds [] entry [] table all one = (one, tt)
+HoldTables-push holds [] entry (t ∷ ts) table all one = elim all [ ]
+HoldTables-push holds (e ∷ es) entry [] table all one = elim all [ ]
+HoldTables-push holds (e ∷ es) entry (t ∷ ts) table all one = (all.0, HoldTables-push holds es entry ts table all.1 one)

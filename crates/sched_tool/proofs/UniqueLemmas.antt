@@ -1,4 +1,4 @@
--- What is accepted isn't refused, and a refusal is the only one, in outsides that agree.
+-- What is accepted isn't refused, and a refusal is the only one, where files hold the same.
 use Rattle.std.proofs.Common.{◌≡◌, ◌<◌, ℕ, List, [], ◌∷◌, ◌++◌, length, take, get_or, slice_get, None, Some, inl, inr, ap, arith, refl, subst, sym, ◌∙◌}
 use Rattle.std.proofs.lemmas.Bool.{cases_lt}
 use Rattle.std.proofs.lemmas.List.{get_or-take, length-take-le}
@@ -9,9 +9,9 @@ use Rattle.csv_tables.specs.Refusals.{RefusesTable}
 use Rattle.plan_ast.specs.Names.{refusal_of}
 use Rattle.plan_ast.specs.Subject.{Subject}
 use Rattle.plan_ast.specs.declared.queries.NamedTable.{NamedTable}
-use Rattle.sched_tool.proofs.OutsideLemmas.{Agree-swap}
+use Rattle.sched_tool.proofs.OutsideLemmas.{SameFiles, SameFiles-swap}
 use Rattle.sched_tool.proofs.ReadersLemmas.{loaded_not_refused, one_script, one_script_refusal, one_table_refusal, read_not_refused}
-use Rattle.sched_tool.specs.Outsides.{Agree, Outside}
+use Rattle.sched_tool.specs.Outsides.{Contents}
 use Rattle.sched_tool.specs.Refusals.{IsCheckRefused, IsFirstRefused, IsQueryRefused, IsScriptRefused, IsTableRefused}
 use Rattle.script_json.specs.Scripts.{ReadsScript, RefusesScript}
 use Rattle.sched_tool.specs.Subjects.{AllAnswerable, Holds, HoldsScript, HoldsSubject, HoldsTable, HoldsTooMuch, HoldTables, IsAccepted, IsAnswerable}
@@ -81,16 +81,16 @@ one_first subject n m f g x y =
       ]
     ]
 
-module _ (a b : Outside) (agree : Agree a b) where
+module _ (a b : Contents) (agree : SameFiles a b) where
   -- what a file holds is of both kinds
   same_bytes : (file : List ℕ) (P Q : List ℕ → Type 0) → Holds a file P → Holds b file Q → (bytes : List ℕ) × P bytes × Q bytes
-  same_bytes file P Q x y = (y.bytes, subst P (agree.files file x.bytes y.bytes x.held y.held) x.kind, y.kind)
+  same_bytes file P Q x y = (y.bytes, subst P (agree file x.bytes y.bytes x.held y.held) x.kind, y.kind)
 
   not_too_much : (file : List ℕ) (P : List ℕ → Type 0) → Holds a file P → HoldsTooMuch b file → ⊥
-  not_too_much file P x y = let same = ap length (agree.files file x.bytes y.bytes x.held y.held) in omega (arith, same, x.short, y.long)
+  not_too_much file P x y = let same = ap length (agree file x.bytes y.bytes x.held y.held) in omega (arith, same, x.short, y.long)
 
   too_much_not : (file : List ℕ) (P : List ℕ → Type 0) → HoldsTooMuch a file → Holds b file P → ⊥
-  too_much_not file P x y = let same = ap length (agree.files file x.bytes y.bytes x.held y.held) in omega (arith, same, x.long, y.short)
+  too_much_not file P x y = let same = ap length (agree file x.bytes y.bytes x.held y.held) in omega (arith, same, x.long, y.short)
 
   script_is : (file : List ℕ) (s t : Script) → HoldsScript a file s → HoldsScript b file t → s ≡ t
   script_is file s t x y =
@@ -199,13 +199,13 @@ same_tail : (e f : TableEntry) (es fs : List TableEntry) → e ∷ es ≡ f ∷ 
 same_tail e f es fs is = cc
 
 -- the tables of two entries are refused, each after those before it were read: it is one entry
-same_entry : (a b : Outside) → Agree a b → (u v : List TableEntry) (e f : TableEntry) (after rest : List TableEntry) (ss ts : List NamedTable)
+same_entry : (a b : Contents) → SameFiles a b → (u v : List TableEntry) (e f : TableEntry) (after rest : List TableEntry) (ss ts : List NamedTable)
     (p q : TableFault) → u ++ e ∷ after ≡ v ++ f ∷ rest → HoldTables a u ss → HoldTables b v ts → IsTableRefused a e.file p → IsTableRefused b f.file q → e ≡ f
 same_entry a b agree [] [] e f after rest ss ts p q is x y one other = same_head e f after rest is
 same_entry a b agree [] (g ∷ v) e f after rest ss [] p q is x y one other = elim y [ ]
 same_entry a b agree [] (g ∷ v) e f after rest ss (t ∷ ts) p q is x y one other =
     let held = subst (λ k. HoldsTable b k t) (sym (same_head e g after (v ++ f ∷ rest) is)) y.0 in
-    absurd (not_table b a (Agree-swap a b agree) e t p held one)
+    absurd (not_table b a (SameFiles-swap a b agree) e t p held one)
 same_entry a b agree (g ∷ u) v e f after rest [] ts p q is x y one other = elim x [ ]
 same_entry a b agree (g ∷ u) [] e f after rest (s ∷ ss) ts p q is x y one other =
     let held = subst (λ k. HoldsTable a k s) (same_head g f (u ++ e ∷ after) rest is) x.0 in
@@ -215,7 +215,7 @@ same_entry a b agree (g ∷ u) (h ∷ v) e f after rest (s ∷ ss) (t ∷ ts) p 
     same_entry a b agree u v e f after rest ss ts p q (same_tail g h (u ++ e ∷ after) (v ++ f ∷ rest) is) x.1 y.1 one other
 
 -- one table of a script is refused, for one reason
-same_table : (a b : Outside) → Agree a b → (file name other : List ℕ) (p q : TableFault) → IsCheckRefused a file (Table name p)
+same_table : (a b : Contents) → SameFiles a b → (file name other : List ℕ) (p q : TableFault) → IsCheckRefused a file (Table name p)
     → IsCheckRefused b file (Table other q) → ◌≡◌ {A = Refusal} (Table name p) (Table other q)
 same_table a b agree file name other p q x y =
     let e = x.1.0 in
@@ -231,15 +231,15 @@ same_table a b agree file name other p q x y =
     λ i. Table (named i) (fault i)
 
 -- a table isn't refused if its script is
-table_not_script : (a b : Outside) → Agree a b → (file name : List ℕ) (fault : TableFault) (cause : ScriptFault) → IsCheckRefused a file (Table name fault)
+table_not_script : (a b : Contents) → SameFiles a b → (file name : List ℕ) (fault : TableFault) (cause : ScriptFault) → IsCheckRefused a file (Table name fault)
     → IsScriptRefused b file cause → ⊥
 table_not_script a b agree file name fault cause x y =
     let query = script_not_unread a b agree file x.1.1.script cause x.1.1.held y in
-    subject_not_table b a (Agree-swap a b agree) file query.0 name fault query.1 x
+    subject_not_table b a (SameFiles-swap a b agree) file query.0 name fault query.1 x
 
 -- `check` is refused for one reason
-pub same_refusal : (a b : Outside) → Agree a b → (file : List ℕ) (r s : Refusal) → IsFinding r → IsFinding s → IsCheckRefused a file r → IsCheckRefused b file s
-    → r ≡ s
+pub same_refusal : (a b : Contents) → SameFiles a b → (file : List ℕ) (r s : Refusal) → IsFinding r → IsFinding s → IsCheckRefused a file r
+    → IsCheckRefused b file s → r ≡ s
 same_refusal a b agree file Usage s x y h k = elim h [ ]
 same_refusal a b agree file (CannotRead name) s x y h k = elim x [ ]
 same_refusal a b agree file OutOfMemory s x y h k = elim x [ ]
@@ -247,7 +247,7 @@ same_refusal a b agree file (ScriptRefused fault) Usage x y h k = elim k [ ]
 same_refusal a b agree file (ScriptRefused fault) (CannotRead name) x y h k = elim y [ ]
 same_refusal a b agree file (ScriptRefused fault) (ScriptRefused other) x y h k = ap (λ v. ScriptRefused v) (same_script_fault a b agree file fault other h k)
 same_refusal a b agree file (ScriptRefused fault) (Table name other) x y h k =
-    absurd (table_not_script b a (Agree-swap a b agree) file name other fault k h)
+    absurd (table_not_script b a (SameFiles-swap a b agree) file name other fault k h)
 same_refusal a b agree file (ScriptRefused fault) OutOfMemory x y h k = elim y [ ]
 same_refusal a b agree file (Table name fault) Usage x y h k = elim k [ ]
 same_refusal a b agree file (Table name fault) (CannotRead other) x y h k = elim y [ ]

@@ -3,7 +3,7 @@ use Rattle.std.specs.Prelude.{◌≡◌, ℕ, List, ◌++◌, map, Option, None,
 use Rattle.std.specs.List.{enumerate_from}
 use Rattle.plan_ast.specs.Answer.{answer_of}
 use Rattle.plan_ast.specs.Subject.{Subject}
-use Rattle.sched_tool.specs.Outsides.{known, Outside}
+use Rattle.sched_tool.specs.Outsides.{Contents, Outside, surely_holds}
 use Rattle.report_text.specs.AnswersText.{answers_bytes, line}
 use Rattle.sched_tool.specs.Refusals.{IsCheckRefused}
 use Rattle.sched_tool.specs.Subjects.{IsAccepted, IsRead}
@@ -13,18 +13,19 @@ use Rattle.report_text.specs.declared.replies.Reply.TheVariants.{Answer}
 use Rattle.sched_tool.specs.declared.refusal.Refusal.{Refusal}
 use Rattle.sched_tool.specs.declared.refusal.Refusal.TheVariants.{Usage, CannotRead, Script, Table, OutOfMemory}
 
--- the behaviour of a command: each has one, and the contract of `command` speaks of nothing else
+-- the behaviour of a command over one outside: each command has one, and the contract of `command`
+-- speaks of nothing else
 pub record Behaviour : Type 1 where
   -- its words, and what its files hold, are accepted
-  pub accepts : Outside → Type 0
+  pub accepts : Type 0
   -- this text answers it whole
-  pub answers : Outside → List ℕ → Type 0
+  pub answers : List ℕ → Type 0
   -- this text answers it, but for queries that ran out of memory
-  pub answers_in_part : Outside → List ℕ → Type 0
+  pub answers_in_part : List ℕ → Type 0
   -- it is refused for this reason
-  pub refuses : Outside → Refusal → Type 0
+  pub refuses : Refusal → Type 0
   -- it reads the file of this name
-  pub reads : Outside → List ℕ → Type 0
+  pub reads : List ℕ → Type 0
 
 -- ---- words outside the grammar
 
@@ -38,11 +39,11 @@ IsUsageRefused OutOfMemory = Unit {0}
 -- words outside the grammar are refused, and nothing is read
 abbrev pub usage_behaviour : Behaviour
 usage_behaviour = record {
-  accepts = λ outside. ⊥;
-  answers = λ outside text. ⊥;
-  answers_in_part = λ outside text. ⊥;
-  refuses = λ outside. IsUsageRefused;
-  reads = λ outside file. ⊥;
+  accepts = ⊥;
+  answers = λ text. ⊥;
+  answers_in_part = λ text. ⊥;
+  refuses = IsUsageRefused;
+  reads = λ file. ⊥;
 }
 
 -- ---- `check`
@@ -57,26 +58,26 @@ replies_of subject =
 abbrev pub check_text : Subject → List ℕ
 check_text subject = answers_bytes (replies_of subject) ++ line (codes "end")
 
--- `check` of the script in a file answers each query of an accepted subject
-abbrev pub check_behaviour : List ℕ → Behaviour
-check_behaviour file = record {
-  accepts = λ outside. (subject : Subject) × IsAccepted outside file subject;
-  answers = λ outside text.
-      (subject : Subject) × IsAccepted outside file subject × (text ≡ check_text subject);
-  answers_in_part = λ outside text. ⊥;
-  refuses = λ outside. IsCheckRefused outside file;
-  reads = λ outside. IsRead outside file;
+-- `check` of the script in a file answers each query of an accepted subject; it uses no time
+abbrev pub check_behaviour : Contents → List ℕ → Behaviour
+check_behaviour holds file = record {
+  accepts = (subject : Subject) × IsAccepted holds file subject;
+  answers = λ text.
+      (subject : Subject) × IsAccepted holds file subject × (text ≡ check_text subject);
+  answers_in_part = λ text. ⊥;
+  refuses = IsCheckRefused holds file;
+  reads = IsRead holds file;
 }
 
--- an accepted script has one answer where its files are known
+-- an accepted script has one answer if the contents of its files are known
 abbrev pub OneAnswer : Type 0
 OneAnswer = (content : List ℕ → Option (List ℕ)) (file a b : List ℕ)
-    → (check_behaviour file).answers (known content) a
-    → (check_behaviour file).answers (known content) b → a ≡ b
+    → (check_behaviour (surely_holds content) file).answers a
+    → (check_behaviour (surely_holds content) file).answers b → a ≡ b
 
 -- ---- all commands
 
--- the behaviour of what words ask for; none where they are outside the grammar
-abbrev pub behaviour_of : Option Meaning → Behaviour
-behaviour_of None = usage_behaviour
-behaviour_of (Some (check file)) = check_behaviour file
+-- the behaviour of what words ask for; none if they are outside the grammar
+abbrev pub behaviour_of : Outside → Option Meaning → Behaviour
+behaviour_of outside None = usage_behaviour
+behaviour_of outside (Some (check file)) = check_behaviour outside.holds file

@@ -15,24 +15,22 @@ use Rattle.sched_tool.specs.declared.words.Command.TheVariants.{Check}
 abbrev pub asked_by : Command → Meaning
 asked_by (Check file) = check file.now
 
--- what the words ask for; none where they are outside the grammar
+-- what the words ask for; none if they are outside the grammar
 abbrev pub asked : List (String Global) → Option Meaning
 asked words = meaning_of (map string_bytes words)
 
 -- the behaviour of the command that the words ask for
-abbrev pub behaviour_asked : List (String Global) → Behaviour
-behaviour_asked words = behaviour_of (asked words)
+abbrev pub behaviour_asked : Outside → List (String Global) → Behaviour
+behaviour_asked outside words = behaviour_of outside (asked words)
 
 -- a command gave a text, and no read met a fault: it answers the command whole, at status 0, or in
 -- part, at 7
-pub record Gives (does : Behaviour) (outside : Outside) (old new : List (List ℕ)) (output : Output)
-    : Type 0 where
+pub record Gives (does : Behaviour) (old new : List (List ℕ)) (output : Output) : Type 0 where
   pub no_fault : new ≡ old
-  pub text : ((output.status ≡ 0) × does.answers outside output.text.items)
-      ⊎ ((output.status ≡ 7) × does.answers_in_part outside output.text.items)
+  pub text : ((output.status ≡ 0) × does.answers output.text.items)
+      ⊎ ((output.status ≡ 7) × does.answers_in_part output.text.items)
 
 -- a command gave up for this reason, and reads met the faults that go with it
-pub record GivesUp (does : Behaviour) (outside : Outside) (old new : List (List ℕ))
-    (refusal : Refusal) : Type 0 where
-  pub cause : does.refuses outside refusal
+pub record GivesUp (does : Behaviour) (old new : List (List ℕ)) (refusal : Refusal) : Type 0 where
+  pub cause : does.refuses refusal
   pub faults : FaultsAt refusal old new

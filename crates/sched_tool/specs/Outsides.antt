@@ -1,29 +1,29 @@
 -- What an answer rests on: what the files hold, and which times a meter may give.
 use Rattle.std.specs.Prelude.{◌≡◌, ℕ, List, Option, Some, IfSome}
 
+-- whether a file of this name holds these bytes
+abbrev pub Contents : Type 1
+Contents = List ℕ → List ℕ → Type 0
+
 -- the outside of a command
 pub record Outside : Type 1 where
-  -- whether a file of this name may hold these bytes
-  pub holds : List ℕ → List ℕ → Type 0
+  -- what the files hold
+  pub holds : Contents
   -- whether a meter may give this time for so many tuples, each of this cost
   pub gives : ℕ → ℕ → ℕ → Type 0
 
--- the times of a command that uses no meter: none
-abbrev pub NoTimes : ℕ → ℕ → ℕ → Type 0
-NoTimes tuples cost time = ⊥
+-- a file may hold the bytes that are known of it, or any if none are known
+abbrev pub may_hold : (List ℕ → Option (List ℕ)) → Contents
+may_hold content file bytes = IfSome (content file) (λ known. bytes ≡ known)
 
--- the outside as it may be: a file holds the bytes that are known of it, or any if none are known
-abbrev pub possible : (List ℕ → Option (List ℕ)) → Outside
-possible content = record {
-  holds = λ file bytes. IfSome (content file) (λ known. bytes ≡ known);
-  gives = NoTimes;
-}
+-- a file is known to hold these bytes
+abbrev pub surely_holds : (List ℕ → Option (List ℕ)) → Contents
+surely_holds content file bytes = content file ≡ Some bytes
 
--- the outside as far as it is known: a file holds the bytes that are known of it
-abbrev pub known : (List ℕ → Option (List ℕ)) → Outside
-known content = record { holds = λ file bytes. content file ≡ Some bytes; gives = NoTimes }
+-- the outside as it may be, over what is known of the files and the times of a meter
+abbrev pub possible : (List ℕ → Option (List ℕ)) → (ℕ → ℕ → ℕ → Type 0) → Outside
+possible content times = record { holds = may_hold content; gives = times }
 
--- two outsides agree: no file holds different bytes in them, and meters may give the same times
-pub record Agree (a b : Outside) : Type 1 where
-  pub files : (file x y : List ℕ) → a.holds file x → b.holds file y → x ≡ y
-  pub times : a.gives ≡ b.gives
+-- the outside as far as it is known
+abbrev pub known : (List ℕ → Option (List ℕ)) → (ℕ → ℕ → ℕ → Type 0) → Outside
+known content times = record { holds = surely_holds content; gives = times }

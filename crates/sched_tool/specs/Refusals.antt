@@ -8,7 +8,7 @@ use Rattle.plan_ast.specs.Subject.{Subject}
 use Rattle.plan_ast.specs.declared.queries.NamedTable.{NamedTable}
 use Rattle.plan_ast.specs.declared.queries.Query.{Query}
 use Rattle.plan_ast.specs.declared.refusals.PlanRefusal.TheVariants as plan
-use Rattle.sched_tool.specs.Outsides.{Outside}
+use Rattle.sched_tool.specs.Outsides.{Contents}
 use Rattle.script_json.specs.Scripts.{RefusesScript}
 use Rattle.sched_tool.specs.Subjects.{AllAnswerable, Holds, HoldsSubject, HoldsTooMuch, IsNext, IsNextTable, IsRead}
 use Rattle.script_json.specs.declared.refusal.ScriptRefusal.TheVariants as script
@@ -36,43 +36,43 @@ pub record IsFirstRefused (subject : Subject) (number : ℕ) (fault : QueryFault
   pub first : AllAnswerable subject.tables (take number subject.queries)
 
 -- why the script in a file is refused; that memory ran out is no cause
-abbrev pub IsScriptRefused : Outside → List ℕ → ScriptFault → Type 0
-IsScriptRefused outside file script_fault.TooLong = HoldsTooMuch outside file
-IsScriptRefused outside file (script_fault.Unread refusal) =
-    (refusal ≢ script.OutOfMemory) × Holds outside file (λ bytes. RefusesScript bytes refusal)
-IsScriptRefused outside file (script_fault.Query number fault) =
-    (subject : Subject) × HoldsSubject outside file subject × IsFirstRefused subject number fault
+abbrev pub IsScriptRefused : Contents → List ℕ → ScriptFault → Type 0
+IsScriptRefused holds file script_fault.TooLong = HoldsTooMuch holds file
+IsScriptRefused holds file (script_fault.Unread refusal) =
+    (refusal ≢ script.OutOfMemory) × Holds holds file (λ bytes. RefusesScript bytes refusal)
+IsScriptRefused holds file (script_fault.Query number fault) =
+    (subject : Subject) × HoldsSubject holds file subject × IsFirstRefused subject number fault
 
 -- why the table in a file is refused; that memory ran out is no cause
-abbrev pub IsTableRefused : Outside → List ℕ → TableFault → Type 0
-IsTableRefused outside file table_fault.TooLong = HoldsTooMuch outside file
-IsTableRefused outside file (table_fault.Unread refusal) =
-    (refusal ≢ table.OutOfMemory) × Holds outside file (λ bytes. RefusesTable bytes refusal)
+abbrev pub IsTableRefused : Contents → List ℕ → TableFault → Type 0
+IsTableRefused holds file table_fault.TooLong = HoldsTooMuch holds file
+IsTableRefused holds file (table_fault.Unread refusal) =
+    (refusal ≢ table.OutOfMemory) × Holds holds file (λ bytes. RefusesTable bytes refusal)
 
 -- why `check` of the script in a file is refused
-abbrev pub IsCheckRefused : Outside → List ℕ → Refusal → Type 0
-IsCheckRefused outside file Usage = ⊥
-IsCheckRefused outside file (CannotRead name) = IsRead outside file name
-IsCheckRefused outside file (Script fault) = IsScriptRefused outside file fault
-IsCheckRefused outside file (Table name fault) = IsTableRefused outside name fault
-    × ((entry : TableEntry) × IsNextTable outside file entry × (name ≡ entry.file))
-IsCheckRefused outside file OutOfMemory = Unit {0}
+abbrev pub IsCheckRefused : Contents → List ℕ → Refusal → Type 0
+IsCheckRefused holds file Usage = ⊥
+IsCheckRefused holds file (CannotRead name) = IsRead holds file name
+IsCheckRefused holds file (Script fault) = IsScriptRefused holds file fault
+IsCheckRefused holds file (Table name fault) = IsTableRefused holds name fault
+    × ((entry : TableEntry) × IsNextTable holds file entry × (name ≡ entry.file))
+IsCheckRefused holds file OutOfMemory = Unit {0}
 
 -- ---- parts of `check`
 
 -- why the table of an entry is refused
-abbrev pub IsEntryRefused : Outside → TableEntry → Refusal → Type 0
-IsEntryRefused outside entry Usage = ⊥
-IsEntryRefused outside entry (CannotRead name) = name ≡ entry.file
-IsEntryRefused outside entry (Script fault) = ⊥
-IsEntryRefused outside entry (Table name fault) =
-    IsTableRefused outside name fault × (name ≡ entry.file)
-IsEntryRefused outside entry OutOfMemory = Unit {0}
+abbrev pub IsEntryRefused : Contents → TableEntry → Refusal → Type 0
+IsEntryRefused holds entry Usage = ⊥
+IsEntryRefused holds entry (CannotRead name) = name ≡ entry.file
+IsEntryRefused holds entry (Script fault) = ⊥
+IsEntryRefused holds entry (Table name fault) =
+    IsTableRefused holds name fault × (name ≡ entry.file)
+IsEntryRefused holds entry OutOfMemory = Unit {0}
 
 -- why the tables of a script are refused: the next to be read is, or memory ran out
-abbrev pub AreTablesRefused : Outside → List TableEntry → Refusal → Type 0
-AreTablesRefused outside entries refusal = (refusal ≡ OutOfMemory)
-    ⊎ ((entry : TableEntry) × IsNext outside entries entry × IsEntryRefused outside entry refusal)
+abbrev pub AreTablesRefused : Contents → List TableEntry → Refusal → Type 0
+AreTablesRefused holds entries refusal = (refusal ≡ OutOfMemory)
+    ⊎ ((entry : TableEntry) × IsNext holds entries entry × IsEntryRefused holds entry refusal)
 
 -- the refusal of `check` that a refused query brings
 abbrev pub query_refusal : ℕ → QueryFault → Refusal

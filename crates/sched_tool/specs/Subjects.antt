@@ -6,47 +6,47 @@ use Rattle.plan_ast.specs.Names.{refusal_of}
 use Rattle.plan_ast.specs.Subject.{Subject}
 use Rattle.plan_ast.specs.declared.queries.NamedTable.{NamedTable}
 use Rattle.plan_ast.specs.declared.queries.Query.{Query}
-use Rattle.sched_tool.specs.Outsides.{Outside}
+use Rattle.sched_tool.specs.Outsides.{Contents}
 use Rattle.script_json.specs.Scripts.{ReadsScript}
 use Rattle.script_json.specs.declared.script.Script.{Script}
 use Rattle.script_json.specs.declared.script.TableEntry.{TableEntry}
 
 -- a file holds bytes of this kind, and no more than a file may have
-pub record Holds (outside : Outside) (file : List ℕ) (IsKind : List ℕ → Type 0) : Type 0 where
+pub record Holds (holds : Contents) (file : List ℕ) (IsKind : List ℕ → Type 0) : Type 0 where
   pub bytes : List ℕ
-  pub held : outside.holds file bytes
+  pub held : holds file bytes
   pub short : length bytes ≤ 67_108_864
   pub kind : IsKind bytes
 
 -- a file holds more bytes than a file may have
-pub record HoldsTooMuch (outside : Outside) (file : List ℕ) : Type 0 where
+pub record HoldsTooMuch (holds : Contents) (file : List ℕ) : Type 0 where
   pub bytes : List ℕ
-  pub held : outside.holds file bytes
+  pub held : holds file bytes
   pub long : 67_108_864 < length bytes
 
 -- the file holds this script
-abbrev pub HoldsScript : Outside → List ℕ → Script → Type 0
-HoldsScript outside file script = Holds outside file (λ bytes. ReadsScript bytes script)
+abbrev pub HoldsScript : Contents → List ℕ → Script → Type 0
+HoldsScript holds file script = Holds holds file (λ bytes. ReadsScript bytes script)
 
 -- the file of a script's entry holds this table
-pub record HoldsTable (outside : Outside) (entry : TableEntry) (table : NamedTable) : Type 0 where
-  pub held : Holds outside entry.file (λ bytes. LoadsTable bytes table.table)
+pub record HoldsTable (holds : Contents) (entry : TableEntry) (table : NamedTable) : Type 0 where
+  pub held : Holds holds entry.file (λ bytes. LoadsTable bytes table.table)
   pub name : table.name ≡ entry.name
   pub file : table.file ≡ entry.file
 
 -- the files of a script's entries hold these tables
-abbrev pub HoldTables : Outside → List TableEntry → List NamedTable → Type 0
-HoldTables outside [] [] = Unit {0}
-HoldTables outside [] (table ∷ tables) = ⊥
-HoldTables outside (entry ∷ entries) [] = ⊥
-HoldTables outside (entry ∷ entries) (table ∷ tables) =
-    HoldsTable outside entry table × HoldTables outside entries tables
+abbrev pub HoldTables : Contents → List TableEntry → List NamedTable → Type 0
+HoldTables holds [] [] = Unit {0}
+HoldTables holds [] (table ∷ tables) = ⊥
+HoldTables holds (entry ∷ entries) [] = ⊥
+HoldTables holds (entry ∷ entries) (table ∷ tables) =
+    HoldsTable holds entry table × HoldTables holds entries tables
 
 -- the file holds a script, and the files of its entries hold tables: this is the subject
-pub record HoldsSubject (outside : Outside) (file : List ℕ) (subject : Subject) : Type 0 where
+pub record HoldsSubject (holds : Contents) (file : List ℕ) (subject : Subject) : Type 0 where
   pub script : Script
-  pub held : HoldsScript outside file script
-  pub tables : HoldTables outside script.tables subject.tables
+  pub held : HoldsScript holds file script
+  pub tables : HoldTables holds script.tables subject.tables
   pub queries : subject.queries ≡ script.queries
 
 -- a query can be answered over tables: each name in it is there, and it has a form that is answered
@@ -58,27 +58,27 @@ abbrev pub AllAnswerable : List NamedTable → List Query → Type 0
 AllAnswerable tables queries = All (IsAnswerable tables) queries
 
 -- the script, its tables and its queries are accepted: this is the subject
-pub record IsAccepted (outside : Outside) (file : List ℕ) (subject : Subject) : Type 0 where
-  pub held : HoldsSubject outside file subject
+pub record IsAccepted (holds : Contents) (file : List ℕ) (subject : Subject) : Type 0 where
+  pub held : HoldsSubject holds file subject
   pub answerable : AllAnswerable subject.tables subject.queries
 
 -- the table of this entry is the next to be read: those of the entries before it were read
-pub record IsNext (outside : Outside) (entries : List TableEntry) (entry : TableEntry)
+pub record IsNext (holds : Contents) (entries : List TableEntry) (entry : TableEntry)
     : Type 0 where
   pub before : List TableEntry
   pub after : List TableEntry
   pub is : entries ≡ before ++ entry ∷ after
   pub loaded : List NamedTable
-  pub tables : HoldTables outside before loaded
+  pub tables : HoldTables holds before loaded
 
 -- the table of this entry of the script in a file is the next to be read
-pub record IsNextTable (outside : Outside) (file : List ℕ) (entry : TableEntry) : Type 0 where
+pub record IsNextTable (holds : Contents) (file : List ℕ) (entry : TableEntry) : Type 0 where
   pub script : Script
-  pub held : HoldsScript outside file script
-  pub next : IsNext outside script.tables entry
+  pub held : HoldsScript holds file script
+  pub next : IsNext holds script.tables entry
 
 -- a file is read: it is that of the script, or that of the table that is the next to be read
-abbrev pub IsRead : Outside → List ℕ → List ℕ → Type 0
-IsRead outside script file =
+abbrev pub IsRead : Contents → List ℕ → List ℕ → Type 0
+IsRead holds script file =
     (file ≡ script)
-    ⊎ ((entry : TableEntry) × IsNextTable outside script entry × (file ≡ entry.file))
+    ⊎ ((entry : TableEntry) × IsNextTable holds script entry × (file ≡ entry.file))

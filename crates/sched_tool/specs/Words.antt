@@ -10,7 +10,7 @@ abbrev pub is_file_word : List ℕ → Bool
 is_file_word [] = false
 is_file_word (first ∷ rest) = not (first == 45) || (length rest == 0)
 
--- what a list of words means; none where it is outside the grammar
+-- what a list of words means; none if it is outside the grammar
 abbrev pub meaning_of : List (List ℕ) → Option Meaning
 meaning_of [] = None
 meaning_of (command ∷ []) = None

@@ -5,7 +5,6 @@ use Rattle.outside_io.specs.Faults.{CountedOne}
 use Rattle.outside_io.specs.Pieces.{AppendsPrefix}
 use Rattle.sched_tool.specs.Behaviours.{Behaviour}
 use Rattle.sched_tool.specs.ErrorLines.{error_bytes}
-use Rattle.sched_tool.specs.Outsides.{Outside}
 use Rattle.sched_tool.specs.ReadFaults.{FaultsAt}
 use Rattle.sched_tool.specs.Statuses.{status_of}
 use Rattle.sched_tool.specs.declared.refusal.Refusal.{Refusal}
@@ -42,28 +41,26 @@ IsFinding (Table file fault) = Unit {0}
 IsFinding OutOfMemory = ⊥
 
 -- a refusal is told: it has its cause, the status is its own, and its line was written
-pub record TellsRefusal (does : Behaviour) (outside : Outside) (old new : Option (List ℕ))
-    (result : ℕ) : Type 0 where
+pub record TellsRefusal (does : Behaviour) (old new : Option (List ℕ)) (result : ℕ) : Type 0 where
   pub refusal : Refusal
   pub finding : IsFinding refusal
-  pub cause : does.refuses outside refusal
+  pub cause : does.refuses refusal
   pub status : result ≡ status_of refusal
   pub line : Appends old new (error_bytes refusal)
 
 -- a text that says that memory ran out: the line that says so, or an answer in part
-abbrev pub IsMemoryText : Behaviour → Outside → List ℕ → Type 0
-IsMemoryText does outside text =
-    (text ≡ error_bytes OutOfMemory) ⊎ does.answers_in_part outside text
+abbrev pub IsMemoryText : Behaviour → List ℕ → Type 0
+IsMemoryText does text = (text ≡ error_bytes OutOfMemory) ⊎ does.answers_in_part text
 
 -- the line of a refusal that has its cause, and reads met the faults that go with it
-pub record IsRefusalLine (does : Behaviour) (outside : Outside) (old new : List (List ℕ))
-    (text : List ℕ) : Type 0 where
+pub record IsRefusalLine (does : Behaviour) (old new : List (List ℕ)) (text : List ℕ)
+    : Type 0 where
   pub refusal : Refusal
-  pub cause : does.refuses outside refusal
+  pub cause : does.refuses refusal
   pub faults : FaultsAt refusal old new
   pub line : text ≡ error_bytes refusal
 
 -- a text that a command may write
-abbrev pub IsTextOf : Behaviour → Outside → List (List ℕ) → List (List ℕ) → List ℕ → Type 0
-IsTextOf does outside old new text = (does.answers outside text × (new ≡ old))
-    ⊎ (IsRefusalLine does outside old new text ⊎ IsMemoryText does outside text)
+abbrev pub IsTextOf : Behaviour → List (List ℕ) → List (List ℕ) → List ℕ → Type 0
+IsTextOf does old new text = (does.answers text × (new ≡ old))
+    ⊎ (IsRefusalLine does old new text ⊎ IsMemoryText does text)

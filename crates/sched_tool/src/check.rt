@@ -5,7 +5,7 @@ ghost use Rattle.plan_ast.specs.Bounds.{IsInBounds};
 ghost use Rattle.plan_ast.specs.Checks.{IsCheckedFor, query_of};
 ghost use Rattle.sched_tool.specs.Behaviours.{OneAnswer, check_behaviour, check_text, replies_of};
 ghost use Rattle.sched_tool.specs.Commands.{Gives, GivesUp};
-ghost use Rattle.sched_tool.specs.Outsides.{possible};
+ghost use Rattle.sched_tool.specs.Outsides.{may_hold};
 ghost use Rattle.sched_tool.specs.Refusals.{AreQueriesRefused, IsQueryRefused, query_refusal};
 ghost use Rattle.sched_tool.specs.Subjects.{AllAnswerable, IsAnswerable};
 
@@ -25,9 +25,11 @@ use std::alloc::{AllocError, Global};
 /// answered. The first refusal ends it.
 pub fn check_script<F: Files>(alloc: Global, files: &mut F, file: &str) -> Result<Output, Refusal>
     ensures kept { (any : List ℕ) → F.content files.new any ≡ F.content files.old any }
-    ensures ok { IfOk result (Gives (check_behaviour file.now) (possible (F.content files.old))
+    ensures ok { IfOk result (Gives
+        (check_behaviour (may_hold (F.content files.old)) file.now)
         (F.failed files.old) (F.failed files.new)) }
-    ensures err { IfErr result (GivesUp (check_behaviour file.now) (possible (F.content files.old))
+    ensures err { IfErr result (GivesUp
+        (check_behaviour (may_hold (F.content files.old)) file.now)
         (F.failed files.old) (F.failed files.new)) }
 {
     let Script { tables, queries } = open_script(alloc, files, file)?;
@@ -37,7 +39,7 @@ pub fn check_script<F: Files>(alloc: Global, files: &mut F, file: &str) -> Resul
     Ok(Output::whole(text))
 }
 
-/// An accepted script has one answer where its files are known.
+/// An accepted script has one answer if the contents of its files are known.
 pub fn one_answer()
     ensures { OneAnswer }
 {}

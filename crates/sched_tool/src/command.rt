@@ -17,74 +17,82 @@ use super::output::Output;
 use super::refusal::Refusal;
 use super::status::{CANNOT_WRITE, OUT_OF_MEMORY, status_of};
 use super::words::{Command, read_words};
-use outside_io::{Files, Sink, write_all};
+use outside_io::{Files, Meter, Sink, write_all};
 use std::alloc::{AllocError, Global};
 
 /// Does what the words after the program's name ask for, writes one text, and answers the status
 /// that the program ends with. `check` reads the script and its tables, and writes the answers to
-/// its queries.
+/// its queries. It takes no time from the meter.
 ///
-/// The first refusal in this order is told, by its line in place of all else: the words are outside
-/// the grammar (2); the script can't be read (3) or is refused (5); table by table in the script's
-/// order, the table can't be read (3) or is refused (6); a query is refused (5). Running out of
-/// memory ends the command where it happens (7). If a write fails, the status is 4, and a beginning
-/// of the text was written.
-pub fn command<F: Files, S: Sink>(alloc: Global, words: &[String], files: &mut F, out: &mut S) -> u8
+/// The first refusal in this order is written, as its line, in place of all else: the words are
+/// outside the grammar (2); the script can't be read (3) or is refused (5); table by table in the
+/// script's order, the table can't be read (3) or is refused (6); a query is refused (5). Running
+/// out of memory ends the command where it happens (7). If a write fails, the status is 4, and a
+/// prefix of the text was written.
+pub fn command<F: Files, S: Sink, M: Meter>(
+    alloc: Global,
+    words: &[String],
+    files: &mut F,
+    out: &mut S,
+    meter: &mut M,
+) -> u8
     // 0: the command is answered.
-    ensures answered { result ≡ 0 →
-        WritesOne ((behaviour_asked words.now).answers (possible (F.content files.old)))
+    ensures answered { result ≡ 0 → WritesOne
+        (behaviour_asked (possible (F.content files.old) M.may_take) words.now).answers
         (S.written out.old) (S.written out.new) }
 
     // 2, 5, 6: the words, the script or one of its queries, or a table is refused for this reason.
-    ensures refused { Contains (2 ∷ 5 ∷ 6 ∷ []) result →
-        TellsRefusal (behaviour_asked words.now) (possible (F.content files.old))
+    ensures refused { Contains (2 ∷ 5 ∷ 6 ∷ []) result → TellsRefusal
+        (behaviour_asked (possible (F.content files.old) M.may_take) words.now)
         (S.written out.old) (S.written out.new) result }
 
     // 3: the file named is one that the command reads, and the one read that failed is of it.
     ensures cannot_read { result ≡ 3 → (file : List ℕ)
-        × (behaviour_asked words.now).reads (possible (F.content files.old)) file
+        × (behaviour_asked (possible (F.content files.old) M.may_take) words.now).reads file
         × OnlyFailed (F.failed files.old) (F.failed files.new) file
         × Appends (S.written out.old) (S.written out.new) (error_bytes (Refusal.CannotRead file)) }
 
-    // 4: one write failed, after a beginning of a text of the command was written.
+    // 4: one write failed, after a prefix of a text of the command was written.
     ensures cannot_write { result ≡ 4 → CountedOne (S.faults out.old) (S.faults out.new)
         × ((text : List ℕ)
-        × IsTextOf (behaviour_asked words.now) (possible (F.content files.old))
+        × IsTextOf (behaviour_asked (possible (F.content files.old) M.may_take) words.now)
         (F.failed files.old) (F.failed files.new) text
         × AppendsPrefix (S.written out.old) (S.written out.new) text) }
 
     // 7: memory ran out.
-    ensures memory { result ≡ 7 →
-        WritesOne (IsMemoryText (behaviour_asked words.now) (possible (F.content files.old)))
+    ensures memory { result ≡ 7 → WritesOne (IsMemoryText
+        (behaviour_asked (possible (F.content files.old) M.may_take) words.now))
         (S.written out.old) (S.written out.new) }
 
     // There is no other status.
     ensures statuses { Contains statuses result }
 
     // No write failed at a status other than 4. No read failed at 0, 2, 5 and 6, and at any status
-    // one at most, of a file that the command reads.
+    // at most one, of a file that the command reads.
     ensures no_write_fault { result ≢ 4 → S.faults out.new ≡ S.faults out.old }
     ensures no_read_fault { Contains (0 ∷ 2 ∷ 5 ∷ 6 ∷ []) result →
         F.failed files.new ≡ F.failed files.old }
     ensures read_faults { OneFaultAtMost
-        ((behaviour_asked words.now).reads (possible (F.content files.old)))
+        (behaviour_asked (possible (F.content files.old) M.may_take) words.now).reads
         (F.failed files.old) (F.failed files.new) }
 
     // If no count of faults rose, a command is answered that is accepted by what the files are
     // known to hold, unless memory ran out,
-    ensures accepted { NoCountRose ((behaviour_asked words.now).reads (possible (F.content files.old)))
+    ensures accepted { NoCountRose
+        (behaviour_asked (possible (F.content files.old) M.may_take) words.now).reads
         (F.failed files.old) (F.failed files.new) (S.faults out.old) (S.faults out.new) →
-        (behaviour_asked words.now).accepts (known (F.content files.old)) →
-        ((result ≡ 0)
-        × WritesOne ((behaviour_asked words.now).answers (known (F.content files.old)))
+        (behaviour_asked (known (F.content files.old) M.may_take) words.now).accepts →
+        ((result ≡ 0) × WritesOne
+        (behaviour_asked (known (F.content files.old) M.may_take) words.now).answers
         (S.written out.old) (S.written out.new)) ⊎ (result ≡ 7) }
 
     // and one that they refuse ends with the status and the line of that refusal, unless memory ran
     // out.
-    ensures found { NoCountRose ((behaviour_asked words.now).reads (possible (F.content files.old)))
+    ensures found { NoCountRose
+        (behaviour_asked (possible (F.content files.old) M.may_take) words.now).reads
         (F.failed files.old) (F.failed files.new) (S.faults out.old) (S.faults out.new) →
         (refusal : Refusal) → IsFinding refusal →
-        (behaviour_asked words.now).refuses (known (F.content files.old)) refusal →
+        (behaviour_asked (known (F.content files.old) M.may_take) words.now).refuses refusal →
         ((result ≡ status_of refusal)
         × Appends (S.written out.old) (S.written out.new) (error_bytes refusal))
         ⊎ (result ≡ 7) }
@@ -92,16 +100,23 @@ pub fn command<F: Files, S: Sink>(alloc: Global, words: &[String], files: &mut F
     // What is known of the files stays.
     ensures kept { (any : List ℕ) → F.content files.new any ≡ F.content files.old any }
 {
-    let ended = run_command(alloc, words, files);
+    let ended = run_command(alloc, words, files, meter);
     tell(alloc, out, ended)
 }
 
 // Runs the command that the words ask for.
-fn run_command<F: Files>(alloc: Global, words: &[String], files: &mut F) -> Result<Output, Refusal>
+fn run_command<F: Files, M: Meter>(
+    alloc: Global,
+    words: &[String],
+    files: &mut F,
+    _meter: &mut M,
+) -> Result<Output, Refusal>
     ensures kept { (any : List ℕ) → F.content files.new any ≡ F.content files.old any }
-    ensures ok { IfOk result (Gives (behaviour_asked words.now) (possible (F.content files.old))
+    ensures ok { IfOk result (Gives
+        (behaviour_asked (possible (F.content files.old) M.may_take) words.now)
         (F.failed files.old) (F.failed files.new)) }
-    ensures err { IfErr result (GivesUp (behaviour_asked words.now) (possible (F.content files.old))
+    ensures err { IfErr result (GivesUp
+        (behaviour_asked (possible (F.content files.old) M.may_take) words.now)
         (F.failed files.old) (F.failed files.new)) }
 {
     match read_words(words) {
@@ -148,8 +163,8 @@ fn write_refusal<S: Sink>(alloc: Global, out: &mut S, refusal: &Refusal) -> u8
     }
 }
 
-/// Writes that memory ran out, and answers the status of that, or 4 if the writing fails. It takes
-/// no memory.
+/// Writes that memory ran out, and answers the status of that, or 4 if the writing fails. It never
+/// allocates.
 pub fn end_without_memory<S: Sink>(out: &mut S) -> u8
     ensures { IsWritten (record { written = S.written out.old; faults = S.faults out.old })
         (record { written = S.written out.new; faults = S.faults out.new })

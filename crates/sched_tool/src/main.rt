@@ -22,7 +22,7 @@ mod subject;
 mod tests;
 mod words;
 
-use outside_io::{DirFiles, StdSink};
+use outside_io::{CostMeter, DirFiles, StdSink};
 use program::{Ended, run_program};
 use std::rt::Env;
 use std::{env, io};
@@ -31,7 +31,8 @@ fn main(rt: HostRuntime) -> Ended {
     let alloc = rt.alloc();
     let mut files = DirFiles::new(rt, alloc);
     let mut out = StdSink::new(rt);
-    run_program(alloc, words_given(&rt), &mut files, &mut out)
+    let mut meter = CostMeter::new();
+    run_program(alloc, words_given(&rt), &mut files, &mut out, &mut meter)
 }
 
 // The words after the program's name.

@@ -13,13 +13,16 @@ ghost use Rattle.sched_tool.specs.Writing.{IsMemoryText, IsTextOf, TellsRefusal,
 ghost use Rattle.sched_tool.specs.declared.refusal.Refusal.{Refusal};
 
 use super::command::{command, end_without_memory};
-use outside_io::{Files, Sink};
+use outside_io::{Files, Meter, Sink};
 use std::alloc::Global;
 use std::io;
 use std::process::{ExitCode, Termination};
 
-/// The end of the program. `main` answers one and can't make one, so the process ends with the status that
-/// `run_program` answered.
+#[cfg(test)]
+mod tests;
+
+/// The end of the program. `main` answers one and can't make one, so the process ends with the
+/// status that `run_program` answered.
 pub struct Ended {
     status: u8,
 }
@@ -33,37 +36,39 @@ impl Termination for Ended {
     }
 }
 
-/// Runs the command that the words ask for. Words that are not UTF-8 are outside the grammar, as no words at
-/// all are. If memory ran out before the words were there, the program ends so.
-pub fn run_program<F: Files, S: Sink>(
+/// Runs the command that the words ask for. Words that are not UTF-8 (`InvalidData`) are outside
+/// the grammar, as no words at all are. Any other error of the words is that memory ran out.
+pub fn run_program<F: Files, S: Sink, M: Meter>(
     alloc: Global,
     words: io::Result<Vec<String>>,
     files: &mut F,
     out: &mut S,
+    meter: &mut M,
 ) -> Ended
     // What each status says is what it says of `command`.
-    ensures answered { end_status result ≡ 0 →
-        WritesOne ((behaviour_asked (words_in words)).answers (possible (F.content files.old)))
+    ensures answered { end_status result ≡ 0 → WritesOne
+        (behaviour_asked (possible (F.content files.old) M.may_take) (words_in words)).answers
         (S.written out.old) (S.written out.new) }
-    ensures refused { Contains (2 ∷ 5 ∷ 6 ∷ []) (end_status result) →
-        TellsRefusal (behaviour_asked (words_in words)) (possible (F.content files.old))
+    ensures refused { Contains (2 ∷ 5 ∷ 6 ∷ []) (end_status result) → TellsRefusal
+        (behaviour_asked (possible (F.content files.old) M.may_take) (words_in words))
         (S.written out.old) (S.written out.new) (end_status result) }
     ensures cannot_read { end_status result ≡ 3 → (file : List ℕ)
-        × (behaviour_asked (words_in words)).reads (possible (F.content files.old)) file
+        × (behaviour_asked (possible (F.content files.old) M.may_take) (words_in words)).reads file
         × OnlyFailed (F.failed files.old) (F.failed files.new) file
         × Appends (S.written out.old) (S.written out.new) (error_bytes (Refusal.CannotRead file)) }
-    ensures cannot_write { end_status result ≡ 4 → CountedOne (S.faults out.old) (S.faults out.new) × ((text : List ℕ)
-        × IsTextOf (behaviour_asked (words_in words)) (possible (F.content files.old))
+    ensures cannot_write { end_status result ≡ 4 → CountedOne (S.faults out.old) (S.faults out.new)
+        × ((text : List ℕ)
+        × IsTextOf (behaviour_asked (possible (F.content files.old) M.may_take) (words_in words))
         (F.failed files.old) (F.failed files.new) text
         × AppendsPrefix (S.written out.old) (S.written out.new) text) }
-    ensures memory { end_status result ≡ 7 →
-        WritesOne (IsMemoryText (behaviour_asked (words_in words)) (possible (F.content files.old)))
+    ensures memory { end_status result ≡ 7 → WritesOne (IsMemoryText
+        (behaviour_asked (possible (F.content files.old) M.may_take) (words_in words)))
         (S.written out.old) (S.written out.new) }
     ensures statuses { Contains statuses (end_status result) }
 {
     let status = match words {
-        Ok(words) => command(alloc, words.as_slice(), files, out),
-        Err(e) if e.kind() == io::ErrorKind::InvalidData => command(alloc, &[], files, out),
+        Ok(words) => command(alloc, words.as_slice(), files, out, meter),
+        Err(e) if e.kind() == io::ErrorKind::InvalidData => command(alloc, &[], files, out, meter),
         Err(_) => end_without_memory(out),
     };
     Ended { status }

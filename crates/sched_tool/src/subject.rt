@@ -1,7 +1,7 @@
 //! The script and the tables of a command, read from their files.
 ghost use Rattle.std.specs.Prelude.{◌≡◌, ◌≤◌, ℕ, List, All, IfErr, IfOk, OnOk, length};
 ghost use Rattle.plan_ast.specs.Bounds.{IsInBounds};
-ghost use Rattle.sched_tool.specs.Outsides.{possible};
+ghost use Rattle.sched_tool.specs.Outsides.{may_hold};
 ghost use Rattle.sched_tool.specs.ReadFaults.{FaultsAt};
 ghost use Rattle.sched_tool.specs.Subjects.{HoldsScript, HoldsTable, HoldTables};
 ghost use Rattle.sched_tool.specs.Refusals.{AreTablesRefused, IsCheckRefused, IsEntryRefused};
@@ -17,11 +17,11 @@ use std::alloc::Global;
 /// Reads the script that a file holds.
 pub fn open_script<F: Files>(alloc: Global, files: &mut F, file: &str) -> Result<Script, Refusal>
     ensures kept { (any : List ℕ) → F.content files.new any ≡ F.content files.old any }
-    ensures ok { IfOk result (HoldsScript (possible (F.content files.old)) file.now) }
+    ensures ok { IfOk result (HoldsScript (may_hold (F.content files.old)) file.now) }
     ensures no_fault { OnOk result (F.failed files.new ≡ F.failed files.old) }
     ensures in_bounds { IfOk result (λ script. All IsInBounds script.queries) }
     ensures few { IfOk result (λ script. length script.queries ≤ 4096) }
-    ensures err { IfErr result (IsCheckRefused (possible (F.content files.old)) file.now) }
+    ensures err { IfErr result (IsCheckRefused (may_hold (F.content files.old)) file.now) }
     ensures faults { IfErr result
         (λ refusal. FaultsAt refusal (F.failed files.old) (F.failed files.new)) }
 {
@@ -47,9 +47,9 @@ pub fn open_tables<F: Files>(
 ) -> Result<Vec<NamedTable>, Refusal>
     ensures kept { (any : List ℕ) → F.content files.new any ≡ F.content files.old any }
     ensures ok { IfOk result
-        (λ tables. HoldTables (possible (F.content files.old)) entries tables.items) }
+        (λ tables. HoldTables (may_hold (F.content files.old)) entries tables.items) }
     ensures no_fault { OnOk result (F.failed files.new ≡ F.failed files.old) }
-    ensures err { IfErr result (AreTablesRefused (possible (F.content files.old)) entries) }
+    ensures err { IfErr result (AreTablesRefused (may_hold (F.content files.old)) entries) }
     ensures faults { IfErr result
         (λ refusal. FaultsAt refusal (F.failed files.old) (F.failed files.new)) }
 {
@@ -67,9 +67,9 @@ fn open_table<F: Files>(
     entry: TableEntry,
 ) -> Result<NamedTable, Refusal>
     ensures kept { (any : List ℕ) → F.content files.new any ≡ F.content files.old any }
-    ensures ok { IfOk result (HoldsTable (possible (F.content files.old)) entry) }
+    ensures ok { IfOk result (HoldsTable (may_hold (F.content files.old)) entry) }
     ensures no_fault { OnOk result (F.failed files.new ≡ F.failed files.old) }
-    ensures err { IfErr result (IsEntryRefused (possible (F.content files.old)) entry) }
+    ensures err { IfErr result (IsEntryRefused (may_hold (F.content files.old)) entry) }
     ensures faults { IfErr result
         (λ refusal. FaultsAt refusal (F.failed files.old) (F.failed files.new)) }
 {

@@ -1,99 +1,144 @@
+//! Tests of `command`: worked words, scripts, queries and tables; limits; failing reads and writes.
 ghost use Rattle.std.specs.Prelude.{◌≤◌, length};
 
 use super::command::command;
-use outside_io::{MemFiles, MemSink};
+use outside_io::{CostMeter, MemFiles, MemSink};
 use std::alloc::{AllocError, Global};
+use std::process::Abort;
 use std::test::Fail;
 
-const SCRIPT: &str =
-    r#"{"version":1,"tables":[{"name":"t","file":"t.csv"}],"queries":[{"scan":"t","output":{"totals":[{"fn":"sum","col":"v"}]}}]}"#;
+const SCRIPT: &str = r#"{"version":1,"tables":[{"name":"t","file":"t.csv"}],
+"queries":[{"scan":"t","output":{"totals":[{"fn":"sum","col":"v"}]}}]}"#;
 
 const TABLE: &str = "k,v\n1,10\n1,20\n2,5\n";
 
 const ANSWER: &str = "query 0 lines 1\ntotal 35\nend\n";
 
-// The status of a command and what it writes, over `s.json` and `t.csv`. These calls of reads and
-// of writes fail, and a write takes so many bytes.
-fn run(
-    alloc: Global,
-    words: &[&str],
-    held: (&[u8], &[u8]),
-    fails: (&[u64], &[u64]),
+// Two more tables, to be joined.
+const JOINED: &str = "k,w\n1,7\n2,8\n2,9\n3,1\n";
+
+const JOINED_NEXT: &str = "w,z\n7,100\n8,200\n8,300\n9,400\n";
+
+// The entries of all three tables in a script.
+const ENTRIES: &str = r#"{"name":"t","file":"t.csv"},{"name":"u","file":"u.csv"},
+{"name":"x","file":"x.csv"}"#;
+
+// What a command is run on. The reads and the writes with these numbers fail, and a write takes at
+// most so many bytes.
+#[derive(Clone, Copy)]
+struct Run<'a> {
+    words: &'a [&'a str],
+    files: &'a [(&'a str, &'a [u8])],
+    failing_reads: &'a [u64],
+    failing_writes: &'a [u64],
     most: u32,
-) -> Result<(u8, String), AllocError>
-    requires { 1 ≤ most }
-{
-    let mut files = MemFiles::new(alloc, Vec::from_slice(alloc, fails.0)?);
-    files.add(
-        String::from_str(alloc, "s.json")?,
-        Vec::from_slice(alloc, held.0)?,
-    )?;
-    files.add(
-        String::from_str(alloc, "t.csv")?,
-        Vec::from_slice(alloc, held.1)?,
-    )?;
-    let mut out = MemSink::new(alloc, 1000, most, Vec::from_slice(alloc, fails.1)?)?;
-    let mut given = Vec::new(alloc);
-    for word in words {
-        given.push(String::from_str(alloc, word)?)?;
-    }
-    let status = command(alloc, given.as_slice(), &mut files, &mut out);
-    let mut written = String::new(alloc);
-    for byte in out.written() {
-        written.push(char::from(*byte))?;
-    }
-    Ok((status, written))
 }
 
-// The status of `check` over a script and a table, and what it writes.
-fn check(alloc: Global, script: &[u8], table: &[u8]) -> Result<(u8, String), AllocError> {
-    run(
-        alloc,
-        &["check", "s.json"],
-        (script, table),
-        (&[], &[]),
-        1000,
-    )
+impl<'a> Run<'a> {
+    // A command of these words on these files. No call fails.
+    fn of(words: &'a [&'a str], files: &'a [(&'a str, &'a [u8])]) -> Run<'a> {
+        Run {
+            words,
+            files,
+            failing_reads: &[],
+            failing_writes: &[],
+            most: 1000,
+        }
+    }
 }
 
-#[test]
-fn reads_words(rt: HostRuntime) -> Result<(), Fail> {
-    let cases: [(&[&str], u8, &str); 8] = [
-        (&["check", "s.json"], 0, ANSWER),
-        (&[], 2, "error: usage\n"),
-        (&["check"], 2, "error: usage\n"),
-        (&["check", "s.json", "s.json"], 2, "error: usage\n"),
-        (&["check", ""], 2, "error: usage\n"),
-        (&["check", "-s.json"], 2, "error: usage\n"),
-        (&["turns", "s.json"], 2, "error: usage\n"),
-        (&["check", "-"], 3, "error: cannot read -\n"),
+// Asserts with which status the command ends, and what it writes.
+fn ends(
+    rt: &(impl Abort + AllocGlobal),
+    run: &Run<'_>,
+    status: u8,
+    text: &str,
+) -> Result<(), Fail> {
+    let alloc = rt.alloc();
+    let mut files = MemFiles::new(alloc, Vec::from_slice(alloc, run.failing_reads)?);
+    for (name, bytes) in run.files {
+        files.add(
+            String::from_str(alloc, name)?,
+            Vec::from_slice(alloc, bytes)?,
+        )?;
+    }
+    let mut words = Vec::new(alloc);
+    for word in run.words {
+        words.push(String::from_str(alloc, word)?)?;
+    }
+    let failing_writes = Vec::from_slice(alloc, run.failing_writes)?;
+    let mut out = MemSink::new(alloc, 1000, run.most.max(1), failing_writes)?;
+    let mut meter = CostMeter::new();
+    let answered = command(alloc, words.as_slice(), &mut files, &mut out, &mut meter);
+    assert_eq!(rt; out.written(), text.as_bytes(), "{text}");
+    assert_eq!(rt; answered, status, "{text}");
+    Ok(())
+}
+
+// Asserts how `check` of a script ends, over this table `t.csv` and those to be joined.
+fn check_ends(
+    rt: &(impl Abort + AllocGlobal),
+    script: &[u8],
+    table: &[u8],
+    status: u8,
+    text: &str,
+) -> Result<(), Fail> {
+    let files = [
+        ("s.json", script),
+        ("t.csv", table),
+        ("u.csv", JOINED.as_bytes()),
+        ("x.csv", JOINED_NEXT.as_bytes()),
     ];
-    let held = (SCRIPT.as_bytes(), TABLE.as_bytes());
-    for (words, status, text) in cases {
-        let (answered, written) = run(rt.alloc(), words, held, (&[], &[]), 1000)?;
-        assert_eq!(rt; written.as_str(), text);
-        assert_eq!(rt; answered, status);
+    ends(rt, &Run::of(&["check", "s.json"], &files), status, text)
+}
+
+// A script with these entries of tables and these queries.
+fn script_of(alloc: Global, entries: &str, queries: &str) -> Result<String, AllocError> {
+    format!(in alloc; "{{\"version\":1,\"tables\":[{entries}],\"queries\":[{queries}]}}")
+}
+
+// Asserts what `check` writes at status 0 for queries over a table: each case is the queries, the
+// table and the text.
+fn answers(rt: &(impl Abort + AllocGlobal), cases: &[(&str, &str, &str)]) -> Result<(), Fail> {
+    for (queries, table, text) in cases {
+        let script = script_of(rt.alloc(), ENTRIES, queries)?;
+        check_ends(rt, script.as_bytes(), table.as_bytes(), 0, text)?;
     }
     Ok(())
 }
 
-// A script of one query over the table `t`.
-fn script_of(alloc: Global, query: &str) -> Result<String, AllocError> {
-    format!(in alloc;
-        "{{\"version\":1,\"tables\":[{{\"name\":\"t\",\"file\":\"t.csv\"}}],\"queries\":[{query}]}}"
-    )
+#[test]
+fn reads_words(rt: HostRuntime) -> Result<(), Fail> {
+    let usage = "error: usage\n";
+    let cases: [(&[&str], u8, &str); 8] = [
+        (&["check", "s.json"], 0, ANSWER),
+        (&[], 2, usage),
+        (&["check"], 2, usage),
+        (&["check", "s.json", "s.json"], 2, usage),
+        (&["check", ""], 2, usage),
+        (&["check", "-s.json"], 2, usage),
+        (&["turns", "s.json"], 2, usage),
+        (&["check", "-"], 3, "error: cannot read -\n"),
+    ];
+    let files = [("s.json", SCRIPT.as_bytes()), ("t.csv", TABLE.as_bytes())];
+    for (words, status, text) in cases {
+        ends(&rt, &Run::of(words, &files), status, text)?;
+    }
+    Ok(())
 }
 
 #[test]
-fn answers_rows_and_totals(rt: HostRuntime) -> Result<(), Fail> {
+fn answers_queries(rt: HostRuntime) -> Result<(), Fail> {
     let cases = [
         (
-            r#"{"scan":"t","where":[{"col":"v","op":">=","value":10}],"output":{"rows":["k","v"]}}"#,
+            r#"{"scan":"t","where":[{"col":"v","op":">=","value":10}],
+                "output":{"rows":["k","v"]}}"#,
             TABLE,
             "query 0 lines 2\nrow 1,10\nrow 1,20\nend\n",
         ),
         (
-            r#"{"scan":"t","where":[{"col":"k","op":"=","value":9}],"output":{"totals":[{"fn":"count"},{"fn":"min","col":"v"},{"fn":"max","col":"v"}]}}"#,
+            r#"{"scan":"t","where":[{"col":"k","op":"=","value":9}],"output":{"totals":[
+                {"fn":"count"},{"fn":"min","col":"v"},{"fn":"max","col":"v"}]}}"#,
             TABLE,
             "query 0 lines 1\ntotal 0,-,-\nend\n",
         ),
@@ -103,23 +148,49 @@ fn answers_rows_and_totals(rt: HostRuntime) -> Result<(), Fail> {
             "query 0 lines 1\ntotal 18446744073709551614\nend\n",
         ),
         (
-            r#"{"scan":"t","output":{"totals":[{"fn":"sum","col":"v"}]}},{"scan":"t","after":1,"output":{"rows":["v"]}}"#,
+            r#"{"scan":"t","output":{"totals":[{"fn":"sum","col":"v"}]}},
+                {"scan":"t","after":1,"output":{"rows":["v"]}}"#,
             "v\n\"3\"\n-1\n",
             "query 0 lines 1\ntotal 2\nquery 1 lines 2\nrow -1\nrow 3\nend\n",
         ),
+    ];
+    answers(&rt, &cases)
+}
+
+#[test]
+fn answers_joins(rt: HostRuntime) -> Result<(), Fail> {
+    let cases = [
         (
-            r#"{"scan":"t","joins":[{"table":"t","left":"v","right":"v"}],"output":{"totals":[{"fn":"count"}]}}"#,
-            "v\n1\n1\n1\n",
-            "query 0 lines 1\ntotal 9\nend\n",
+            r#"{"scan":"t","joins":[{"table":"t","left":"k","right":"k"}],
+                "output":{"totals":[{"fn":"count"}]}}"#,
+            TABLE,
+            "query 0 lines 1\ntotal 5\nend\n",
+        ),
+        // A filter on the joined table.
+        (
+            r#"{"scan":"t","joins":[{"table":"u","left":"k","right":"k",
+                "where":[{"col":"w","op":">","value":7}]}],"output":{"rows":["k","v",[1,"w"]]}}"#,
+            TABLE,
+            "query 0 lines 2\nrow 2,5,8\nrow 2,5,9\nend\n",
+        ),
+        // The second join by a column of the first joined table.
+        (
+            r#"{"scan":"t","joins":[{"table":"u","left":"k","right":"k"},
+                {"table":"x","left":[1,"w"],"right":"w"}],
+                "output":{"rows":["v",[2,"z"],[1,"w"]]}}"#,
+            TABLE,
+            "query 0 lines 5\nrow 5,200,8\nrow 5,300,8\nrow 5,400,9\nrow 10,100,7\n\
+            row 20,100,7\nend\n",
+        ),
+        (
+            r#"{"scan":"t","joins":[{"table":"u","left":"k","right":"k"},
+                {"table":"x","left":[1,"w"],"right":"w"}],"output":{"totals":[{"fn":"count"},
+                {"fn":"sum","col":[2,"z"]},{"fn":"min","col":[1,"w"]},{"fn":"max","col":"v"}]}}"#,
+            TABLE,
+            "query 0 lines 1\ntotal 5,1100,7,20\nend\n",
         ),
     ];
-    for (query, table, text) in cases {
-        let script = script_of(rt.alloc(), query)?;
-        let (status, written) = check(rt.alloc(), script.as_bytes(), table.as_bytes())?;
-        assert_eq!(rt; written.as_str(), text);
-        assert_eq!(rt; status, 0);
-    }
-    Ok(())
+    answers(&rt, &cases)
 }
 
 #[test]
@@ -139,9 +210,7 @@ fn refuses_scripts(rt: HostRuntime) -> Result<(), Fail> {
     ];
     for (script, cause) in cases {
         let text = format!(in rt.alloc(); "error: script: {cause}\n")?;
-        let (status, written) = check(rt.alloc(), script.as_bytes(), TABLE.as_bytes())?;
-        assert_eq!(rt; written.as_str(), text.as_str());
-        assert_eq!(rt; status, 5);
+        check_ends(&rt, script.as_bytes(), TABLE.as_bytes(), 5, text.as_str())?;
     }
     Ok(())
 }
@@ -162,32 +231,34 @@ fn refuses_queries(rt: HostRuntime) -> Result<(), Fail> {
             "query 0: unknown column z",
         ),
         (
-            r#"{"scan":"u","output":{"rows":["k"]}}"#,
-            "query 0: unknown table u",
+            r#"{"scan":"y","output":{"rows":["k"]}}"#,
+            "query 0: unknown table y",
         ),
         (
-            r#"{"scan":"t","output":{"rows":["k"]}},{"scan":"t","after":2,"output":{"rows":["k"]}}"#,
+            r#"{"scan":"t","output":{"rows":["k"]}},
+                {"scan":"t","after":2,"output":{"rows":["k"]}}"#,
             "query 1: after too large",
         ),
         (
-            r#"{"scan":"t","output":{"groups":{"by":["k"],"aggs":[{"fn":"count"}]}}},{"scan":"u","output":{"rows":["k"]}}"#,
+            r#"{"scan":"t","output":{"groups":{"by":["k"],"aggs":[{"fn":"count"}]}}},
+                {"scan":"y","output":{"rows":["k"]}}"#,
             "query 0: not built",
         ),
         (
-            r#"{"scan":"t","joins":[{"table":"t","left":"k","right":"z"}],"output":{"rows":["k"]}}"#,
+            r#"{"scan":"t","joins":[{"table":"t","left":"k","right":"z"}],
+                "output":{"rows":["k"]}}"#,
             "query 0: unknown column z",
         ),
         (
-            r#"{"scan":"t","output":{"rows":["k"]}},{"scan":"t","output":{"groups":{"by":["k"],"aggs":[{"fn":"count"}]}}}"#,
+            r#"{"scan":"t","output":{"rows":["k"]}},
+                {"scan":"t","output":{"groups":{"by":["k"],"aggs":[{"fn":"count"}]}}}"#,
             "query 1: not built",
         ),
     ];
-    for (query, cause) in cases {
-        let script = script_of(rt.alloc(), query)?;
+    for (queries, cause) in cases {
+        let script = script_of(rt.alloc(), ENTRIES, queries)?;
         let text = format!(in rt.alloc(); "error: script: {cause}\n")?;
-        let (status, written) = check(rt.alloc(), script.as_bytes(), TABLE.as_bytes())?;
-        assert_eq!(rt; written.as_str(), text.as_str());
-        assert_eq!(rt; status, 5);
+        check_ends(&rt, script.as_bytes(), TABLE.as_bytes(), 5, text.as_str())?;
     }
     Ok(())
 }
@@ -202,15 +273,14 @@ fn refuses_tables(rt: HostRuntime) -> Result<(), Fail> {
         ("v\n1\nx\n", "not a number record 2 field 1"),
         ("v\n9223372036854775808\n", "out of range record 1 field 1"),
         (
-            "a,a1,a2,a3,a4,a5,a6,a7,a8,a9,b,b1,b2,b3,b4,b5,b6,b7,b8,b9,c,c1,c2,c3,c4,c5,c6,c7,c8,c9,d,d1,d2\n",
+            "a,a1,a2,a3,a4,a5,a6,a7,a8,a9,b,b1,b2,b3,b4,b5,b6,b7,b8,b9,\
+            c,c1,c2,c3,c4,c5,c6,c7,c8,c9,d,d1,d2\n",
             "too many columns",
         ),
     ];
     for (table, cause) in cases {
         let text = format!(in rt.alloc(); "error: table t.csv: {cause}\n")?;
-        let (status, written) = check(rt.alloc(), SCRIPT.as_bytes(), table.as_bytes())?;
-        assert_eq!(rt; written.as_str(), text.as_str());
-        assert_eq!(rt; status, 6);
+        check_ends(&rt, SCRIPT.as_bytes(), table.as_bytes(), 6, text.as_str())?;
     }
     Ok(())
 }
@@ -218,52 +288,39 @@ fn refuses_tables(rt: HostRuntime) -> Result<(), Fail> {
 // The first refusal counts: a script's before a table's, a table's before a query's.
 #[test]
 fn refuses_in_order(rt: HostRuntime) -> Result<(), Fail> {
-    let query = r#"{"scan":"x","output":{"rows":["k"]}}"#;
+    let t = r#"{"name":"t","file":"t.csv"}"#;
+    let absent = r#"{"name":"a","file":"a.csv"}"#;
+    let twice = r#"{"name":"t","file":"a.csv"}"#;
     let cases = [
+        (t, absent, "v\n", 3, "error: cannot read a.csv\n"),
+        (t, absent, "", 6, "error: table t.csv: no header\n"),
+        (absent, t, "", 3, "error: cannot read a.csv\n"),
         (
-            r#"{"name":"t","file":"t.csv"},{"name":"u","file":"u.csv"}"#,
-            "v\n",
-            3,
-            "error: cannot read u.csv\n",
-        ),
-        (
-            r#"{"name":"t","file":"t.csv"},{"name":"u","file":"u.csv"}"#,
-            "",
-            6,
-            "error: table t.csv: no header\n",
-        ),
-        (
-            r#"{"name":"u","file":"u.csv"},{"name":"t","file":"t.csv"}"#,
-            "",
-            3,
-            "error: cannot read u.csv\n",
-        ),
-        (
-            r#"{"name":"t","file":"t.csv"},{"name":"t","file":"u.csv"}"#,
+            t,
+            twice,
             "",
             5,
             "error: script: named twice $.tables[1].name\n",
         ),
         (
-            r#"{"name":"t","file":"t.csv"},{"name":"u","file":"t.csv"}"#,
+            t,
+            r#"{"name":"a","file":"t.csv"}"#,
             "v\n",
             5,
-            "error: script: query 0: unknown table x\n",
+            "error: script: query 0: unknown table y\n",
         ),
     ];
-    for (tables, table, status, text) in cases {
-        let script = format!(in rt.alloc();
-            "{{\"version\":1,\"tables\":[{tables}],\"queries\":[{query}]}}"
-        )?;
-        let (answered, written) = check(rt.alloc(), script.as_bytes(), table.as_bytes())?;
-        assert_eq!(rt; written.as_str(), text);
-        assert_eq!(rt; answered, status);
+    for (first, second, table, status, text) in cases {
+        let entries = format!(in rt.alloc(); "{first},{second}")?;
+        let query = r#"{"scan":"y","output":{"rows":["k"]}}"#;
+        let script = script_of(rt.alloc(), entries.as_str(), query)?;
+        check_ends(&rt, script.as_bytes(), table.as_bytes(), status, text)?;
     }
     Ok(())
 }
 
 #[test]
-fn tells_reads_that_fail(rt: HostRuntime) -> Result<(), Fail> {
+fn reports_reads_that_fail(rt: HostRuntime) -> Result<(), Fail> {
     let cases = [
         (1, 3, "error: cannot read s.json\n"),
         (2, 3, "error: cannot read s.json\n"),
@@ -271,43 +328,41 @@ fn tells_reads_that_fail(rt: HostRuntime) -> Result<(), Fail> {
         (4, 3, "error: cannot read t.csv\n"),
         (5, 0, ANSWER),
     ];
-    let held = (SCRIPT.as_bytes(), TABLE.as_bytes());
+    let files = [("s.json", SCRIPT.as_bytes()), ("t.csv", TABLE.as_bytes())];
     for (call, status, text) in cases {
-        let (answered, written) = run(
-            rt.alloc(),
-            &["check", "s.json"],
-            held,
-            (&[call], &[]),
-            1000,
-        )?;
-        assert_eq!(rt; answered, status, "read {call}");
-        assert_eq!(rt; written.as_str(), text, "read {call}");
+        let run = Run {
+            failing_reads: &[call],
+            ..Run::of(&["check", "s.json"], &files)
+        };
+        ends(&rt, &run, status, text)?;
     }
     Ok(())
 }
 
 #[test]
-fn tells_writes_that_fail(rt: HostRuntime) -> Result<(), Fail> {
-    let cases = [
-        (1, 4, ""),
-        (2, 4, "quer"),
-        (3, 4, "query 0 "),
-        (4, 4, "query 0 line"),
-        (5, 4, "query 0 lines 1\n"),
-        (6, 4, "query 0 lines 1\ntota"),
-        (7, 4, "query 0 lines 1\ntotal 35"),
-        (8, 4, "query 0 lines 1\ntotal 35\nend"),
-        (9, 0, ANSWER),
+fn reports_writes_that_fail(rt: HostRuntime) -> Result<(), Fail> {
+    let check: &[&str] = &["check", "s.json"];
+    let cases: [(&[&str], u64, u8, &str); 10] = [
+        (check, 1, 4, ""),
+        (check, 2, 4, "quer"),
+        (check, 3, 4, "query 0 "),
+        (check, 4, 4, "query 0 line"),
+        (check, 5, 4, "query 0 lines 1\n"),
+        (check, 6, 4, "query 0 lines 1\ntota"),
+        (check, 7, 4, "query 0 lines 1\ntotal 35"),
+        (check, 8, 4, "query 0 lines 1\ntotal 35\nend"),
+        (check, 9, 0, ANSWER),
+        (&[], 2, 4, "erro"),
     ];
-    let held = (SCRIPT.as_bytes(), TABLE.as_bytes());
-    for (call, status, text) in cases {
-        let (answered, written) = run(rt.alloc(), &["check", "s.json"], held, (&[], &[call]), 4)?;
-        assert_eq!(rt; answered, status, "write {call}");
-        assert_eq!(rt; written.as_str(), text, "write {call}");
+    let files = [("s.json", SCRIPT.as_bytes()), ("t.csv", TABLE.as_bytes())];
+    for (words, call, status, text) in cases {
+        let run = Run {
+            failing_writes: &[call],
+            most: 4,
+            ..Run::of(words, &files)
+        };
+        ends(&rt, &run, status, text)?;
     }
-    let (answered, written) = run(rt.alloc(), &[], held, (&[], &[2]), 4)?;
-    assert_eq!(rt; answered, 4);
-    assert_eq!(rt; written.as_str(), "erro");
     Ok(())
 }
 
@@ -323,85 +378,70 @@ fn padded(alloc: Global, text: &str, with: u8, len: usize) -> Result<Vec<u8>, Al
 #[test]
 fn reads_a_script_at_the_limit(rt: HostRuntime) -> Result<(), Fail> {
     let script = padded(rt.alloc(), SCRIPT, b' ', 67_108_864)?;
-    let (status, written) = check(rt.alloc(), script.as_slice(), TABLE.as_bytes())?;
-    assert_eq!(rt; written.as_str(), ANSWER);
-    assert_eq!(rt; status, 0);
-    Ok(())
+    check_ends(&rt, script.as_slice(), TABLE.as_bytes(), 0, ANSWER)
 }
 
 #[test]
 fn reads_a_table_at_the_limit(rt: HostRuntime) -> Result<(), Fail> {
     let table = padded(rt.alloc(), TABLE, b'\n', 67_108_864)?;
-    let (status, written) = check(rt.alloc(), SCRIPT.as_bytes(), table.as_slice())?;
-    assert_eq!(rt; written.as_str(), ANSWER);
-    assert_eq!(rt; status, 0);
-    Ok(())
+    check_ends(&rt, SCRIPT.as_bytes(), table.as_slice(), 0, ANSWER)
 }
 
 #[test]
-fn refuses_files_past_the_limit(rt: HostRuntime) -> Result<(), Fail> {
+fn refuses_a_script_past_the_limit(rt: HostRuntime) -> Result<(), Fail> {
     let script = padded(rt.alloc(), SCRIPT, b' ', 67_108_865)?;
-    let (status, written) = check(rt.alloc(), script.as_slice(), TABLE.as_bytes())?;
-    assert_eq!(rt; written.as_str(), "error: script: too long\n");
-    assert_eq!(rt; status, 5);
-    let table = padded(rt.alloc(), TABLE, b'\n', 67_108_865)?;
-    let (status, written) = check(rt.alloc(), SCRIPT.as_bytes(), table.as_slice())?;
-    assert_eq!(rt; written.as_str(), "error: table t.csv: too long\n");
-    assert_eq!(rt; status, 6);
-    Ok(())
+    let text = "error: script: too long\n";
+    check_ends(&rt, script.as_slice(), TABLE.as_bytes(), 5, text)
 }
 
-// A table of one column and so many rows.
-fn rows(alloc: Global, count: usize) -> Result<String, AllocError> {
-    let mut text = String::from_str(alloc, "v\n")?;
+#[test]
+fn refuses_a_table_past_the_limit(rt: HostRuntime) -> Result<(), Fail> {
+    let table = padded(rt.alloc(), TABLE, b'\n', 67_108_865)?;
+    let text = "error: table t.csv: too long\n";
+    check_ends(&rt, SCRIPT.as_bytes(), table.as_slice(), 6, text)
+}
+
+// The first text, and so many times the second.
+fn repeated(alloc: Global, first: &str, then: &str, count: usize) -> Result<String, AllocError> {
+    let mut text = String::from_str(alloc, first)?;
     for _ in 0..count {
-        text.push_str("1\n")?;
+        text.push_str(then)?;
     }
     Ok(text)
 }
 
 #[test]
 fn refuses_a_row_too_many(rt: HostRuntime) -> Result<(), Fail> {
-    let table = rows(rt.alloc(), 1_048_577)?;
-    let (status, written) = check(rt.alloc(), SCRIPT.as_bytes(), table.as_bytes())?;
-    assert_eq!(rt; written.as_str(), "error: table t.csv: too many rows\n");
-    assert_eq!(rt; status, 6);
-    Ok(())
-}
-
-// So many times the letter `a`.
-fn letters(alloc: Global, count: usize) -> Result<String, AllocError> {
-    let mut text = String::new(alloc);
-    for _ in 0..count {
-        text.push('a')?;
-    }
-    Ok(text)
+    let table = repeated(rt.alloc(), "v\n", "1\n", 1_048_577)?;
+    let text = "error: table t.csv: too many rows\n";
+    check_ends(&rt, SCRIPT.as_bytes(), table.as_bytes(), 6, text)
 }
 
 #[test]
 fn limits_the_bytes_of_names(rt: HostRuntime) -> Result<(), Fail> {
     let alloc = rt.alloc();
-    for (count, status) in [(255, 3), (256, 5)] {
-        let file = letters(alloc, count)?;
-        let script = format!(in alloc;
-            "{{\"version\":1,\"tables\":[{{\"name\":\"t\",\"file\":\"{file}\"}}],\"queries\":[{{\"scan\":\"t\",\"output\":{{\"totals\":[{{\"fn\":\"sum\",\"col\":\"v\"}}]}}}}]}}"
+    // the bytes of the names of a file, a table and a column, and how it ends
+    let cases = [
+        (255, 64, 64, 0, "query 0 lines 1\ntotal 1\nend\n"),
+        (256, 64, 64, 5, "error: script: bad text $.tables[0].file\n"),
+        (255, 65, 64, 5, "error: script: bad text $.tables[0].name\n"),
+        (1, 64, 65, 6, "error: table f: bad name field 2\n"),
+    ];
+    for (file, table, column, status, text) in cases {
+        let file = repeated(alloc, "", "f", file)?;
+        let name = repeated(alloc, "", "t", table)?;
+        let column = repeated(alloc, "", "c", column)?;
+        let entry = format!(in alloc; "{{\"name\":\"{name}\",\"file\":\"{file}\"}}")?;
+        let query = format!(in alloc;
+            "{{\"scan\":\"{name}\",\"output\":{{\"totals\":[{{\"fn\":\"sum\",\"col\":\"v\"}}]}}}}"
         )?;
-        let (answered, _) = check(alloc, script.as_bytes(), TABLE.as_bytes())?;
-        assert_eq!(rt; answered, status, "a file of {count} bytes");
-    }
-    for (count, status) in [(64, 0), (65, 5)] {
-        let name = letters(alloc, count)?;
-        let script = format!(in alloc;
-            "{{\"version\":1,\"tables\":[{{\"name\":\"{name}\",\"file\":\"t.csv\"}}],\"queries\":[{{\"scan\":\"{name}\",\"output\":{{\"totals\":[{{\"fn\":\"sum\",\"col\":\"v\"}}]}}}}]}}"
-        )?;
-        let (answered, _) = check(alloc, script.as_bytes(), TABLE.as_bytes())?;
-        assert_eq!(rt; answered, status, "a table's name of {count} bytes");
-    }
-    for (count, status) in [(64, 0), (65, 6)] {
-        let name = letters(alloc, count)?;
-        let table = format!(in alloc; "v,{name}\n1,2\n")?;
-        let (answered, _) = check(alloc, SCRIPT.as_bytes(), table.as_bytes())?;
-        assert_eq!(rt; answered, status, "a column's name of {count} bytes");
+        let script = script_of(alloc, entry.as_str(), query.as_str())?;
+        let rows = format!(in alloc; "v,{column}\n1,2\n")?;
+        let files = [
+            ("s.json", script.as_bytes()),
+            (file.as_str(), rows.as_bytes()),
+        ];
+        ends(&rt, &Run::of(&["check", "s.json"], &files), status, text)?;
     }
     Ok(())
 }

@@ -2,7 +2,7 @@ use Rattle.std.proofs.Common.{◌≡◌, ap, inl, map, subst, sym, ◌∙◌}
 use Rattle.std.proofs.lemmas.Result.{err_from_is_err_and}
 use Rattle.plan_ast.specs.Checks.{query_of}
 use Rattle.plan_ast.specs.Subject.{Subject}
-use Rattle.sched_tool.specs.Outsides.{possible}
+use Rattle.sched_tool.specs.Outsides.{may_hold}
 use Rattle.sched_tool.specs.ReadFaults.{FaultsAt}
 use Rattle.sched_tool.specs.Refusals.{AreTablesRefused}
 use Rattle.sched_tool.specs.Subjects.{AllAnswerable, HoldsSubject, HoldTables}
@@ -26,7 +26,7 @@ returns-in_err-tables-2-clause-err g c =
     let p = err_from_is_err_and c.from_residual-in_err-tables-2.result c.from_residual-in_err-tables-2.ensures.1 in
     let script = c.in_ok-tables.field-0 in
     let refusal = c.in_err-tables-2.field-0.0 in
-    let refused = subst (λ content. AreTablesRefused (possible content) script.tables refusal)
+    let refused = subst (λ content. AreTablesRefused (may_hold content) script.tables refusal)
     (same_content _ _ c.open_script.ensures.kept) c.in_err-tables-2.ensures.err in
     rw (p.1, p.2) (record {
       cause = tables_refused _ c.args.file.now script refusal c.in_ok-tables.ensures.ok refused;
@@ -38,13 +38,13 @@ pub returns-in_err-checked-clause-err : goal.returns-in_err-checked-clause-err
 returns-in_err-checked-clause-err g c =
     let p = err_from_is_err_and c.from_residual-in_err-checked.result c.from_residual-in_err-checked.ensures.1 in
     let script = c.in_ok-tables.field-0 in
-    let loaded = subst (λ content. HoldTables (possible content) script.tables c.in_ok-tables-2.tables.items)
+    let loaded = subst (λ content. HoldTables (may_hold content) script.tables c.in_ok-tables-2.tables.items)
     (same_content _ _ c.open_script.ensures.kept) c.in_ok-tables-2.ensures.ok in
     let subject : Subject = record { tables = c.as_slice.result.now; queries = c.as_slice-2.result.now } in
-    let held : HoldsSubject (possible (g.F.Files.content c.args.files.now)) c.args.file.now subject = record {
+    let held : HoldsSubject (may_hold (g.F.Files.content c.args.files.now)) c.args.file.now subject = record {
       script = script;
       held = c.in_ok-tables.ensures.ok;
-      tables = subst (HoldTables (possible (g.F.Files.content c.args.files.now)) script.tables) (sym c.as_slice.ensures.value) loaded;
+      tables = subst (HoldTables (may_hold (g.F.Files.content c.args.files.now)) script.tables) (sym c.as_slice.ensures.value) loaded;
       queries = c.as_slice-2.ensures;
     } in
     let quiet : g.F.Files.failed c.open_tables.new.files ≡ g.F.Files.failed c.args.files.now = c.in_ok-tables-2.ensures.no_fault
@@ -60,13 +60,13 @@ returns-clause-ok g c =
     let tables : c.as_slice-3.result.now ≡ c.as_slice.result.now = c.as_slice-3.ensures.value ∙ sym c.as_slice.ensures.value in
     let queries : map query_of c.as_slice-4.result.now ≡ c.as_slice-2.result.now = ap (map query_of) c.as_slice-4.ensures.value
     ∙ c.in_ok-checked.ensures.same in
-    let loaded = subst (λ content. HoldTables (possible content) script.tables c.in_ok-tables-2.tables.items)
+    let loaded = subst (λ content. HoldTables (may_hold content) script.tables c.in_ok-tables-2.tables.items)
     (same_content _ _ c.open_script.ensures.kept) c.in_ok-tables-2.ensures.ok in
     let subject : Subject = record { tables = c.as_slice-3.result.now; queries = map query_of c.as_slice-4.result.now } in
-    let held : HoldsSubject (possible (g.F.Files.content c.args.files.now)) c.args.file.now subject = record {
+    let held : HoldsSubject (may_hold (g.F.Files.content c.args.files.now)) c.args.file.now subject = record {
       script = script;
       held = c.in_ok-tables.ensures.ok;
-      tables = subst (HoldTables (possible (g.F.Files.content c.args.files.now)) script.tables) (sym c.as_slice-3.ensures.value) loaded;
+      tables = subst (HoldTables (may_hold (g.F.Files.content c.args.files.now)) script.tables) (sym c.as_slice-3.ensures.value) loaded;
       queries = queries ∙ c.as_slice-2.ensures;
     } in
     let answerable : AllAnswerable subject.tables subject.queries =

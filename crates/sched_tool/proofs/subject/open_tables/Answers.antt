@@ -2,7 +2,7 @@ use Rattle.std.proofs.Common.{◌≡◌, ◌++◌, ◌∷◌, [], ap, append_ass
 use Rattle.std.specs.Vec.Iter.{into_iter_items}
 use Rattle.std.proofs.lemmas.List.{append-nil, nil_from_length}
 use Rattle.std.proofs.lemmas.Result.{err_from_is_err_and}
-use Rattle.sched_tool.specs.Outsides.{possible}
+use Rattle.sched_tool.specs.Outsides.{may_hold}
 use Rattle.sched_tool.specs.ReadFaults.{FaultsAt}
 use Rattle.sched_tool.specs.Refusals.{IsEntryRefused}
 use Rattle.sched_tool.specs.Subjects.{HoldsTable, HoldTables}
@@ -32,7 +32,7 @@ returns-in_err-open_table-clause-err g c =
         loaded = c.loop-entry.tables.items;
         tables = c.loop-entry.invariant.tables;
       },
-      subst (λ content. IsEntryRefused (possible content) c.in-Some.entry c.in_err-open_table.field-0.0)
+      subst (λ content. IsEntryRefused (may_hold content) c.in-Some.entry c.in_err-open_table.field-0.0)
           (same_content _ _ c.loop-entry.invariant.kept) c.in_err-open_table.ensures.err,
     ))
 
@@ -41,7 +41,7 @@ loop-entry-preserved g c =
     let rest = into_iter_items c.next.new.self in
     let step : into_iter_items c.loop-entry.entry-iterator ≡ c.in-Some.entry ∷ rest = c.in-Some.ensures.steps.0 in
     let items : c.push.new.self.items ≡ c.loop-entry.tables.items ++ c.in_ok-open_table.field-0 ∷ [] = c.in_ok-push.ensures.items in
-    let one = subst (λ content. HoldsTable (possible content) c.in-Some.entry c.in_ok-open_table.field-0)
+    let one = subst (λ content. HoldsTable (may_hold content) c.in-Some.entry c.in_ok-open_table.field-0)
     (same_content _ _ c.loop-entry.invariant.kept) c.in_ok-open_table.ensures.ok in
     record {
       kept = λ any. c.open_table.ensures.kept any ∙ c.loop-entry.invariant.kept any;
@@ -57,4 +57,4 @@ returns-clause-ok g c =
     let none : left ≡ [] = nil_from_length left (omega (arith, c.in-None.ensures.steps.0, c.loop-entry.entry-iterator.rest.ok.0)) in
     let all : c.args.entries ≡ c.loop-entry.yielded = c.loop-entry.invariant.split ∙ ap (λ v. c.loop-entry.yielded ++ v) none
     ∙ append-nil c.loop-entry.yielded in
-    subst (λ entries. HoldTables (possible (g.F.Files.content c.args.files.now)) entries c.loop-entry.tables.items) (sym all) c.loop-entry.invariant.tables
+    subst (λ entries. HoldTables (may_hold (g.F.Files.content c.args.files.now)) entries c.loop-entry.tables.items) (sym all) c.loop-entry.invariant.tables

@@ -1,6 +1,6 @@
 use Rattle.std.proofs.Common.{◌≡◌, ℕ, List, ◌++◌}
 use Rattle.std.specs.Vec.Iter.{into_iter_items}
-use Rattle.sched_tool.specs.Outsides.{possible}
+use Rattle.sched_tool.specs.Outsides.{may_hold}
 use Rattle.sched_tool.specs.Subjects.{HoldTables}
 use Rattle.sched_tool.proofs.subject.open_tables.Given as goal
 
@@ -9,5 +9,5 @@ invariant-loop-entry g l = record {
   kept : (any : List ℕ) → g.F.Files.content l.files any ≡ g.F.Files.content l.fn.files any;
   no_fault : g.F.Files.failed l.files ≡ g.F.Files.failed l.fn.files;
   split : l.fn.entries ≡ l.yielded ++ into_iter_items l.entry-iterator;
-  tables : HoldTables (possible (g.F.Files.content l.fn.files)) l.yielded l.tables.items;
+  tables : HoldTables (may_hold (g.F.Files.content l.fn.files)) l.yielded l.tables.items;
 }

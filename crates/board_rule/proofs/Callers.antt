@@ -1,0 +1,88 @@
+-- What a call has after its step, whatever the call.
+use Rattle.std.proofs.Common.{◌≡◌, ℕ, ◌+◌, ◌<◌, Option, cond, eqb, false, ◌&&◌, ◌∷◌, Some, refl, sym, ap, ap₂, ◌∙◌, subst, eq-eqb, arith}
+use Rattle.std.proofs.Math.Logic.{∥∥₁_elim}
+use Rattle.std.proofs.Props.{props}
+use Rattle.slot_history.specs.declared.shape.Shape.{Shape}
+use Rattle.slot_history.specs.declared.shape.TheConstants.{MOST_SLOTS}
+use Rattle.slot_history.specs.declared.act.Act.{Act}
+use Rattle.slot_history.specs.declared.act.Act.TheVariants.{Announce}
+use Rattle.slot_history.specs.declared.act.Entry.{Entry}
+use Rattle.slot_history.specs.declared.place.Place.{Place}
+use Rattle.slot_history.specs.declared.place.Place.TheVariants.{Free, Asking, Announcing}
+use Rattle.slot_history.specs.Bounds.{IsShape}
+use Rattle.slot_history.specs.States.{held_at, slot_of}
+use Rattle.slot_history.specs.Steps.{moved}
+use Rattle.slot_history.specs.Histories.{entry, place_of}
+use Rattle.slot_history.proofs.Own.{calls-go-on}
+use Rattle.slot_station.specs.declared.token.Announcer.{Announcer}
+use Rattle.slot_station.specs.Desks.{Makes, Owns, own_place}
+use Rattle.slot_station.specs.Places.{IsCounted}
+use Rattle.slot_station.specs.Tokens.{IsAnnouncer, IsDone, last_opened}
+use Rattle.slot_station.proofs.Follows.{place-after}
+use Rattle.slot_station.proofs.PlaceCounts.{place-counted}
+use Rattle.slot_station.proofs.TokensKept.{announcer-opened}
+use Rattle.slot_words.specs.Encodings.{slot_in}
+use Rattle.board_rule.specs.declared.board.Board.{Board}
+use Rattle.board_rule.specs.declared.board.Pass.{Pass}
+use Rattle.board_rule.specs.Passes.{shape_of, seen_of, IsSeatOf, IsPassOf, HasStepped}
+use Rattle.board_rule.proofs.Stepping.{shape}
+
+counted-prop : (q : Place) → IsProp (IsCounted q)
+counted-prop (Asking s id n m) = hlevel (props)
+counted-prop (Announcing s again told) = hlevel (props)
+counted-prop _ = hlevel (props)
+
+-- the counts of a pass's place
+pub pass-counted : {B Sub : Type 0} → (board : Board B Sub) (p : Pass B Sub) → IsPassOf board p → IsCounted p.place
+pass-counted board p ours = ∥∥₁_elim ours.10 (counted-prop p.place) (λ legal. subst IsCounted ours.6
+    (place-counted (shape_of board) p.seat.me.0.trail p.worker (shape board p.worker p.place p.seat ours) legal ours.1))
+
+-- the slot of a worker's word is read back from it
+pub slot-read : {B Sub : Type 0} → (board : Board B Sub) (s word : ℕ) → s < (shape_of board).slots → (s < MOST_SLOTS → slot_in word ≡ s) → slot_in word ≡ s
+slot-read board s word low reads = reads (let most = (subst IsShape (sym board.shape_is) board.bounded).slots.1 in omega arith)
+
+module _ {B Sub : Type 0} (board : Board B Sub) (old mid : Pass B Sub) (ours : IsPassOf board old) {b : Act} (st : HasStepped board b old mid) where
+  abbrev d : Shape
+  d = shape_of board
+
+  pub counted : IsCounted mid.place
+  counted = subst IsCounted (sym st.place) (pass-counted board old ours)
+
+  -- the pass, once its place is moved
+  pub placed : {a : Act} → a ≡ b → (q : Place) → q ≡ moved board.shape a mid.place → IsSeatOf board mid.worker q mid.seat
+  placed is q moves = subst (λ m. IsSeatOf board m q mid.seat) (sym st.worker)
+      (subst (λ r. IsSeatOf board old.worker r mid.seat) (sym (moves ∙ ap₂ (moved board.shape) is st.place)) st.seat)
+
+  module _ {total : Sub → ℕ → Option ℕ} {a : Act} (m : Makes total a (seen_of board old) (seen_of board mid)) where
+    pub new-place : own_place (seen_of board mid) ≡ moved d a (own_place (seen_of board old))
+    new-place = place-after m
+
+    -- what a reply brings, by the place to which the call moves its worker
+    pub brings : {X : Type 0} → (Is : Shape → ℕ → Place → X → Type 0) (x : X) → Is d mid.worker (moved d a mid.place) x → Owns Is (seen_of board mid) x
+    brings Is x is = subst (λ q. Is d mid.worker q x) (sym (new-place ∙ ap (moved d a) (ours.6 ∙ sym st.place))) is
+
+    -- a token of its worker, by the place after the call
+    pub token-of : {X : Type 0} → (Is : Shape → ℕ → Place → X → Type 0) (x : X) → Is d old.worker (own_place (seen_of board mid)) x
+        → Owns Is (seen_of board mid) x
+    token-of Is x is = subst (λ w. Is d w (own_place (seen_of board mid)) x) (sym st.worker) is
+
+  -- an announcer that told every worker
+  pub told-done : {total : Sub → ℕ → Option ℕ} → Makes total Announce (seen_of board old) (seen_of board mid) → (x : Announcer)
+      → Owns IsAnnouncer (seen_of board old) x → x.told + 1 ≡ d.workers → IsDone (seen_of board mid) (record x { told = x.told + 1 })
+  told-done m x ok all =
+      let w : ℕ = old.worker in
+      let (h, is, begins, same, legal) = m.called in
+      let found = (calls-go-on d w Announce old.seat.me.0.trail mid.seat.me.0.trail m.called).allowed in
+      let at : place_of d found.0 w ≡ Announcing x.slot x.again x.told = found.5 ∙ ok.place in
+      let free : own_place (seen_of board mid) ≡ Free =
+      new-place m ∙ ap (moved d Announce) ok.place ∙ ap (λ c. cond c Free (Announcing x.slot x.again (x.told + 1))) (eq-eqb (x.told + 1) d.workers all) in
+      let opened : last_opened d w mid.seat.me.0.trail ≡ Some (x.slot, x.again) =
+      ap (last_opened d w) found.1
+      ∙ ap (λ c. cond (c && false) (Some (slot_of (place_of d found.0 w), (held_at (place_of d found.0 w)).again)) (last_opened d w found.0)) (eq-eqb w w refl)
+      ∙ announcer-opened d w x.slot x.again found.0 x.told at in record {
+        worker = ok.worker ∙ sym st.worker;
+        workers = ok.workers;
+        told = all;
+        free = free;
+        opened = ap (λ v. last_opened d v mid.seat.me.0.trail) st.worker ∙ opened;
+      }

@@ -1,0 +1,14 @@
+pub mod Allowed
+pub mod Asked
+pub mod Callers
+pub mod Cells
+pub mod Copies
+pub mod Deals
+pub mod Exchanges
+pub mod Extends
+pub mod Lists
+pub mod Meets
+pub mod Moves
+pub mod Opens
+pub mod Seats
+pub mod Stepping

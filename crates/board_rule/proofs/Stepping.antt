@@ -1,0 +1,172 @@
+-- What a step that is a call owes, and what its seat is after it, of a board.
+use Rattle.std.proofs.Common.{◌≡◌, ℕ, ◌<◌, false, cond, length, List, ◌∷◌, Option, Some, None, slice_index, refl, sym, ap, ap₂, ◌∙◌, subst, eq-eqb}
+use Rattle.std.specs.Prelude.{is_some}
+use Rattle.std.proofs.Math.Logic.{∥∥₁_elim}
+use Rattle.std.proofs.Props.{props}
+use mathlib.Core.Bool.{true≢false}
+use Rattle.atomic_table.specs.Table as table
+use Rattle.atomic_table.specs.Table.{Me, Allows}
+use Rattle.atomic_table.specs.declared.shared.Seat.{Seat}
+use Rattle.slot_history.specs.declared.shape.Shape.{Shape}
+use Rattle.slot_history.specs.declared.act.Act.{Act}
+use Rattle.slot_history.specs.declared.place.Place.{Place}
+use Rattle.slot_history.specs.Bounds.{IsShape}
+use Rattle.slot_history.specs.Steps.{moved}
+use Rattle.slot_history.specs.Histories.{IsLegal, IsOfTotals, Called, place_of}
+use Rattle.slot_history.specs.Calls.{Call, MayAt}
+use Rattle.slot_history.proofs.Own.{calls-go-on}
+use Rattle.slot_station.specs.Cells.{noted, CellsAllow}
+use Rattle.slot_station.specs.Desks.{Makes, own_place}
+use Rattle.slot_station.specs.Log.{note_in}
+use Rattle.slot_words.specs.declared.address.Address.{Address}
+use Rattle.slot_words.specs.Addresses.{index, count_of_words}
+use Rattle.slot_words.specs.Numbers.{IsSmall}
+use Rattle.slot_words.specs.Steps.{address_of, change_of, answer_of}
+use Rattle.slot_words.proofs.Addresses.{index-low}
+use Rattle.slot_words.proofs.Law.{step-of}
+use Rattle.slot_words.proofs.Numbers as numbers
+use Rattle.board_rule.specs.declared.board.Board.{Board}
+use Rattle.board_rule.specs.declared.board.Pass.{Pass}
+use Rattle.board_rule.specs.declared.view.View.{View}
+use Rattle.board_rule.specs.Passes.{shape_of, subject_of, seen_at, seen_of, IsSeatOf, IsPassOf, HasStepped}
+use Rattle.board_rule.specs.Rule.{Terms, RunningRule, terms_of}
+use Rattle.board_rule.specs.Steps.{MayMake, MayStep, HasCalled, IsCall}
+use Rattle.board_rule.specs.Views.{number, place_in, note_of, shown_in, grown}
+use Rattle.board_rule.proofs.Allowed.{call-allowed}
+use Rattle.board_rule.proofs.Lists.{no-items, headed}
+
+none-of : {A : Type 0} (o : Option A) → is_some o ≡ false → o ≡ None
+none-of None h = refl
+none-of (Some x) h = absurd (true≢false h)
+
+-- a seat of the worker w, at the place p, of a board
+module _ {B Sub : Type 0} (board : Board B Sub) (w : ℕ) (p : Place) (seat : Seat (Option B) (View Sub)) (ours : IsSeatOf board w p seat) where
+  abbrev d : Shape
+  d = shape_of board
+
+  abbrev v : View Sub
+  v = seat.me.0
+
+  pub shape : IsShape d
+  shape = subst IsShape (sym board.shape_is) board.bounded
+
+  -- the place by the trail
+  pub place-is : place_of d v.trail w ≡ p
+  place-is = ours.6
+
+  pub place-in : place_in v ≡ p
+  place-in = ap₂ (λ e m. place_of e v.trail m) ours.4 ours.3 ∙ place-is
+
+  pub still : v.out ≡ None
+  still = none-of v.out ours.7
+
+  -- ---- a step that is the call c
+
+  module _ (total : Sub → ℕ → Option ℕ) (fits : Sub → ℕ → ℕ → List (ℕ × ℕ) → B → Type 0) (c : Call) (may : MayMake total (seen_at board w seat) c) where
+    abbrev terms : Terms B Sub
+    terms = terms_of total fits board.table.shared.key
+
+    -- what the worker may ask for, by the view alone
+    may-in : MayMake total (shown_in v (subject_of board)) c
+    may-in =
+        let totals : ℕ → Option ℕ = total (subject_of board) in
+        let same : place_of d v.trail w ≡ place_in v = place-is ∙ sym place-in in
+        let at : MayAt v.shape (place_in v) c = subst (λ q. MayAt v.shape q c) same (subst (λ e. MayAt e (place_of d v.trail w) c) (sym ours.4) may.place) in
+        let f : ℕ → Shape → Type 0 = λ m e. CellsAllow totals (record { shape = e; worker = m; place = place_in v; notes = note_in v.own m }) c in
+        let cells : f w d =
+        subst (λ q. CellsAllow totals (record { shape = d; worker = w; place = q; notes = note_in v.own w }) c) same may.cells in
+        record { place = at; cells = subst (λ m. f m v.shape) (sym ours.3) (subst (λ e. f w e) (sym ours.4) cells) }
+
+    may-step : MayStep terms v c
+    may-step = let l = headed v.numbers w ours.2 ours.3 in record {
+      rest = l.0;
+      numbers = l.1 ∙ ap (λ m. m ∷ l.0) (sym ours.3);
+      below = subst (λ m. m < d.workers) (sym ours.3) ours.1;
+      shape = ours.4;
+      may = may-in;
+      still = still;
+      alone = no-items v.heard ours.8;
+    }
+
+    -- what the step owes, on the word of this address
+    pub owes : (a : Address) → a ≡ address_of w c p → (word : ℕ) → word ≡ index board.shape a
+        → (f : ℕ → ℕ) → ((n : ℕ) → f n ≡ change_of c p n) → (found : ℕ → ℕ) → ((n : ℕ) → answer_of c p (found n) ≡ answer_of c p n)
+        → (s : table.Step (Option B))
+        → (seat.table_id ≡ board.table.shared.table_id) × (word < board.table.shared.table_id.words)
+        × Allows (RunningRule terms) board.table.shared.table_id.slots seat.id seat.me word f (λ n. IsCall total c s seat.me (found n))
+    owes a on word is f changes found finds s =
+        let at : (P : Place → Type 0) → P p → P (place_in v) = λ P h. subst P (sym place-in) h in
+        let named : word ≡ index d (address_of w c p) = is ∙ ap₂ index (sym board.shape_is) on in
+        let low : index d (address_of w c p) < count_of_words d = ∥∥₁_elim ours.10 (hlevel (props))
+        (λ legal. subst (λ q. index d (address_of w c q) < count_of_words d) place-is
+        (index-low d (address_of w c (place_of d v.trail w)) (step-of d v.trail shape legal w ours.1 c may.place).there)) in
+        let words : board.table.shared.table_id.words ≡ count_of_words d =
+        subst (λ (e : Shape). board.table.shared.table_id.words ≡ count_of_words e) (sym board.shape_is) board.words_are in (
+          ours.0,
+          subst (λ n. word < n) (sym words) (subst (λ n. n < count_of_words d) (sym named) low),
+          call-allowed terms board.table.shared.table_id.slots seat.id v seat.me.1 c may-step word
+              (subst (λ m. word ≡ index d (address_of m c (place_in v))) (sym ours.3) (at (λ q. word ≡ index d (address_of w c q)) named))
+              f (at (λ q. (n : ℕ) → f n ≡ change_of c q n) changes) s found (at (λ q. (n : ℕ) → answer_of c q (found n) ≡ answer_of c q n) finds),
+        )
+
+  -- ---- the seat after it, which knows and holds `new`
+
+  module _ (total : Sub → ℕ → Option ℕ) (c : Call) (n : ℕ) (s : table.Step (Option B)) (new : Me (Option B) (View Sub)) (told : IsCall total c s seat.me n new) where
+    abbrev a : Act
+    a = answer_of c p n
+
+    same : answer_of c (place_in v) n ≡ a
+    same = ap (λ q. answer_of c q n) place-in
+
+    grows : new.0 ≡ grown v w new.0.trail a
+    grows = told.view ∙ ap₂ (λ m b. grown v m new.0.trail b) ours.3 same
+
+    called : Called d w a v.trail new.0.trail
+    called = subst (λ e. Called e w a v.trail new.0.trail) ours.4 (subst (λ m. Called v.shape m a v.trail new.0.trail) ours.3
+        (subst (λ b. Called v.shape (number v) b v.trail new.0.trail) same told.called))
+
+    pub small : IsSmall a
+    small = let (h, is, begins, own, legal) = called in numbers.small d h w a shape (subst (IsLegal d) is legal)
+
+    pub seat-after : (other : Seat (Option B) (View Sub)) → other.table_id ≡ seat.table_id → other.me ≡ new → IsSeatOf board w (moved board.shape a p) other
+    seat-after other id me =
+        let goes = calls-go-on d w a v.trail new.0.trail called in
+        let view : other.me.0 ≡ new.0 = ap (λ (m : Me (Option B) (View Sub)). m.0) me in
+        let all : other.me.0 ≡ grown v w new.0.trail a = view ∙ grows in
+        let trail : other.me.0.trail ≡ new.0.trail = ap (λ (z : View Sub). z.trail) view in (
+          id ∙ ours.0,
+          ours.1,
+          subst (λ (z : View Sub). 0 < length z.numbers) (sym all) ours.2,
+          ap (λ (z : View Sub). number z) all ∙ ours.3,
+          ap (λ (z : View Sub). z.shape) all ∙ ours.4,
+          ap (λ (z : View Sub). z.subject) all ∙ ours.5,
+          ap (λ l. place_of d l w) trail ∙ goes.place ∙ ap₂ (λ e q. moved e a q) board.shape_is place-is,
+          ap (λ (z : View Sub). is_some z.out) all ∙ ours.7,
+          ap (λ (z : View Sub). length z.heard) all ∙ ours.8,
+          ap (λ (m : Me (Option B) (View Sub)). length m.1) me ∙ ap length told.holds ∙ ours.9,
+          ∣ subst (IsLegal d) (sym trail) called.4 ∣₁,
+        )
+
+    pub made : (other : Seat (Option B) (View Sub)) → other.me ≡ new → Makes total a (seen_at board w seat) (seen_at board w other)
+    made other me =
+        let view : other.me.0 ≡ new.0 = ap (λ (m : Me (Option B) (View Sub)). m.0) me in
+        let trail : other.me.0.trail ≡ new.0.trail = ap (λ (z : View Sub). z.trail) view in record {
+          origin = refl;
+          desk = refl;
+          called = subst (Called d w a v.trail) (sym trail) called;
+          of_subject = subst (IsOfTotals (total (subject_of board)) d) (sym trail)
+              (subst (λ e. IsOfTotals (total (subject_of board)) e new.0.trail) ours.4 (told.of_subject (subject_of board) ours.5));
+          notes = λ u low. ap (λ (z : View Sub). note_in z.own w u) (view ∙ grows)
+              ∙ ap (λ b. cond b (noted a w u (note_in v.own w u)) (note_in v.own w u)) (eq-eqb w w refl);
+        }
+
+-- ---- a pass after its step, whose place is still to be moved
+
+module _ {B Sub : Type 0} (board : Board B Sub) (old new : Pass B Sub) where
+  pub stepped : (total : Sub → ℕ → Option ℕ) (ours : IsPassOf board old) (c : Call) (n : ℕ) (s : table.Step (Option B)) (told : IsCall total c s old.seat.me n new.seat.me)
+      → new.seat.table_id ≡ old.seat.table_id → new.worker ≡ old.worker → new.place ≡ old.place → HasStepped board (answer_of c old.place n) old new
+  stepped total ours c n s told id worker place = record {
+    worker = worker;
+    place = place;
+    seat = seat-after board old.worker old.place old.seat ours total c n s new.seat.me told new.seat id refl;
+  }

@@ -1,0 +1,6 @@
+use Rattle.board_rule.specs.Rule.{terms_of}
+use Rattle.board_rule.proofs.Extends.{extended}
+use Rattle.board_rule.proofs.laws.extends.Goals as goal
+
+pub returns : goal.returns
+returns g c about known table i v k ok at step = extended (terms_of g.B.Fits.total g.B.Fits.fits about) known table ok i v at k step

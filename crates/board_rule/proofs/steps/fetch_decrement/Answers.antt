@@ -1,0 +1,33 @@
+use Rattle.std.proofs.Common.{refl}
+use Rattle.slot_words.specs.Steps.{one_less}
+use Rattle.atomic_table.specs.Table.{step}
+use mathlib.Core.Option.{none}
+use Rattle.board_rule.proofs.Stepping.{owes, small, stepped, made}
+use Rattle.board_rule.proofs.steps.fetch_decrement.Goals as goal
+
+pub fetch_sub-requires : goal.fetch_sub-requires
+fetch_sub-requires g c =
+    let b = c.args.board.now in
+    let p = c.args.pass.now in
+    owes b p.worker p.place p.seat c.requires.pass g.B.Fits.total g.B.Fits.fits g.K.Asked.call c.requires.call c.args.address c.requires.on c.index-word.result
+    c.index-word.ensures one_less c.requires.change (λ n. n) (λ n. refl) (step b.table.shared.table_id.slots c.index-word.result 1 0 none)
+
+pub returns-clause-small : goal.returns-clause-small
+returns-clause-small g c =
+    let b = c.args.board.now in
+    let p = c.args.pass.now in
+    small b p.worker p.place p.seat c.requires.pass g.B.Fits.total g.K.Asked.call c.fetch_sub.result
+    (step b.table.shared.table_id.slots c.index-word.result 1 0 none) c.fetch_sub.new.seat.me c.fetch_sub.ensures.2
+
+pub returns-clause-stepped : goal.returns-clause-stepped
+returns-clause-stepped g c =
+    let b = c.args.board.now in
+    stepped b c.args.pass.now _ g.B.Fits.total c.requires.pass g.K.Asked.call c.fetch_sub.result (step b.table.shared.table_id.slots c.index-word.result 1 0 none)
+    c.fetch_sub.ensures.2 c.fetch_sub.ensures.0 refl refl
+
+pub returns-clause-made : goal.returns-clause-made
+returns-clause-made g c =
+    let b = c.args.board.now in
+    let p = c.args.pass.now in
+    made b p.worker p.place p.seat c.requires.pass g.B.Fits.total g.K.Asked.call c.fetch_sub.result
+    (step b.table.shared.table_id.slots c.index-word.result 1 0 none) c.fetch_sub.new.seat.me c.fetch_sub.ensures.2 c.fetch_sub.new.seat refl

@@ -1,0 +1,63 @@
+-- How a board begins and ends.
+use Rattle.std.specs.Prelude.{◌≡◌, ℕ, ◌<◌, List, [], length, Option, Some, slice_get}
+use Rattle.atomic_table.specs.declared.shared.Seat.{Seat}
+use Rattle.slot_history.specs.declared.shape.Shape.{Shape}
+use Rattle.slot_history.specs.declared.act.Entry.{Entry}
+use Rattle.slot_history.specs.declared.place.Place.TheVariants.{Free}
+use Rattle.slot_history.specs.Steps.{state_after}
+use Rattle.slot_history.specs.Histories.{IsLegal, IsOfTotals, Begins, own_calls}
+use Rattle.slot_words.specs.Laws.{AreWordsOf}
+use Rattle.board_rule.specs.declared.board.Board.{Board}
+use Rattle.board_rule.specs.declared.board.Pass.{Pass}
+use Rattle.board_rule.specs.declared.view.View.{View}
+use Rattle.board_rule.specs.declared.view.Heard.{Heard}
+use Rattle.board_rule.specs.Passes.{IsPassOf, shape_of, subject_of}
+use Rattle.board_rule.specs.Views.{fresh_view}
+
+-- what contracts see of a board that has ended: its words, in the order of their indices, and its
+-- history
+pub record Ended : Type 0 where
+  pub words : List ℕ
+  pub history : List Entry
+
+module _ {B Sub : Type 0} (board : Board B Sub) where
+  -- the pass of the worker w, which has done nothing
+  pub record IsFresh (w : ℕ) (pass : Pass B Sub) : Type 0 where
+    pub of_board : IsPassOf board pass
+    pub worker : pass.worker ≡ w
+    pub place : pass.place ≡ Free
+    pub trail : pass.seat.me.0.trail ≡ []
+
+  -- the passes are those of the workers from 0 on, none of whom has done anything
+  abbrev pub AreFresh : List (Pass B Sub) → Type 0
+  AreFresh passes = (w : ℕ) (pass : Pass B Sub) → slice_get passes w ≡ Some pass → IsFresh w pass
+
+  -- the pass is of this board, and its worker is free
+  pub record IsDone (pass : Pass B Sub) : Type 0 where
+    pub of_board : IsPassOf board pass
+    pub place : pass.place ≡ Free
+
+  -- every pass is of this board and its worker free
+  abbrev pub AreDone : List (Pass B Sub) → Type 0
+  AreDone passes = (k : ℕ) (pass : Pass B Sub) → slice_get passes k ≡ Some pass → IsDone pass
+
+  -- each worker's pass is among these
+  abbrev pub AreAll : List (Pass B Sub) → Type 0
+  AreAll passes = (w : ℕ) → w < (shape_of board).workers
+      → (k : ℕ) × (pass : Pass B Sub) × (slice_get passes k ≡ Some pass) × (pass.worker ≡ w)
+
+  -- The joined history is legal, and the final words stand for the state that it leaves. It begins
+  -- with each pass's trail, and of each worker it has just the worker's own calls.
+  pub record IsJoined (passes : List (Pass B Sub)) (end : Ended) : Type 0 where
+    pub words_are : AreWordsOf (shape_of board) end.history end.words
+    pub begins : (k : ℕ) (pass : Pass B Sub) → slice_get passes k ≡ Some pass
+        → Begins end.history pass.seat.me.0.trail
+    pub own : (k : ℕ) (pass : Pass B Sub) → slice_get passes k ≡ Some pass
+        → own_calls pass.worker end.history ≡ own_calls pass.worker pass.seat.me.0.trail
+
+  -- ---- what is kept while passes are dealt, and while they are joined
+
+  -- the seat of so many workers from `first` on, none of whom has done anything
+  pub record IsUndealt (first n : ℕ) (seat : Seat (Option B) (View Sub)) : Type 0 where
+    pub table : seat.table_id ≡ board.table.shared.table_id
+    pub knows : seat.me ≡ (fresh_view (shape_of board) (subject_of board) first n, [])

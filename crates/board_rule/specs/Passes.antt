@@ -1,0 +1,54 @@
+-- When a pass is of a board, what it shows, and what a step of a call makes of it.
+use Rattle.std.specs.Prelude.{◌≡◌, ℕ, ◌<◌, false, is_some, length, Option, Some}
+use Rattle.atomic_table.specs.declared.shared.Seat.{Seat}
+use Rattle.slot_history.specs.declared.shape.Shape.{Shape}
+use Rattle.slot_history.specs.declared.act.Act.{Act}
+use Rattle.slot_history.specs.declared.place.Place.{Place}
+use Rattle.slot_history.specs.Steps.{moved}
+use Rattle.slot_history.specs.Histories.{IsLegal}
+use Rattle.slot_station.specs.Desks.{Seen, own_place}
+use Rattle.slot_station.specs.Log.{note_in}
+use Rattle.board_rule.specs.declared.board.Board.{Board}
+use Rattle.board_rule.specs.declared.board.Pass.{Pass}
+use Rattle.board_rule.specs.declared.view.View.{View}
+use Rattle.board_rule.specs.Views.{number}
+
+module _ {B Sub : Type 0} where
+  abbrev pub shape_of : Board B Sub → Shape
+  shape_of board = board.table.shared.key.shape
+
+  abbrev pub subject_of : Board B Sub → Sub
+  subject_of board = board.table.shared.key.subject.value
+
+  -- what the seat of the worker w shows as a station
+  abbrev pub seen_at : Board B Sub → ℕ → Seat (Option B) (View Sub) → Seen (Board B Sub) Sub
+  seen_at board w seat = record {
+    origin = board;
+    desk = record { worker = w; shape = shape_of board; subject = subject_of board };
+    trail = seat.me.0.trail;
+    notes = note_in seat.me.0.own w;
+  }
+
+  -- The seat is that of the worker w of this board, which is at the place p: it is of the board's
+  -- table, its trail is a legal history, it has no cell out, and no other seat was joined into it.
+  abbrev pub IsSeatOf : Board B Sub → ℕ → Place → Seat (Option B) (View Sub) → Type 0
+  IsSeatOf board w p seat = let v = seat.me.0 in
+      (seat.table_id ≡ board.table.shared.table_id) × (w < (shape_of board).workers)
+      × (0 < length v.numbers) × (number v ≡ w) × (v.shape ≡ shape_of board)
+      × (v.subject ≡ Some (subject_of board)) × (own_place (seen_at board w seat) ≡ p)
+      × (is_some v.out ≡ false) × (length v.heard ≡ 0) × (length seat.me.1 ≡ 0)
+      × ∥ IsLegal (shape_of board) v.trail ∥₁
+
+  -- what a pass shows as a station
+  abbrev pub seen_of : Board B Sub → Pass B Sub → Seen (Board B Sub) Sub
+  seen_of board pass = seen_at board pass.worker pass.seat
+
+  -- the pass is of this board
+  abbrev pub IsPassOf : Board B Sub → Pass B Sub → Type 0
+  IsPassOf board pass = IsSeatOf board pass.worker pass.place pass.seat
+
+  -- the pass made a step that is this call, and its place is still to be moved
+  pub record HasStepped (board : Board B Sub) (a : Act) (old new : Pass B Sub) : Type 0 where
+    pub worker : new.worker ≡ old.worker
+    pub place : new.place ≡ old.place
+    pub seat : IsSeatOf board old.worker (moved board.shape a old.place) new.seat

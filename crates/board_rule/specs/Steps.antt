@@ -1,0 +1,52 @@
+-- What a step that is a call tells the seat that makes it.
+use Rattle.std.specs.Prelude.{◌≡◌, ℕ, ◌<◌, Some, None, Option, [], ◌∷◌, List}
+use Rattle.atomic_table.specs.Table.{Step, Me}
+use Rattle.slot_history.specs.declared.act.Act.{Act}
+use Rattle.slot_history.specs.Histories.{Called, IsOfTotals}
+use Rattle.slot_history.specs.Calls.{Call, MayAt}
+use Rattle.slot_station.specs.Cells.{Caller, CellsAllow}
+use Rattle.slot_station.specs.Desks.{Seen, own_place, totals_of}
+use Rattle.slot_words.specs.Steps.{answer_of}
+use Rattle.board_rule.specs.declared.view.View.{View}
+use Rattle.board_rule.specs.Rule.{Terms}
+use Rattle.board_rule.specs.Views.{number, place_in, shown_in, grown}
+
+-- the station's worker, as one that calls
+abbrev pub caller_in : {O Sub : Type 0} → Seen O Sub → Caller
+caller_in x = record {
+  shape = x.desk.shape;
+  worker = x.desk.worker;
+  place = own_place x;
+  notes = x.notes;
+}
+
+-- the station's worker may make the call, by its place, its notes and the subject
+pub record MayMake {O Sub : Type 0} (total : Sub → ℕ → Option ℕ) (x : Seen O Sub)
+    (c : Call) : Type 0 where
+  pub place : MayAt x.desk.shape (own_place x) c
+  pub cells : CellsAllow (totals_of total x) (caller_in x) c
+
+-- The seat with this view may make a step that is this call: its worker may make the call, by its own
+-- trail and notes; the seat has no cell out, and no other seat was joined into it.
+pub record MayStep {B Sub : Type 0} (terms : Terms B Sub) (v : View Sub) (c : Call) : Type 0 where
+  pub rest : List ℕ
+  pub numbers : v.numbers ≡ number v ∷ rest
+  pub below : number v < terms.shape.workers
+  pub shape : v.shape ≡ terms.shape
+  pub may : MayMake terms.total (shown_in v terms.subject) c
+  pub still : v.out ≡ None
+  pub alone : v.heard ≡ []
+
+module _ {S Sub : Type 0} (totals : Sub → ℕ → Option ℕ) where
+  -- The seat made this call: its trail has the call as its newest entry, and is a legal history of
+  -- the subject. It holds as many cells as before.
+  pub record HasCalled (a : Act) (old new : Me S (View Sub)) : Type 0 where
+    pub called : Called old.0.shape (number old.0) a old.0.trail new.0.trail
+    pub view : new.0 ≡ grown old.0 (number old.0) new.0.trail a
+    pub holds : new.1 ≡ old.1
+    pub of_subject : (x : Sub) → old.0.subject ≡ Some x
+        → IsOfTotals (totals x) old.0.shape new.0.trail
+
+  -- the step is this call, with the answer that the call reads in the word found
+  abbrev pub IsCall : Call → Step S → Me S (View Sub) → ℕ → Me S (View Sub) → Type 0
+  IsCall c step old found new = HasCalled (answer_of c (place_in old.0) found) old new

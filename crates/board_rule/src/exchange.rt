@@ -1,0 +1,63 @@
+//! Exchanges of cells: a load takes a cell out of the table, the seat exchanges it, and a load gives
+//! it back.
+ghost use Rattle.std.specs.Prelude.{◌≡◌, ◌<◌, ℕ, IfSome};
+ghost use mathlib.Core.Option.{none};
+ghost use Rattle.atomic_table.specs.Table.{Allows, step};
+ghost use Rattle.slot_station.specs.Cells.{has_cell};
+ghost use Rattle.slot_station.specs.Desks.{Exchanges};
+ghost use Rattle.board_rule.specs.Cells.{HasAt, PutIf, SaysIf, Takes, note_if, taking};
+ghost use Rattle.board_rule.specs.Passes.{IsPassOf, seen_of, shape_of};
+ghost use Rattle.board_rule.specs.Rule.{RunningRule, terms_of};
+
+use crate::board::{Board, Pass};
+use crate::rule::{Giving, Taking, Wanted};
+use crate::view::View;
+use atomic_table::Seat;
+use slot_station::answers::cell_index;
+use slot_station::moves::slot_at;
+use slot_station::station::Fits;
+use std::marker::Brand;
+
+/// Takes the cell of a worker out of the table, which the caller picks.
+fn take_cell<K: Wanted, B: Fits>(
+    board: &Board<B>,
+    seat: &mut Seat<Option<B>, View<B::Subject>>,
+    cell: u32,
+)
+    requires wanted { cell ≡ K.cell }
+    requires table { seat.old.table_id ≡ board.now.table.shared.table_id }
+    requires words { 0 < board.now.table.shared.table_id.words }
+    requires step { let t = board.now.table.shared in
+        let s = step t.table_id.slots 0 0 0 none in
+        let rule = RunningRule (terms_of B.total B.fits t.key) in
+        Allows rule t.table_id.slots seat.old.id seat.old.me 0 (λ n. n)
+        (taking B.fits cell s seat.old.me) }
+    ensures same { (seat.new.table_id ≡ seat.old.table_id) × (seat.new.id ≡ seat.old.id) }
+    ensures takes { Takes B.fits cell seat.old.me seat.new.me }
+{
+    board.table.shared.load::<Taking<K>>(seat, 0);
+}
+
+/// Exchanges the cell of a worker that this pass's worker has: its own while it is inside, or any of
+/// the slot that it holds. It answers the old value, which is as the cell's note says.
+pub fn exchange_cell<B: Fits>(
+    board: &Board<B>,
+    pass: &mut Pass<B>,
+    cell: u32,
+    new: Option<B>,
+) -> Option<B>
+    requires pass { IsPassOf board.now pass.old }
+    requires has { HasAt (shape_of board.now) pass.old.worker cell pass.old.place }
+    requires fits { let x = seen_of board.now pass.old in
+        IfSome new (PutIf B.fits x cell (has_cell pass.old.place)) }
+    ensures pass { IsPassOf board.now pass.new }
+    ensures says { let x = seen_of board.now pass.old in SaysIf B.fits x cell (x.notes cell) result }
+    ensures put { Exchanges cell (note_if (has_cell pass.old.place) new)
+        (seen_of board.now pass.old) (seen_of board.now pass.new) }
+{
+    let at = cell_index(&board.shape, slot_at(&pass.place), cell);
+    take_cell::<Brand, B>(board, &mut pass.seat, cell);
+    let old = board.table.shared.exchange(&mut pass.seat, at, new);
+    board.table.shared.load::<Giving>(&mut pass.seat, 0);
+    old
+}

@@ -1,0 +1,93 @@
+//! The rule over the words, the cells and the views, and what each kind of step tells.
+ghost use Rattle.std.specs.Prelude.{ℕ};
+ghost use Rattle.slot_history.specs.Calls.{Call, Looking};
+ghost use Rattle.board_rule.specs.Cells.{taking, giving};
+ghost use Rattle.board_rule.specs.Rule.{RunningRule, terms_of};
+ghost use Rattle.board_rule.specs.Steps.{IsCall};
+ghost use Rattle.board_rule.specs.Views.{fresh_view, kept_part, dealt_part, joined, spent};
+
+use crate::view::View;
+use atomic_table::{Join, Play, Split, TableRule};
+use slot_history::shape::Shape;
+use slot_station::station::Fits;
+use std::marker::{Brand, PhantomData};
+use std::snapshot::Snapshot;
+
+/// What the table is told once.
+#[derive(Drop)]
+pub struct About<T> {
+    pub shape: Shape,
+    pub subject: Snapshot<T>,
+}
+
+/// The running rule.
+pub struct Running<B> {
+    cells: PhantomData<B>,
+}
+
+impl<B: Fits> TableRule<Option<B>, View<B::Subject>, About<B::Subject>> for Running<B> {
+    ghost holds = { λ about. RunningRule (terms_of B.total B.fits about) };
+
+    ghost first = { λ about. fresh_view about.shape about.subject.value 0 about.shape.workers };
+}
+
+/// Which call a step is. Who makes the step picks it.
+pub trait Asked {
+    ghost call: { Call };
+}
+
+impl Asked for Brand {
+    ghost call = { Looking };
+}
+
+/// A step that is a call.
+pub struct Calling<K> {
+    call: PhantomData<K>,
+}
+
+impl<K: Asked, B: Fits> Play<Option<B>, View<B::Subject>> for Calling<K> {
+    ghost then = { IsCall B.total K.call };
+}
+
+/// Whose cell is taken. Who takes it picks the worker.
+pub trait Wanted {
+    ghost cell: { ℕ };
+}
+
+impl Wanted for Brand {
+    ghost cell = { 0 };
+}
+
+/// A load that takes a cell.
+pub struct Taking<K> {
+    wanted: PhantomData<K>,
+}
+
+impl<K: Wanted, B: Fits> Play<Option<B>, View<B::Subject>> for Taking<K> {
+    ghost then = { taking B.fits K.cell };
+}
+
+/// A load that gives back the cell that is out.
+pub struct Giving;
+
+impl<B: Fits> Play<Option<B>, View<B::Subject>> for Giving {
+    ghost then = { giving };
+}
+
+/// A load that deals the further numbers to a new seat.
+pub struct Dealing;
+
+impl<T> Split<View<T>> for Dealing {
+    ghost left = { kept_part };
+
+    ghost right = { dealt_part };
+}
+
+/// A load that joins two seats.
+pub struct Meeting;
+
+impl<T> Join<View<T>> for Meeting {
+    ghost both = { joined };
+
+    ghost spent = { spent };
+}

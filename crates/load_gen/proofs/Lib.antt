@@ -1,0 +1,4 @@
+mod DrawsLemmas
+mod LoadsLemmas
+mod ScriptLemmas
+mod TablesLemmas

@@ -1,0 +1,50 @@
+-- Rows across columns that are made number by number.
+use Rattle.std.proofs.Common.{◌≡◌, ℕ, zero, suc, ◌+◌, ◌<◌, ◌≤◌, ℤ, pos, List, [], ◌∷◌, ◌++◌, All, FitsSigned, length, map, of_z, to_z, w64, refl, sym, ap, ◌∙◌, arith, add-one}
+use Rattle.std.specs.Global.{Vec}
+use Rattle.std.proofs.lemmas.Int.{to_z-of_z}
+use Rattle.col_table.specs.Columns.{row_across, rows_across, values_of}
+use Rattle.col_table.specs.NamedRows.{NamedRows}
+use Rattle.load_gen.specs.Draws.{each_below}
+use Rattle.load_gen.proofs.DrawsLemmas.{each_below-more, each_below-zero, get_or-each_below}
+
+-- the columns that are made so
+abbrev pub columns_below : ℕ → List (ℕ → ℤ) → List (List ℤ)
+columns_below count makes = map (each_below count) makes
+
+-- the row at a place
+abbrev pub row_made : List (ℕ → ℤ) → ℕ → List ℤ
+row_made makes place = map (λ make. make place) makes
+
+row_across-columns_below : (count place : ℕ) (makes : List (ℕ → ℤ)) → place < count → row_across (columns_below count makes) place ≡ row_made makes place
+row_across-columns_below count place [] before = refl
+row_across-columns_below count place (make ∷ makes) before =
+    ap (λ first. first ∷ row_across (columns_below count makes) place) (get_or-each_below count make place (pos 0) before)
+    ∙ ap (λ rest. make place ∷ rest) (row_across-columns_below count place makes before)
+
+pub rows_across-columns_below : (count n : ℕ) (makes : List (ℕ → ℤ)) → n ≤ count → rows_across (columns_below count makes) n ≡ each_below n (row_made makes)
+rows_across-columns_below count zero makes within = sym (each_below-zero (row_made makes))
+rows_across-columns_below count (suc n) makes within =
+    ap (λ rows. rows ++ row_across (columns_below count makes) n ∷ []) (rows_across-columns_below count n makes (omega arith))
+    ∙ ap (λ row. each_below n (row_made makes) ++ row ∷ []) (row_across-columns_below count n makes (omega arith))
+    ∙ sym (each_below-more n (row_made makes))
+    ∙ ap (λ m. each_below m (row_made makes)) (add-one n)
+
+-- a table of such columns
+abbrev pub named_rows : List (List ℕ) → List (List ℤ) → NamedRows
+named_rows names rows = record { names = names; rows = rows }
+
+pub made_of_columns : (names wanted : List (List ℕ)) (columns : List (Vec ℤ)) (count : ℕ) (makes : List (ℕ → ℤ)) → names ≡ wanted
+    → values_of columns ≡ columns_below count makes
+    → named_rows names (rows_across (values_of columns) count) ≡ named_rows wanted (each_below count (row_made makes))
+made_of_columns names wanted columns count makes named values =
+    ap (λ names. named_rows names (rows_across (values_of columns) count)) named
+    ∙ ap (named_rows wanted) (ap (λ values. rows_across values count) values ∙ rows_across-columns_below count count makes (omega arith))
+
+-- one more value of a column
+pub pushed_more : (count : ℕ) (made : ℕ → ℤ) (old new : List ℤ) (value : ℤ) → new ≡ old ++ to_z w64 (of_z w64 value) ∷ [] → FitsSigned w64 value
+    → old ≡ each_below count made → value ≡ made count → new ≡ each_below (count + 1) made
+pushed_more count made old new value push fits before here =
+    push
+    ∙ ap (λ last. old ++ last ∷ []) (to_z-of_z w64 value fits ∙ here)
+    ∙ ap (λ values. values ++ made count ∷ []) before
+    ∙ sym (each_below-more count made)

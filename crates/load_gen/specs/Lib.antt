@@ -1,0 +1,5 @@
+pub mod Draws
+pub mod Generated
+pub mod Queries
+pub mod Summaries
+pub mod Tables

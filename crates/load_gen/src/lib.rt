@@ -1,0 +1,25 @@
+//! Large inputs from a number: two tables and a script of 40 queries over them.
+//!
+//! Everything is drawn in one order from one generator, so a number stands for the same input everywhere.
+//! This layer stands on the scripts of `script_json` and the texts of `csv_tables`.
+//!
+//! The one fact that the layers above may use: what is made for a number is the subject that `generated` says,
+//! and a part of it (`make_part`) is its text, which reads back as that part.
+#![tactic(auto)]
+
+mod draws;
+mod generated;
+mod names;
+mod parts;
+mod queries;
+mod summary;
+mod tables;
+
+pub use crate::generated::{Generated, generate};
+pub use crate::parts::{Part, make_part};
+pub use crate::queries::QUERY_COUNT;
+pub use crate::summary::Summary;
+pub use crate::tables::{T_ROWS, U_ROWS};
+
+#[cfg(test)]
+mod tests;

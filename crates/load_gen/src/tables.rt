@@ -1,0 +1,59 @@
+// The two tables of a large input.
+ghost use Rattle.std.specs.Prelude.{◌≡◌, ◌≤◌, ◌*◌, IfOk, OnOk};
+ghost use Rattle.csv_tables.specs.Loading.{LoadsTable};
+ghost use Rattle.csv_tables.specs.Writing.{table_text};
+ghost use Rattle.load_gen.specs.Draws.{state_after};
+ghost use Rattle.load_gen.specs.Tables.{table_t, table_u};
+
+use crate::draws::Draws;
+use crate::names::name;
+use col_table::{MAX_ROWS, Table};
+use std::alloc::{AllocError, Global};
+
+/// The number of rows of the table `t`.
+pub const T_ROWS: u32 = 200_000;
+
+/// The number of rows of the table `u`.
+pub const U_ROWS: u32 = 1_000;
+
+/// A table like `t`: in each row a key below 1,000, a group below 16 and a value from -1,000 to 1,000.
+pub(crate) fn draw_t(alloc: Global, draws: &mut Draws, rows: u32) -> Result<Table, AllocError>
+    requires { rows ≤ MAX_ROWS }
+    ensures table { IfOk result (λ table. table ≡ table_t draws.old rows) }
+    ensures loads { IfOk result (λ table. LoadsTable (table_text table) table) }
+    ensures draws { OnOk result (draws.new ≡ state_after draws.old (3 * rows)) }
+{
+    let mut keys = Vec::with_capacity(alloc, rows as usize)?;
+    let mut groups = Vec::with_capacity(alloc, rows as usize)?;
+    let mut values = Vec::with_capacity(alloc, rows as usize)?;
+    for _ in 0..rows {
+        let key = draws.value_below(1_000);
+        let group = draws.value_below(16);
+        let value = draws.signed();
+        keys.push(key)?;
+        groups.push(group)?;
+        values.push(value)?;
+    }
+    let names = vec![in alloc; name(alloc, "k")?, name(alloc, "g")?, name(alloc, "v")?]?;
+    let columns = vec![in alloc; keys, groups, values]?;
+    Table::from_columns(names, columns, rows).map_err(|_| AllocError)
+}
+
+/// A table like `u`: the keys from 0 on, each once, and with each a weight below 100.
+pub(crate) fn draw_u(alloc: Global, draws: &mut Draws, rows: u32) -> Result<Table, AllocError>
+    requires { rows ≤ MAX_ROWS }
+    ensures table { IfOk result (λ table. table ≡ table_u draws.old rows) }
+    ensures loads { IfOk result (λ table. LoadsTable (table_text table) table) }
+    ensures draws { OnOk result (draws.new ≡ state_after draws.old rows) }
+{
+    let mut keys = Vec::with_capacity(alloc, rows as usize)?;
+    let mut weights = Vec::with_capacity(alloc, rows as usize)?;
+    for row in 0..rows {
+        let weight = draws.value_below(100);
+        keys.push(i64::from(row))?;
+        weights.push(weight)?;
+    }
+    let names = vec![in alloc; name(alloc, "k")?, name(alloc, "w")?]?;
+    let columns = vec![in alloc; keys, weights]?;
+    Table::from_columns(names, columns, rows).map_err(|_| AllocError)
+}

@@ -6,8 +6,8 @@ use std::marker::Model;
 
 /// A generator of numbers that look random. Each draw moves its state one step.
 ///
-/// It is that of Lehmer with the prime modulus 2^31 - 1, and with the multiplier 48,271 that Park, Miller and
-/// Stockmeyer recommended in 1993. Contracts see its state.
+/// It is that of Lehmer with the prime modulus 2^31 - 1, and with the multiplier 48,271 that Park,
+/// Miller and Stockmeyer recommended in 1993. Contracts see its state.
 #[derive(Drop)]
 pub(crate) struct Draws {
     state: u64,

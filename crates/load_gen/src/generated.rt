@@ -20,9 +20,11 @@ pub struct Generated {
     pub tables: ListOf<NamedTable>,
 }
 
-/// The large input of a number: the table `t` of 200,000 rows, the table `u` of 1,000 rows, and 40 queries.
+/// The large input of a number: the table `t` of 200,000 rows, the table `u` of 1,000 rows, and 40
+/// queries.
 ///
-/// It takes time for 601,000 draws and about 5 MB of memory, which is reserved before the rows are drawn.
+/// It takes about 601,000 draws and 5 MB of memory. Each column is reserved before its values are
+/// drawn.
 pub fn generate(alloc: Global, number: u32) -> Result<Generated, AllocError>
     ensures subject { IfOk result (λ made. made ≡ generated number) }
     ensures script { IfOk result (λ made. IsScript made.script) }

@@ -1,10 +1,10 @@
 //! Large inputs from a number: two tables and a script of 40 queries over them.
 //!
-//! Everything is drawn in one order from one generator, so a number stands for the same input everywhere.
+//! Everything is drawn in one order from one generator, so a number always gives the same input.
 //! This layer stands on the scripts of `script_json` and the texts of `csv_tables`.
 //!
-//! The one fact that the layers above may use: what is made for a number is the subject that `generated` says,
-//! and a part of it (`make_part`) is its text, which reads back as that part.
+//! The one fact that the layers above may use: `generate` gives the input that `generated` defines.
+//! `make_part` gives the text of one of its parts, which reads back as that part.
 #![tactic(auto)]
 
 mod draws;

@@ -20,7 +20,8 @@ pub enum Part {
     TableU,
 }
 
-/// The text of a part of the large input of a number: a script in its canonical form, or a table as CSV.
+/// The text of a part of the large input of a number: a script in its canonical form, or a table as
+/// CSV.
 ///
 /// Only that part is made: the draws of what comes before it are passed over.
 pub fn make_part(alloc: Global, number: u32, part: Part) -> Result<Vec<u8>, AllocError>

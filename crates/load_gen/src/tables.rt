@@ -16,7 +16,8 @@ pub const T_ROWS: u32 = 200_000;
 /// The number of rows of the table `u`.
 pub const U_ROWS: u32 = 1_000;
 
-/// A table like `t`: in each row a key below 1,000, a group below 16 and a value from -1,000 to 1,000.
+/// A table like `t`: in each row a key below 1,000, a group below 16 and a value from -1,000 to
+/// 1,000.
 pub(crate) fn draw_t(alloc: Global, draws: &mut Draws, rows: u32) -> Result<Table, AllocError>
     requires { rows ≤ MAX_ROWS }
     ensures table { IfOk result (λ table. table ≡ table_t draws.old rows) }

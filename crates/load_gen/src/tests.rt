@@ -12,7 +12,8 @@ fn has_row(table: &Table, row: u32, values: &[i64]) -> bool {
             .all(|(col, value)| table.value(row, col as u32) == *value)
 }
 
-// The first row and the last of both tables, of four numbers; the first and the third begin with one state.
+// The first row and the last of both tables, of four numbers. The first and the third begin with
+// one state.
 #[test]
 fn draws_tables(rt: HostRuntime) -> Result<(), Fail> {
     for (number, first, last, first_of_u, last_of_u) in [

@@ -1,7 +1,6 @@
-use Rattle.std.proofs.Common.{List, length, ap, ◌∙◌, sym, arith}
+use Rattle.std.proofs.Common.{length, ap, ◌∙◌, sym, arith}
 use Rattle.col_table.specs.NamedRows.{NamedRows}
 use Rattle.plan_ast.specs.Stages.{tuples_of}
-use Rattle.plan_ast.specs.declared.queries.Join.{Join}
 use Rattle.plan_ast.specs.declared.queries.Query.{Query}
 use Rattle.plan_ast.proofs.SideLemmas.{stage_at-merges, stage_at-scans, tuples_of-builds}
 use Rattle.plan_ast.proofs.task_sets.stage_total.Goals as goal

@@ -1,24 +1,23 @@
 -- Queries one after another.
 use Rattle.std.proofs.Common.{◌≡◌, ℕ, ◌+◌, ◌<◌, List, [], ◌∷◌, ◌++◌, length, map, take, get_or, All, Some, sym, ap, ◌∙◌, subst, inl, inr, refl, ◌⊎◌, arith}
 use Rattle.std.specs.List.{enumerate_from}
-use Rattle.std.proofs.lemmas.List.{get_or-map, length-map, length-take-le, map-append, take_more}
+use Rattle.std.proofs.lemmas.List.{length-map, length-take-le, map-append, take_more}
 use Rattle.std.proofs.lemmas.List.Elements.{All-push}
 use Rattle.std.proofs.lemmas.Option.{slice_get-get_or}
-use Rattle.pipe_ops.specs.Built.{IsBuilt}
 use Rattle.plan_ast.specs.Answer.{answer_of}
 use Rattle.plan_ast.specs.Checks.{query_of}
+use Rattle.plan_ast.specs.Names.{refusal_of}
 use Rattle.plan_ast.specs.Subject.{Subject}
 use Rattle.plan_ast.specs.declared.checks.Checked.{Checked}
 use Rattle.plan_ast.specs.declared.queries.NamedTable.{NamedTable}
 use Rattle.plan_ast.specs.declared.queries.Query.{Query}
+use Rattle.plan_ast.specs.declared.refusals.PlanRefusal.{PlanRefusal}
 use Rattle.plan_ast.specs.declared.refusals.PlanRefusal.TheVariants.{UnknownTable, UnknownColumn, OutOfMemory}
 use Rattle.report_text.specs.declared.replies.QueryReply.{QueryReply}
 use Rattle.report_text.specs.declared.replies.Reply.TheVariants.{Answer}
 use Rattle.sched_tool.specs.Behaviours.{replies_of}
-use Rattle.sched_tool.specs.Refusals.{AreQueriesRefused, IsFirstRefused, IsQueryRefused, query_refusal}
+use Rattle.sched_tool.specs.Refusals.{AreQueriesRefused, IsFirstRefused, query_refusal}
 use Rattle.sched_tool.specs.Subjects.{AllAnswerable, IsAnswerable}
-use Rattle.sched_tool.specs.declared.refusal.QueryFault.{QueryFault}
-use Rattle.sched_tool.specs.declared.refusal.QueryFault.TheVariants.{NotBuilt, Refused}
 
 -- the queries checked so far, and the next
 pub same_more : (queries : List Query) (all : List Checked) (checked : Checked) (number : ℕ) (query : Query) → number < length queries
@@ -38,8 +37,8 @@ AllAnswerable-more tables queries number query short is before next =
 
 module _ (subject : Subject) (number : ℕ) (query : Query) (short : number < length subject.queries) (is : query ≡ get_or subject.queries number query)
     (before : AllAnswerable subject.tables (take number subject.queries)) where
-  first_is : (fault : QueryFault) → IsQueryRefused subject.tables query fault → IsFirstRefused subject number fault
-  first_is fault why = record {
+  first_is : (refusal : PlanRefusal) → refusal_of subject.tables query ≡ Some refusal → IsFirstRefused subject number refusal
+  first_is refusal why = record {
     query = query;
     is = slice_get-get_or subject.queries number query short
         ∙ ap (λ v. Some v) (sym is);
@@ -48,24 +47,13 @@ module _ (subject : Subject) (number : ℕ) (query : Query) (short : number < le
   }
 
   -- the first query that is refused
-  pub first_refused : (fault : QueryFault) → ((fault ≡ Refused OutOfMemory) ⊎ IsQueryRefused subject.tables query fault)
-      → AreQueriesRefused subject (query_refusal number fault)
-  first_refused (Refused (UnknownTable name)) (inl e) = absurd (cc)
-  first_refused (Refused (UnknownTable name)) (inr why) = inr (number, Refused (UnknownTable name), refl, first_is (Refused (UnknownTable name)) why)
-  first_refused (Refused (UnknownColumn name)) (inl e) = absurd (cc)
-  first_refused (Refused (UnknownColumn name)) (inr why) = inr (number, Refused (UnknownColumn name), refl, first_is (Refused (UnknownColumn name)) why)
-  first_refused (Refused OutOfMemory) e = inl refl
-  first_refused NotBuilt (inl e) = absurd (cc)
-  first_refused NotBuilt (inr why) = inr (number, NotBuilt, refl, first_is NotBuilt why)
-
--- checked queries have a form that is answered if their queries can be answered
-pub AllBuilt : (tables : List NamedTable) (all : List Checked) (queries : List Query) → map query_of all ≡ queries → AllAnswerable tables queries
-    → All (λ c. IsBuilt (query_of c)) all
-AllBuilt tables all queries same answerable k d short =
-    let count : length all ≡ length queries = sym (length-map all query_of) ∙ ap length same in
-    let at : get_or queries k (query_of d) ≡ query_of (get_or all k d) = ap (λ v. get_or v k (query_of d)) (sym same)
-    ∙ get_or-map query_of all k d (query_of d) short in
-    subst IsBuilt at (answerable k (query_of d) (omega arith)).built
+  pub first_refused : (refusal : PlanRefusal) → ((refusal ≡ OutOfMemory) ⊎ (refusal_of subject.tables query ≡ Some refusal))
+      → AreQueriesRefused subject (query_refusal number refusal)
+  first_refused (UnknownTable name) (inl e) = absurd (cc)
+  first_refused (UnknownTable name) (inr why) = inr (number, UnknownTable name, refl, first_is (UnknownTable name) why)
+  first_refused (UnknownColumn name) (inl e) = absurd (cc)
+  first_refused (UnknownColumn name) (inr why) = inr (number, UnknownColumn name, refl, first_is (UnknownColumn name) why)
+  first_refused OutOfMemory e = inl refl
 
 -- one more query is numbered by the count of those before it
 enumerate_from-push : {X : Type 0} (n : ℕ) (xs : List X) (x : X) → enumerate_from n (xs ++ x ∷ []) ≡ enumerate_from n xs ++ (n + length xs, x) ∷ []

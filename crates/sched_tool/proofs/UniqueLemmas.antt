@@ -12,7 +12,7 @@ use Rattle.plan_ast.specs.declared.queries.NamedTable.{NamedTable}
 use Rattle.sched_tool.proofs.OutsideLemmas.{SameFiles, SameFiles-swap}
 use Rattle.sched_tool.proofs.ReadersLemmas.{loaded_not_refused, one_script, one_script_refusal, one_table_refusal, read_not_refused}
 use Rattle.sched_tool.specs.Outsides.{Contents}
-use Rattle.sched_tool.specs.Refusals.{IsCheckRefused, IsFirstRefused, IsQueryRefused, IsScriptRefused, IsTableRefused}
+use Rattle.sched_tool.specs.Refusals.{IsCheckRefused, IsFirstRefused, IsScriptRefused, IsTableRefused}
 use Rattle.script_json.specs.Scripts.{ReadsScript, RefusesScript}
 use Rattle.sched_tool.specs.Subjects.{AllAnswerable, Holds, HoldsScript, HoldsSubject, HoldsTable, HoldsTooMuch, HoldTables, IsAccepted, IsAnswerable}
 use Rattle.sched_tool.specs.Writing.{IsFinding}
@@ -21,37 +21,31 @@ use Rattle.script_json.specs.declared.script.TableEntry.{TableEntry}
 use Rattle.sched_tool.specs.declared.refusal.Refusal.{Refusal}
 use Rattle.sched_tool.specs.declared.refusal.Refusal.TheVariants.{Usage, CannotRead, Script as ScriptRefused, Table, OutOfMemory}
 use Rattle.plan_ast.specs.declared.queries.Query.{Query}
-use Rattle.sched_tool.specs.declared.refusal.QueryFault.{QueryFault}
-use Rattle.sched_tool.specs.declared.refusal.QueryFault.TheVariants.{NotBuilt, Refused}
+use Rattle.plan_ast.specs.declared.refusals.PlanRefusal.{PlanRefusal}
 use Rattle.sched_tool.specs.declared.refusal.ScriptFault.{ScriptFault}
 use Rattle.sched_tool.specs.declared.refusal.ScriptFault.TheVariants as script_fault
 use Rattle.sched_tool.specs.declared.refusal.TableFault.{TableFault}
 use Rattle.sched_tool.specs.declared.refusal.TableFault.TheVariants as table_fault
 
 -- an accepted subject has no query that is refused
-answerable_not_refused : (tables : List NamedTable) (query : Query) (fault : QueryFault) → IsAnswerable tables query → IsQueryRefused tables query fault → ⊥
-answerable_not_refused tables query (Refused r) can why =
-    let none : refusal_of tables query ≡ None = can.found in
-    let some : refusal_of tables query ≡ Some r = why in
-    cc
-answerable_not_refused tables query NotBuilt can why = why.1 can.built
+answerable_not_refused : (tables : List NamedTable) (query : Query) (refusal : PlanRefusal) → IsAnswerable tables query
+    → refusal_of tables query ≡ Some refusal → ⊥
+answerable_not_refused tables query refusal can why = let e : None ≡ Some refusal = sym can ∙ why in absurd cc
 
-found_not_refused : (subject : Subject) (number : ℕ) (fault : QueryFault) → AllAnswerable subject.tables subject.queries → IsFirstRefused subject number fault
-    → ⊥
-found_not_refused subject number fault all first =
+found_not_refused : (subject : Subject) (number : ℕ) (refusal : PlanRefusal) → AllAnswerable subject.tables subject.queries
+    → IsFirstRefused subject number refusal → ⊥
+found_not_refused subject number refusal all first =
     let within = slice_get_within subject.queries number first.query first.is in
     let at : get_or subject.queries number first.query ≡ first.query = get_or_from_slice_get subject.queries number first.query first.query first.is in
-    answerable_not_refused subject.tables first.query fault (subst (IsAnswerable subject.tables) at (all number first.query within)) first.refused
+    answerable_not_refused subject.tables first.query refusal (subst (IsAnswerable subject.tables) at (all number first.query within)) first.refused
 
 -- a query can't be answered for one reason
-same_query_fault : (tables : List NamedTable) (query : Query) (f g : QueryFault) → IsQueryRefused tables query f → IsQueryRefused tables query g → f ≡ g
-same_query_fault tables query (Refused r) (Refused s) x y = let e : Some r ≡ Some s = sym x ∙ y in cc
-same_query_fault tables query (Refused r) NotBuilt x y = let e : Some r ≡ None = sym x ∙ y.0 in absurd cc
-same_query_fault tables query NotBuilt (Refused s) x y = let e : Some s ≡ None = sym y ∙ x.0 in absurd cc
-same_query_fault tables query NotBuilt NotBuilt x y = refl
+same_query_refusal : (tables : List NamedTable) (query : Query) (f g : PlanRefusal) → refusal_of tables query ≡ Some f → refusal_of tables query ≡ Some g
+    → f ≡ g
+same_query_refusal tables query f g x y = let e : Some f ≡ Some g = sym x ∙ y in cc
 
 -- no query before the first that is refused is refused
-not_before : (subject : Subject) (n m : ℕ) (f g : QueryFault) → n < m → IsFirstRefused subject n f → IsFirstRefused subject m g → ⊥
+not_before : (subject : Subject) (n m : ℕ) (f g : PlanRefusal) → n < m → IsFirstRefused subject n f → IsFirstRefused subject m g → ⊥
 not_before subject n m f g before x y =
     let within = slice_get_within subject.queries m y.query y.is in
     let count : length (take m subject.queries) ≡ m = length-take-le m subject.queries (omega arith) in
@@ -60,17 +54,17 @@ not_before subject n m f g before x y =
     let answerable = subst (IsAnswerable subject.tables) (taken ∙ at) (y.first n x.query (omega arith)) in
     answerable_not_refused subject.tables x.query f answerable x.refused
 
-one_place : (subject : Subject) (n m : ℕ) (f g : QueryFault) → n ≡ m → IsFirstRefused subject n f → IsFirstRefused subject m g
+one_place : (subject : Subject) (n m : ℕ) (f g : PlanRefusal) → n ≡ m → IsFirstRefused subject n f → IsFirstRefused subject m g
     → script_fault.Query n f ≡ script_fault.Query m g
 one_place subject n m f g same x y =
     let here : slice_get subject.queries m ≡ Some x.query = subst (λ k. slice_get subject.queries k ≡ Some x.query) same x.is in
     let both : Some x.query ≡ Some y.query = sym here ∙ y.is in
     let query : x.query ≡ y.query = cc in
-    let fault = same_query_fault subject.tables y.query f g (subst (λ q. IsQueryRefused subject.tables q f) query x.refused) y.refused in
+    let fault = same_query_refusal subject.tables y.query f g (subst (λ q. refusal_of subject.tables q ≡ Some f) query x.refused) y.refused in
     λ i. script_fault.Query (same i) (fault i)
 
 -- one query is the first that is refused, for one reason
-one_first : (subject : Subject) (n m : ℕ) (f g : QueryFault) → IsFirstRefused subject n f → IsFirstRefused subject m g
+one_first : (subject : Subject) (n m : ℕ) (f g : PlanRefusal) → IsFirstRefused subject n f → IsFirstRefused subject m g
     → script_fault.Query n f ≡ script_fault.Query m g
 one_first subject n m f g x y =
     elim (cases_lt n m) [
@@ -144,7 +138,7 @@ module _ (a b : Contents) (agree : SameFiles a b) where
 
   -- a script that is read isn't refused before its queries are
   script_not_unread : (file : List ℕ) (script : Script) (fault : ScriptFault) → HoldsScript a file script → IsScriptRefused b file fault
-      → (subject : Subject) × HoldsSubject b file subject × ((number : ℕ) × (r : QueryFault) × (fault ≡ script_fault.Query number r)
+      → (subject : Subject) × HoldsSubject b file subject × ((number : ℕ) × (r : PlanRefusal) × (fault ≡ script_fault.Query number r)
       × IsFirstRefused subject number r)
   script_not_unread file script script_fault.TooLong x y = absurd (not_too_much file (λ bytes. ReadsScript bytes script) x y)
   script_not_unread file script (script_fault.Unread r) x y =

@@ -8,7 +8,7 @@ use Rattle.sched_tool.specs.declared.program.Ended.{Ended}
 abbrev pub end_status : Ended → ℕ
 end_status ended = ended.status
 
--- the words that the process was given; none if they are not text, or were not to be had
+-- the words that the process was given; none if they are not text or could not be read
 abbrev pub words_in : Result (Vec (String Global) Global) Error → List (String Global)
 words_in (Ok words) = words.items
 words_in (Err error) = []

@@ -1,20 +1,17 @@
 -- Why a script, its tables and its queries are refused.
-use Rattle.std.specs.Prelude.{◌≡◌, ◌≢◌, ◌⊎◌, ℕ, List, take, Some, None, slice_get}
+use Rattle.std.specs.Prelude.{◌≡◌, ◌≢◌, ◌⊎◌, ℕ, List, take, Some, slice_get}
 use Rattle.csv_tables.specs.Refusals.{RefusesTable}
 use Rattle.csv_tables.specs.declared.refusal.TableRefusal.TheVariants as table
-use Rattle.pipe_ops.specs.Built.{IsBuilt}
 use Rattle.plan_ast.specs.Names.{refusal_of}
 use Rattle.plan_ast.specs.Subject.{Subject}
-use Rattle.plan_ast.specs.declared.queries.NamedTable.{NamedTable}
 use Rattle.plan_ast.specs.declared.queries.Query.{Query}
+use Rattle.plan_ast.specs.declared.refusals.PlanRefusal.{PlanRefusal}
 use Rattle.plan_ast.specs.declared.refusals.PlanRefusal.TheVariants as plan
 use Rattle.sched_tool.specs.Outsides.{Contents}
 use Rattle.script_json.specs.Scripts.{RefusesScript}
 use Rattle.sched_tool.specs.Subjects.{AllAnswerable, Holds, HoldsSubject, HoldsTooMuch, IsNext, IsNextTable, IsRead}
 use Rattle.script_json.specs.declared.refusal.ScriptRefusal.TheVariants as script
 use Rattle.script_json.specs.declared.script.TableEntry.{TableEntry}
-use Rattle.sched_tool.specs.declared.refusal.QueryFault.{QueryFault}
-use Rattle.sched_tool.specs.declared.refusal.QueryFault.TheVariants as query_fault
 use Rattle.sched_tool.specs.declared.refusal.ScriptFault.{ScriptFault}
 use Rattle.sched_tool.specs.declared.refusal.ScriptFault.TheVariants as script_fault
 use Rattle.sched_tool.specs.declared.refusal.TableFault.{TableFault}
@@ -22,17 +19,11 @@ use Rattle.sched_tool.specs.declared.refusal.TableFault.TheVariants as table_fau
 use Rattle.sched_tool.specs.declared.refusal.Refusal.{Refusal}
 use Rattle.sched_tool.specs.declared.refusal.Refusal.TheVariants.{Usage, CannotRead, Script, Table, OutOfMemory}
 
--- why a query can't be answered: a name in it isn't there, or else its form isn't answered yet
-abbrev pub IsQueryRefused : List NamedTable → Query → QueryFault → Type 0
-IsQueryRefused tables query (query_fault.Refused refusal) = refusal_of tables query ≡ Some refusal
-IsQueryRefused tables query query_fault.NotBuilt =
-    (refusal_of tables query ≡ None) × ¬ (IsBuilt query)
-
 -- the first query that can't be answered has this number, and this is why
-pub record IsFirstRefused (subject : Subject) (number : ℕ) (fault : QueryFault) : Type 0 where
+pub record IsFirstRefused (subject : Subject) (number : ℕ) (refusal : PlanRefusal) : Type 0 where
   pub query : Query
   pub is : slice_get subject.queries number ≡ Some query
-  pub refused : IsQueryRefused subject.tables query fault
+  pub refused : refusal_of subject.tables query ≡ Some refusal
   pub first : AllAnswerable subject.tables (take number subject.queries)
 
 -- why the script in a file is refused; that memory ran out is no cause
@@ -40,8 +31,8 @@ abbrev pub IsScriptRefused : Contents → List ℕ → ScriptFault → Type 0
 IsScriptRefused holds file script_fault.TooLong = HoldsTooMuch holds file
 IsScriptRefused holds file (script_fault.Unread refusal) =
     (refusal ≢ script.OutOfMemory) × Holds holds file (λ bytes. RefusesScript bytes refusal)
-IsScriptRefused holds file (script_fault.Query number fault) =
-    (subject : Subject) × HoldsSubject holds file subject × IsFirstRefused subject number fault
+IsScriptRefused holds file (script_fault.Query number refusal) =
+    (subject : Subject) × HoldsSubject holds file subject × IsFirstRefused subject number refusal
 
 -- why the table in a file is refused; that memory ran out is no cause
 abbrev pub IsTableRefused : Contents → List ℕ → TableFault → Type 0
@@ -75,16 +66,15 @@ AreTablesRefused holds entries refusal = (refusal ≡ OutOfMemory)
     ⊎ ((entry : TableEntry) × IsNext holds entries entry × IsEntryRefused holds entry refusal)
 
 -- the refusal of `check` that a refused query brings
-abbrev pub query_refusal : ℕ → QueryFault → Refusal
-query_refusal number (query_fault.Refused plan.OutOfMemory) = OutOfMemory
-query_refusal number (query_fault.Refused (plan.UnknownTable name)) =
-    Script (script_fault.Query number (query_fault.Refused (plan.UnknownTable name)))
-query_refusal number (query_fault.Refused (plan.UnknownColumn name)) =
-    Script (script_fault.Query number (query_fault.Refused (plan.UnknownColumn name)))
-query_refusal number query_fault.NotBuilt = Script (script_fault.Query number query_fault.NotBuilt)
+abbrev pub query_refusal : ℕ → PlanRefusal → Refusal
+query_refusal number plan.OutOfMemory = OutOfMemory
+query_refusal number (plan.UnknownTable name) =
+    Script (script_fault.Query number (plan.UnknownTable name))
+query_refusal number (plan.UnknownColumn name) =
+    Script (script_fault.Query number (plan.UnknownColumn name))
 
 -- why the queries of a subject are refused: the first that is, or memory ran out
 abbrev pub AreQueriesRefused : Subject → Refusal → Type 0
 AreQueriesRefused subject refusal = (refusal ≡ OutOfMemory)
-    ⊎ ((number : ℕ) × (fault : QueryFault) × (refusal ≡ Script (script_fault.Query number fault))
-    × IsFirstRefused subject number fault)
+    ⊎ ((number : ℕ) × (cause : PlanRefusal) × (refusal ≡ Script (script_fault.Query number cause))
+    × IsFirstRefused subject number cause)

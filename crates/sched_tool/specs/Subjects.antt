@@ -1,7 +1,6 @@
 -- Scripts and tables in files: which subject a script is, and which files are read.
 use Rattle.std.specs.Prelude.{◌≡◌, ◌≤◌, ◌<◌, ◌⊎◌, ℕ, List, [], ◌∷◌, ◌++◌, length, All, None}
 use Rattle.csv_tables.specs.Loading.{LoadsTable}
-use Rattle.pipe_ops.specs.Built.{IsBuilt}
 use Rattle.plan_ast.specs.Names.{refusal_of}
 use Rattle.plan_ast.specs.Subject.{Subject}
 use Rattle.plan_ast.specs.declared.queries.NamedTable.{NamedTable}
@@ -49,10 +48,9 @@ pub record HoldsSubject (holds : Contents) (file : List ℕ) (subject : Subject)
   pub tables : HoldTables holds script.tables subject.tables
   pub queries : subject.queries ≡ script.queries
 
--- a query can be answered over tables: each name in it is there, and it has a form that is answered
-pub record IsAnswerable (tables : List NamedTable) (query : Query) : Type 0 where
-  pub found : refusal_of tables query ≡ None
-  pub built : IsBuilt query
+-- a query can be answered over tables: each name in it is there
+abbrev pub IsAnswerable : List NamedTable → Query → Type 0
+IsAnswerable tables query = refusal_of tables query ≡ None
 
 abbrev pub AllAnswerable : List NamedTable → List Query → Type 0
 AllAnswerable tables queries = All (IsAnswerable tables) queries

@@ -1,19 +1,18 @@
 //! The command `check`: the answers to the queries of a script, one after another.
-ghost use Rattle.std.specs.Prelude.{◌≡◌, ◌≤◌, ◌⊎◌, ℕ, List, All, IfErr, IfOk, OnOk, length, map};
-ghost use Rattle.pipe_ops.specs.Built.{IsBuilt};
+ghost use Rattle.std.specs.Prelude.{◌≡◌, ◌≤◌, ℕ, List, All, IfErr, IfOk, OnOk, length, map};
 ghost use Rattle.plan_ast.specs.Bounds.{IsInBounds};
 ghost use Rattle.plan_ast.specs.Checks.{IsCheckedFor, query_of};
 ghost use Rattle.sched_tool.specs.Behaviours.{OneAnswer, check_behaviour, check_text, replies_of};
 ghost use Rattle.sched_tool.specs.Commands.{Gives, GivesUp};
 ghost use Rattle.sched_tool.specs.Outsides.{may_hold};
-ghost use Rattle.sched_tool.specs.Refusals.{AreQueriesRefused, IsQueryRefused, query_refusal};
-ghost use Rattle.sched_tool.specs.Subjects.{AllAnswerable, IsAnswerable};
+ghost use Rattle.sched_tool.specs.Refusals.{AreQueriesRefused, query_refusal};
+ghost use Rattle.sched_tool.specs.Subjects.{AllAnswerable};
 
 use super::output::Output;
-use super::refusal::{QueryFault, Refusal, ScriptFault};
+use super::refusal::{Refusal, ScriptFault};
 use super::subject::{open_script, open_tables};
 use outside_io::Files;
-use pipe_ops::{is_built, plain_answer};
+use pipe_ops::plain_answer;
 use plan_ast::{Checked, NamedTable, PlanRefusal, Query, check};
 use report_text::{QueryReply, Reply, answers_text};
 use script_json::Script;
@@ -60,44 +59,27 @@ fn check_queries(
 {
     let mut all = Vec::with_capacity(alloc, queries.len())?;
     for (number, query) in queries.iter().enumerate() {
-        match check_query(alloc, tables, query) {
+        match check(alloc, query, tables) {
             Ok(checked) => all.push(checked)?,
-            Err(fault) => return Err(refusal_of_query(number as u32, fault)),
+            Err(refusal) => return Err(refusal_of_query(number as u32, refusal)),
         }
     }
     Ok(all)
 }
 
-// Checks a query against the tables: first its names, and then whether its form is answered.
-fn check_query(alloc: Global, tables: &[NamedTable], query: &Query) -> Result<Checked, QueryFault>
-    requires { IsInBounds query.now }
-    ensures same_query { IfOk result (λ checked. query_of checked ≡ query.now) }
-    ensures placed { IfOk result (IsCheckedFor tables.now) }
-    ensures answerable { OnOk result (IsAnswerable tables.now query.now) }
-    ensures refused { IfErr result (λ fault. (fault ≡ QueryFault.Refused PlanRefusal.OutOfMemory)
-        ⊎ IsQueryRefused tables.now query.now fault) }
-{
-    match check(alloc, query, tables) {
-        Ok(checked) if is_built(query) => Ok(checked),
-        Ok(_) => Err(QueryFault::NotBuilt),
-        Err(refusal) => Err(QueryFault::Refused(refusal)),
-    }
-}
-
 // The refusal of `check` that a refused query brings.
-fn refusal_of_query(number: u32, fault: QueryFault) -> Refusal
-    ensures { result ≡ query_refusal number fault }
+fn refusal_of_query(number: u32, refusal: PlanRefusal) -> Refusal
+    ensures { result ≡ query_refusal number refusal }
 {
-    match fault {
-        QueryFault::Refused(PlanRefusal::OutOfMemory) => Refusal::OutOfMemory,
-        fault => Refusal::Script(ScriptFault::Query { number, fault }),
+    match refusal {
+        PlanRefusal::OutOfMemory => Refusal::OutOfMemory,
+        refusal => Refusal::Script(ScriptFault::Query { number, refusal }),
     }
 }
 
 // Answers each query, and writes the answers out.
 fn text_of(alloc: Global, tables: &[NamedTable], checked: &[Checked]) -> Result<Vec<u8>, AllocError>
     requires placed { All (IsCheckedFor tables.now) checked.now }
-    requires built { All (λ c. IsBuilt (query_of c)) checked.now }
     requires few { length checked.now ≤ 4096 }
     ensures { IfOk result (λ text. text.items
         ≡ check_text (record { tables = tables.now; queries = map query_of checked.now })) }
@@ -115,7 +97,6 @@ fn answer_queries(
     checked: &[Checked],
 ) -> Result<Vec<QueryReply>, AllocError>
     requires placed { All (IsCheckedFor tables.now) checked.now }
-    requires built { All (λ c. IsBuilt (query_of c)) checked.now }
     requires few { length checked.now ≤ 4096 }
     ensures { IfOk result (λ replies. replies.items
         ≡ replies_of (record { tables = tables.now; queries = map query_of checked.now })) }

@@ -22,7 +22,7 @@ use std::alloc::{AllocError, Global};
 
 /// Does what the words after the program's name ask for, writes one text, and answers the status
 /// that the program ends with. `check` reads the script and its tables, and writes the answers to
-/// its queries. It takes no time from the meter.
+/// its queries. It does not use the meter.
 ///
 /// The first refusal in this order is written, as its line, in place of all else: the words are
 /// outside the grammar (2); the script can't be read (3) or is refused (5); table by table in the

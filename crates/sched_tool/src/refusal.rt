@@ -14,17 +14,8 @@ pub enum ScriptFault {
     TooLong,
     /// The bytes are no script. Memory is never the reason.
     Unread(ScriptRefusal),
-    /// The query of this number, counted from 0, can't be answered. Memory is never the reason.
-    Query { number: u32, fault: QueryFault },
-}
-
-/// Why a query can't be answered.
-#[derive(Debug, Drop)]
-pub enum QueryFault {
-    /// A name in it isn't there.
-    Refused(PlanRefusal),
-    /// Its form isn't answered yet.
-    NotBuilt,
+    /// A name in the query of this number, counted from 0, isn't there. Memory is never the reason.
+    Query { number: u32, refusal: PlanRefusal },
 }
 
 /// Why a table is refused.

@@ -194,6 +194,41 @@ fn answers_joins(rt: HostRuntime) -> Result<(), Fail> {
 }
 
 #[test]
+fn answers_groups(rt: HostRuntime) -> Result<(), Fail> {
+    let cases = [
+        (
+            r#"{"scan":"t","output":{"groups":{"by":["k"],
+                "aggs":[{"fn":"sum","col":"v"},{"fn":"count"}]}}}"#,
+            TABLE,
+            "query 0 lines 2\ngroup 1: 30,2\ngroup 2: 5,1\nend\n",
+        ),
+        (
+            r#"{"scan":"t","joins":[{"table":"u","left":"k","right":"k"}],
+                "output":{"groups":{"by":["k",[1,"w"]],
+                "aggs":[{"fn":"count"},{"fn":"max","col":"v"}]}}}"#,
+            TABLE,
+            "query 0 lines 3\ngroup 1,7: 2,20\ngroup 2,8: 1,5\ngroup 2,9: 1,5\nend\n",
+        ),
+        (
+            r#"{"scan":"t","joins":[{"table":"u","left":"k","right":"k"},
+                {"table":"x","left":[1,"w"],"right":"w"}],"output":{"groups":{"by":[[2,"z"]],
+                "aggs":[{"fn":"min","col":[1,"w"]},{"fn":"sum","col":"v"}]}}}"#,
+            TABLE,
+            "query 0 lines 4\ngroup 100: 7,30\ngroup 200: 8,5\ngroup 300: 8,5\n\
+            group 400: 9,5\nend\n",
+        ),
+        // A group exists only if a row has it.
+        (
+            r#"{"scan":"t","where":[{"col":"k","op":"=","value":9}],
+                "output":{"groups":{"by":["v"],"aggs":[{"fn":"count"}]}}}"#,
+            TABLE,
+            "query 0 lines 0\nend\n",
+        ),
+    ];
+    answers(&rt, &cases)
+}
+
+#[test]
 fn refuses_scripts(rt: HostRuntime) -> Result<(), Fail> {
     let cases = [
         (r#"{"version":1,"quer"#, "not json"),
@@ -240,9 +275,8 @@ fn refuses_queries(rt: HostRuntime) -> Result<(), Fail> {
             "query 1: after too large",
         ),
         (
-            r#"{"scan":"t","output":{"groups":{"by":["k"],"aggs":[{"fn":"count"}]}}},
-                {"scan":"y","output":{"rows":["k"]}}"#,
-            "query 0: not built",
+            r#"{"scan":"t","output":{"groups":{"by":["k","z"],"aggs":[{"fn":"count"}]}}}"#,
+            "query 0: unknown column z",
         ),
         (
             r#"{"scan":"t","joins":[{"table":"t","left":"k","right":"z"}],
@@ -250,9 +284,9 @@ fn refuses_queries(rt: HostRuntime) -> Result<(), Fail> {
             "query 0: unknown column z",
         ),
         (
-            r#"{"scan":"t","output":{"rows":["k"]}},
-                {"scan":"t","output":{"groups":{"by":["k"],"aggs":[{"fn":"count"}]}}}"#,
-            "query 1: not built",
+            r#"{"scan":"t","output":{"groups":{"by":["k"],"aggs":[{"fn":"count"}]}}},
+                {"scan":"y","output":{"rows":["k"]}}"#,
+            "query 1: unknown table y",
         ),
     ];
     for (queries, cause) in cases {

@@ -11,8 +11,8 @@ pub enum Command<'a> {
 }
 
 /// Reads the words after the program's name: `check` and a file, which has at least one byte and is
-/// `-` or does not begin with `-`. All other lists of words are outside the grammar. It takes no
-/// memory.
+/// `-` or does not begin with `-`. All other lists of words are outside the grammar. It never
+/// allocates.
 pub fn read_words(words: &[String]) -> Option<Command<'_>>
     ensures { MatchOption result (asked words.now ≡ None)
         (λ command. asked words.now ≡ Some (asked_by command)) }

@@ -1,5 +1,4 @@
-use Rattle.std.proofs.Common.{◌<◌, ◌≡◌, ◌++◌, ◌∷◌, [], ap, length, subst, sym, ◌∙◌, arith}
-use Rattle.pipe_ops.specs.Built.{IsBuilt}
+use Rattle.std.proofs.Common.{◌<◌, ◌≡◌, ◌++◌, ◌∷◌, [], ap, length, ◌∙◌, arith}
 use Rattle.plan_ast.specs.Answer.{answer_of}
 use Rattle.plan_ast.specs.Checks.{query_of}
 use Rattle.plan_ast.specs.declared.answers.Answer.{Answer}
@@ -7,11 +6,6 @@ use Rattle.report_text.specs.declared.replies.QueryReply.{QueryReply}
 use Rattle.report_text.specs.declared.replies.Reply.TheVariants as reply
 use Rattle.sched_tool.proofs.QueriesLemmas.{replies_of-more}
 use Rattle.sched_tool.proofs.check.answer_queries.Goals as goal
-
-pub plain_answer-requires-clause-built : goal.plain_answer-requires-clause-built
-plain_answer-requires-clause-built c =
-    let lt : c.loop-query.query < length c.args.checked.now = omega arith in
-    subst (λ checked. IsBuilt (query_of checked)) (sym c.index-checked-query.is) (c.requires.built c.loop-query.query c.index-checked-query.result lt)
 
 pub loop-query-preserved : goal.loop-query-preserved
 loop-query-preserved c =

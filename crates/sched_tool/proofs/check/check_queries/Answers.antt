@@ -6,8 +6,8 @@ use Rattle.sched_tool.specs.Refusals.{AreQueriesRefused}
 use Rattle.sched_tool.proofs.QueriesLemmas.{AllAnswerable-more, first_refused, same_more}
 use Rattle.sched_tool.proofs.check.check_queries.Goals as goal
 
-pub check_query-requires : goal.check_query-requires
-check_query-requires c =
+pub check-requires : goal.check-requires
+check-requires c =
     let lt : c.loop-number.number < length c.args.queries.now = omega arith in
     subst IsInBounds (sym c.index-queries-number.is) (c.requires.in_bounds c.loop-number.number c.index-queries-number.result lt)
 
@@ -17,7 +17,7 @@ returns-in-Err-clause-err c =
     subst (AreQueriesRefused (record { tables = c.args.tables.now; queries = c.args.queries.now })) (sym c.refusal_of_query.ensures)
     (first_refused
     (record { tables = c.args.tables.now; queries = c.args.queries.now }) c.loop-number.number c.index-queries-number.result lt c.index-queries-number.is
-    c.loop-number.invariant.answerable c.in-Err.fault c.in-Err.ensures.refused)
+    c.loop-number.invariant.answerable c.in-Err.refusal c.in-Err.ensures.refused)
 
 pub loop-number-preserved : goal.loop-number-preserved
 loop-number-preserved c =
@@ -28,5 +28,5 @@ loop-number-preserved c =
           c.index-queries-number.is c.loop-number.invariant.same c.in-Ok.ensures.same_query;
       placed = All-push (IsCheckedFor c.args.tables.now) c.loop-number.all.items c.in-Ok.checked c.loop-number.invariant.placed c.in-Ok.ensures.placed;
       answerable = AllAnswerable-more c.args.tables.now c.args.queries.now c.loop-number.number c.index-queries-number.result lt c.index-queries-number.is
-          c.loop-number.invariant.answerable c.in-Ok.ensures.answerable;
+          c.loop-number.invariant.answerable c.in-Ok.ensures.accepted;
     }

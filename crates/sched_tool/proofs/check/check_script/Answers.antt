@@ -6,7 +6,6 @@ use Rattle.sched_tool.specs.Outsides.{may_hold}
 use Rattle.sched_tool.specs.ReadFaults.{FaultsAt}
 use Rattle.sched_tool.specs.Refusals.{AreTablesRefused}
 use Rattle.sched_tool.specs.Subjects.{AllAnswerable, HoldsSubject, HoldTables}
-use Rattle.sched_tool.proofs.QueriesLemmas.{AllBuilt}
 use Rattle.sched_tool.proofs.RefusalLemmas.{FaultsAt-queries, queries_refused, tables_refused}
 use Rattle.sched_tool.proofs.SubjectsLemmas.{same_content}
 use Rattle.sched_tool.proofs.check.check_script.Goals as goal
@@ -15,11 +14,6 @@ pub text_of-requires-clause-placed : goal.text_of-requires-clause-placed
 text_of-requires-clause-placed g c =
     let tables : c.as_slice-3.result.now ≡ c.as_slice.result.now = c.as_slice-3.ensures.value ∙ sym c.as_slice.ensures.value in
     rw (tables, c.as_slice-4.ensures.value) c.in_ok-checked.ensures.placed
-
-pub text_of-requires-clause-built : goal.text_of-requires-clause-built
-text_of-requires-clause-built g c =
-    rw c.as_slice-4.ensures.value
-    (AllBuilt c.as_slice.result.now c.in_ok-checked.checked.items c.as_slice-2.result.now c.in_ok-checked.ensures.same c.in_ok-checked.ensures.answerable)
 
 pub returns-in_err-tables-2-clause-err : goal.returns-in_err-tables-2-clause-err
 returns-in_err-tables-2-clause-err g c =

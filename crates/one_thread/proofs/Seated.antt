@@ -1,10 +1,7 @@
 -- A call over a seat of a table.
-use Rattle.std.proofs.Common.{◌≡◌, ℕ, ◌+◌, ◌<◌, IsSome, true, false, cond, ◌&&◌, List, ◌∷◌, All, Option, Some, None, slice_get, refl, sym, ap, ap₂, ◌∙◌, subst, eq-eqb}
-use Rattle.std.proofs.lemmas.List.Elements.{All-cons}
+use Rattle.std.proofs.Common.{◌≡◌, ℕ, ◌+◌, ◌<◌, ◌≤◌, IsSome, true, false, cond, ◌&&◌, List, ◌∷◌, All, Option, Some, None, slice_get, refl, sym, ap, ap₂, ◌∙◌, subst, eq-eqb}
 use Rattle.std.proofs.lemmas.Option.{get_or_from_slice_get, slice_get_within}
-use mathlib.Core.Logic.{∥∥₁_map}
 use Rattle.slot_history.specs.declared.shape.Shape.{Shape}
-use Rattle.slot_history.specs.Bounds.{IsShape}
 use Rattle.slot_history.specs.declared.act.Act.{Act}
 use Rattle.slot_history.specs.declared.act.Act.TheVariants.{Install, Release, Announce}
 use Rattle.slot_history.specs.declared.act.Entry.{Entry}
@@ -13,6 +10,7 @@ use Rattle.slot_history.specs.declared.place.Place.TheVariants.{Free, Announcing
 use Rattle.slot_history.specs.States.{held_at, slot_of}
 use Rattle.slot_history.specs.Steps.{moved}
 use Rattle.slot_history.specs.Allowed.{IsReady}
+use Rattle.slot_history.specs.Calls.{Call, MayAt}
 use Rattle.slot_history.specs.Histories.{IsLegal, IsOfTotals, Called, entry, place_of}
 use Rattle.slot_history.proofs.Sets.{upd-same}
 use Rattle.slot_history.proofs.Own.{place-mine}
@@ -46,14 +44,14 @@ use Rattle.one_thread.specs.declared.table.OneTable.TheInside.{Inside}
 use Rattle.slot_station.specs.Cells.{has_cell, noted}
 use Rattle.slot_station.specs.Replies.{look_act, leave_act, claim_act, shut_act, mark_act, sweep_act, pay_act, reserve_act, admit_act}
 use Rattle.slot_station.specs.Desks.{Desk, Seen, own_place, own_holding, AllNoted, KeptOwn, Makes}
-use Rattle.slot_station.specs.Log.{calls_of, note_in, call, who}
+use Rattle.slot_station.specs.Log.{calls_of, note_in, call}
 use Rattle.one_thread.specs.Tables.{TableStory, IsTableKept}
-use Rattle.one_thread.specs.Stories.{Story, MakesCall, place_in, state_in}
+use Rattle.one_thread.specs.Stories.{Story, MayMake, MakesCall, place_in, state_in}
 use Rattle.slot_station.specs.Tokens.{IsAnnouncer, IsDone, last_opened}
 use Rattle.slot_station.proofs.TokensKept.{announcer-opened}
-use Rattle.one_thread.specs.Seats.{IsSince, desk_over, trail_in, seen_by, shown_by}
+use Rattle.one_thread.specs.Seats.{desk_over, trail_in, seen_by, shown_by}
 use Rattle.one_thread.proofs.Trails.{own-trail, place-trail, begins}
-use Rattle.slot_station.specs.Cells.{NotesAllow}
+use Rattle.slot_station.specs.Cells.{Caller, NotesAllow}
 use Rattle.one_thread.proofs.TablesKept.{table-call}
 
 -- a call of w is the last that its trail has
@@ -75,14 +73,43 @@ made o total D a log legal of_totals = record {
   notes = λ v h. ap (λ b. cond b (noted a D.worker v (note_in log D.worker v)) (note_in log D.worker v)) (eq-eqb D.worker D.worker refl);
 }
 
--- one more step of the worker
-pub since-step : {Sub : Type 0} (start was now : TableStory Sub) (w : ℕ) (x : Logged) → who x ≡ w → now ≡ record was { log = x ∷ was.log }
-    → IsSince start was w → IsSince start now w
-since-step {Sub = Sub} start was now w x mine is old = record {
-  more = x ∷ old.more;
-  log = ap (λ (t : TableStory Sub). t.log) is ∙ ap (λ l. x ∷ l) old.log;
-  own = All-cons (λ y. who y ≡ w) x old.more mine old.own;
-}
+-- ---- calls that ask nothing of notes, whatever they answer
+
+abbrev pub IsFree : Act → Type 0
+IsFree a = (totals : ℕ → Option ℕ) (caller : Caller) → NotesAllow totals caller a
+
+pub look-free : (r : Look) → IsFree (look_act r)
+look-free (look.Open id) totals caller = tt
+look-free look.Invalid totals caller = tt
+look-free look.Vacant totals caller = tt
+
+pub claim-free : (n : ℕ) (r : Claim) → IsFree (claim_act n r)
+claim-free n (claim.Range from to) totals caller = tt
+claim-free n (claim.Exhausted y) totals caller = tt
+
+pub shut-free : (r : Shutting) → IsFree (shut_act r)
+shut-free (shut.Won y) totals caller = tt
+shut-free shut.Lost totals caller = tt
+
+pub mark-free : (r : Mark) → IsFree (mark_act r)
+mark-free mark.Marked totals caller = tt
+mark-free mark.Missed totals caller = tt
+
+pub sweep-free : (r : Sweep) → IsFree (sweep_act r)
+sweep-free (sweep.Last y) totals caller = tt
+sweep-free (sweep.Others n) totals caller = tt
+
+pub pay-free : (r : Pay) → IsFree (pay_act r)
+pay-free (pay.Last y) totals caller = tt
+pay-free pay.Done totals caller = tt
+
+pub reserve-free : (s : ℕ) (r : Reserve) → IsFree (reserve_act s r)
+reserve-free s (reserve.Got y) totals caller = tt
+reserve-free s (reserve.Taken word) totals caller = tt
+
+pub admit-free : (q : ℕ) (r : Admit) → IsFree (admit_act q r)
+admit-free q admit.Got totals caller = tt
+admit-free q (admit.Lost at) totals caller = tt
 
 -- ---- a seat, and what is in its table
 
@@ -95,11 +122,8 @@ pub record Seat {B Sub : Type 0} (b : Ghosts B Sub) : Type 0 where
   pub subject : Sub
   pub cells : List (Option B)
   pub below : worker < now.shape.workers
-  pub limits : IsShape start.shape
-  pub queries : start.shape.queries ≡ b.queries start.subject
   pub same_shape : now.shape ≡ start.shape
   pub same_subject : now.subject ≡ start.subject
-  pub since : ∥ IsSince start now worker ∥₁
   pub view : record { shape = object.shape; subject = subject; log = object.log } ≡ now
   pub kept : IsTableKept b.queries b.total b.fits object.shape subject object.log cells
 
@@ -115,11 +139,8 @@ seat {k = k} s t view kept = record {
   subject = t.subject.value;
   cells = t.cells.items;
   below = s.below;
-  limits = s.limits;
-  queries = s.queries;
   same_shape = s.shape;
   same_subject = s.subject;
-  since = s.since;
   view = view;
   kept = kept;
 }
@@ -186,6 +207,10 @@ module _ {B Sub : Type 0} {b : Ghosts B Sub} (x : Seat b) where
   pub token-old : (X : Shape → Place → Type 0) → X start.shape place → X object.shape (place_in object worker)
   token-old X h = place-for (λ p. X object.shape p) (subst (λ d. X d place) (sym object-shape) h)
 
+  -- a call that the seat's place allows, of the object's worker
+  pub may-make : (c : Call) → MayAt start.shape place c → MayMake object worker c
+  may-make c h = record { below = own-below; may = token-old (λ d p. MayAt d p c) h }
+
   -- a fact of desk and log, of the seat and of the object
   desk-same : desk_over now worker ≡ desk
   desk-same = ap₂ (λ (d : Shape) (u : Sub). let D : Desk Sub = record { worker = worker; shape = d; subject = u } in D) x.same_shape x.same_subject
@@ -199,13 +224,17 @@ module _ {B Sub : Type 0} {b : Ghosts B Sub} (x : Seat b) where
 
   -- ---- what the notes and the subject allow
 
-  abbrev pub Allows : Act → Type 0
-  Allows a = NotesAllow (b.total subject) (record {
+  -- the seat's worker, that calls
+  abbrev caller : Caller
+  caller = record {
     shape = object.shape;
     worker = worker;
     place = place_of object.shape (trail_in worker (calls_of object.log)) worker;
     notes = note_in object.log worker;
-  }) a
+  }
+
+  abbrev pub Allows : Act → Type 0
+  Allows a = NotesAllow (b.total subject) caller a
 
   own-trail-place : place_of object.shape (trail_in worker (calls_of object.log)) worker ≡ place
   own-trail-place = place-trail object.shape worker (calls_of object.log) ∙ place-of
@@ -234,73 +263,9 @@ module _ {B Sub : Type 0} {b : Ghosts B Sub} (x : Seat b) where
   pub release-allows : AllNoted note.Empty shown → Allows Release
   release-allows cells = all-cells note.Empty cells
 
-  pub look-allows : (l : Look) → Allows (look_act l)
-  look-allows (look.Open id) = tt
-  look-allows look.Invalid = tt
-  look-allows look.Vacant = tt
-
-  pub claim-allows : (n : ℕ) (c : Claim) → Allows (claim_act n c)
-  claim-allows n (claim.Range from to) = tt
-  claim-allows n (claim.Exhausted y) = tt
-
-  pub shut-allows : (r : Shutting) → Allows (shut_act r)
-  shut-allows (shut.Won y) = tt
-  shut-allows shut.Lost = tt
-
-  pub mark-allows : (r : Mark) → Allows (mark_act r)
-  mark-allows mark.Marked = tt
-  mark-allows mark.Missed = tt
-
-  pub sweep-allows : (r : Sweep) → Allows (sweep_act r)
-  sweep-allows (sweep.Last y) = tt
-  sweep-allows (sweep.Others n) = tt
-
-  pub pay-allows : (r : Pay) → Allows (pay_act r)
-  pay-allows (pay.Last y) = tt
-  pay-allows pay.Done = tt
-
-  pub reserve-allows : (s : ℕ) (r : Reserve) → Allows (reserve_act s r)
-  reserve-allows s (reserve.Got y) = tt
-  reserve-allows s (reserve.Taken word) = tt
-
-  pub admit-allows : (q : ℕ) (r : Admit) → Allows (admit_act q r)
-  admit-allows q admit.Got = tt
-  admit-allows q (admit.Lost at) = tt
-
-  -- ---- what a step makes of the seat
-
-  -- the seat's fields, over a table that has become this
-  abbrev SeatOver : TableStory Sub → Type 0
-  SeatOver t = record {
-    below : worker < t.shape.workers;
-    limits : IsShape start.shape;
-    queries : start.shape.queries ≡ b.queries start.subject;
-    shape : t.shape ≡ start.shape;
-    subject : t.subject ≡ start.subject;
-    since : ∥ IsSince start t worker ∥₁;
-  }
-
-  -- after an exchange
-  pub exchanged : {e : Logged} {new : Story} → new ≡ record object { log = e ∷ object.log } → who e ≡ worker
-      → SeatOver (record { shape = new.shape; subject = subject; log = new.log })
-  exchanged {e = e} {new = new} grows mine =
-      let P : Story → Type 0 = λ y. SeatOver (record { shape = y.shape; subject = subject; log = y.log }) in
-      let longer : TableStory Sub = record { shape = object.shape; subject = subject; log = e ∷ object.log } in
-      let since = ∥∥₁_map x.since (since-step start now longer worker e mine (ap (λ (t : TableStory Sub). record t { log = e ∷ t.log }) x.view)) in
-      subst P (sym grows) (record {
-        below = own-below;
-        limits = x.limits;
-        queries = x.queries;
-        shape = object-shape;
-        subject =
-            table-subject;
-        since = since;
-      })
+  -- ---- what a call makes of the seat
 
   module _ {a : Act} {new : Story} (m : MakesCall object worker a new) where
-    abbrev after : TableStory Sub
-    after = record { shape = new.shape; subject = subject; log = new.log }
-
     -- the table after a call that its worker's notes allow
     pub table-after : Allows a → IsTableKept b.queries b.total b.fits new.shape subject new.log x.cells
     table-after allow =
@@ -320,23 +285,15 @@ module _ {B Sub : Type 0} {b : Ghosts B Sub} (x : Seat b) where
     grows : new.log ≡ call worker a ∷ now.log
     grows = ap (λ (y : Story). y.log) m.story ∙ ap (λ (t : TableStory Sub). call worker a ∷ t.log) x.view
 
-    new-since : ∥ IsSince start after worker ∥₁
-    new-since =
-        let is : after ≡ record now { log = call worker a ∷ now.log } =
-        ap (λ (y : Story). let t : TableStory Sub = record { shape = y.shape; subject = subject; log = y.log } in t) m.story
-        ∙ ap (λ (t : TableStory Sub). record t { log = call worker a ∷ t.log }) x.view in
-        ∥∥₁_map x.since (since-step start now after worker (call worker a) refl is)
-
-    pub seat-after : SeatOver after
-    seat-after =
-        let below = subst (λ (d : Shape). worker < d.workers) (x.same_shape ∙ sym new-shape) x.below in
-        record { below = below; limits = x.limits; queries = x.queries; shape = new-shape; subject = table-subject; since = new-since }
-
-    -- a token, by the place after the call
-    pub token-for : (X : Shape → Place → Type 0) → X object.shape (place_in new worker) → X start.shape (own_place (shown_by desk new.log))
-    token-for X h =
+    -- what the reply brings, by the place after the call
+    pub brought : (X : Shape → Place → Type 0) → X new.shape (place_in new worker) → X start.shape (own_place (shown_by desk new.log))
+    brought X h =
         let at = ap (λ d. place_of d (calls_of new.log) worker) new-shape ∙ sym (place-trail start.shape worker (calls_of new.log)) in
-        subst (X start.shape) at (subst (λ d. X d (place_in new worker)) object-shape h)
+        subst (X start.shape) at (subst (λ d. X d (place_in new worker)) new-shape h)
+
+    -- a token that the call keeps
+    pub token-for : (X : Shape → Place → Type 0) → X object.shape (place_in new worker) → X start.shape (own_place (shown_by desk new.log))
+    token-for X h = brought X (subst (λ d. X d (place_in new worker)) (object-shape ∙ sym new-shape) h)
 
     -- what the call makes of what the seat shows
     pub seat-makes : {O : Type 0} {o : O} → Allows a → Makes b.total a (seen_by o desk now.log) (seen_by o desk new.log)
@@ -351,6 +308,16 @@ module _ {B Sub : Type 0} {b : Ghosts B Sub} (x : Seat b) where
         (subst (λ u. IsOfTotals (b.total u) new.shape (calls_of new.log)) table-subject (table-after allow).of_subject)) in
         subst (λ l. Makes b.total a (seen_by o desk now.log) (seen_by o desk l)) (sym grows)
         (made o b.total desk a now.log legal of)
+
+    -- the same where the call asks nothing of notes
+    free : IsFree a → Allows a
+    free f = f (b.total subject) caller
+
+    pub table-free : IsFree a → IsTableKept b.queries b.total b.fits new.shape subject new.log x.cells
+    table-free f = table-after (free f)
+
+    pub makes-free : {O : Type 0} {o : O} → IsFree a → Makes b.total a (seen_by o desk now.log) (seen_by o desk new.log)
+    makes-free f = seat-makes (free f)
 
 -- ---- the cells of a new table
 

@@ -14,7 +14,7 @@ use Rattle.one_thread.specs.Seats.{trail_in}
 trail-mine : (e : Entry) (h : List Entry) (w : ℕ) → w ≡ e.worker → trail_in w (e ∷ h) ≡ e ∷ h
 trail-mine e h w same = ap (λ b. cond b (e ∷ h) (trail_in w h)) (eq-eqb w e.worker same)
 
-trail-other : (e : Entry) (h : List Entry) (w : ℕ) → w ≢ e.worker → trail_in w (e ∷ h) ≡ trail_in w h
+pub trail-other : (e : Entry) (h : List Entry) (w : ℕ) → w ≢ e.worker → trail_in w (e ∷ h) ≡ trail_in w h
 trail-other e h w other = ap (λ b. cond b (e ∷ h) (trail_in w h)) (ne_eqb w e.worker other)
 
 own-trail-step : (w : ℕ) (e : Entry) (es : List Entry) → own_calls w (trail_in w es) ≡ own_calls w es → Dec (w ≡ e.worker)

@@ -1,13 +1,13 @@
 -- A seat of a table for one thread.
-use Rattle.std.specs.Prelude.{◌≡◌, ℕ, List, [], ◌∷◌, ◌++◌, cond, eqb, All}
+use Rattle.std.specs.Prelude.{◌≡◌, ◌≢◌, ℕ, List, [], ◌∷◌, ◌++◌, cond, eqb, All}
 use Rattle.slot_history.specs.declared.act.Entry.{Entry}
 use Rattle.slot_station.specs.declared.log.Logged.{Logged}
 use Rattle.slot_station.specs.Desks.{Desk, Seen}
 use Rattle.slot_station.specs.Log.{calls_of, note_in, who}
 use Rattle.one_thread.specs.Tables.{TableStory}
 
--- which table a seat borrows, by the name of the borrow, the table as it was when the seat was made,
--- and whose seat it is
+-- which table a seat borrows, by the name of the borrow, the table as it was when the seat was
+-- made, and whose seat it is
 pub record SeatOrigin (Sub : Type 0) : Type 0 where
   pub name : ℕ
   pub start : TableStory Sub
@@ -40,3 +40,13 @@ pub record IsSince {Sub : Type 0} (start now : TableStory Sub) (w : ℕ) : Type 
   pub more : List Logged
   pub log : now.log ≡ more ++ start.log
   pub own : All (λ x. who x ≡ w) more
+
+-- what the seat of v shows is the same over this log and over that
+pub record IsUntouched (was now : List Logged) (v : ℕ) : Type 0 where
+  pub trail : trail_in v (calls_of now) ≡ trail_in v (calls_of was)
+  pub notes : (u : ℕ) → note_in now v u ≡ note_in was v u
+
+-- the seat of a worker leaves what every other worker's seat shows
+abbrev pub OthersStay : Type 0 → Type 0
+OthersStay Sub = (start now : TableStory Sub) (w : ℕ) → IsSince start now w
+    → (v : ℕ) → v ≢ w → IsUntouched start.log now.log v

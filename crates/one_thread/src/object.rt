@@ -7,18 +7,16 @@ use slot_station::reply::{Admit, Claim, Leave, Look, Mark, Pay, Reserve, Shut, S
 use slot_station::token::Announcer;
 use std::alloc::{AllocError, Global};
 
-/// A slot object on one thread without its cells: it makes each call's step, for any of its workers by their numbers.
-/// Contracts see its story: how large it is, and its log. No call but `make` takes memory.
+/// A slot object on one thread without its cells: it makes each call's step, for any of its workers
+/// by their numbers. Contracts see its story: how large it is, and its log. No call but `make`
+/// takes memory.
 ///
-/// What the clauses ask of a call is what `docs/PROTOCOL.md` says in "The calls, one by one".
+/// Each call asks that its worker may make it. `docs/PROTOCOL.md` says when that is so, in "The
+/// calls, one by one".
 pub trait SlotObject: Drop {
-    ghost use Rattle.std.specs.Prelude.{◌≡◌, ℕ, ◌+◌, ◌<◌, ◌≤◌, ◌⊎◌, Bool, true, [], ◌∷◌, None, IsSome, IfOk};
-    ghost use Rattle.slot_history.specs.declared.shape.TheConstants.{STAGES, PARTS, MOST_CLAIM, MOST_TOTAL};
+    ghost use Rattle.std.specs.Prelude.{◌≡◌, ℕ, ◌<◌, [], ◌∷◌, IfOk};
     ghost use Rattle.slot_history.specs.declared.act.Act.TheVariants.{Enter, Arrivals, Finished, NoteDone, SetTotal, Install, Release, Announce, TakeReturn, TakeChange};
-    ghost use Rattle.slot_history.specs.declared.place.Held.{Held};
-    ghost use Rattle.slot_history.specs.declared.place.Place.TheVariants.{Free, Entered, Inside, Used, Asking, Owing, Holding, Announcing};
-    ghost use Rattle.slot_history.specs.States.{can_leave, next_id};
-    ghost use Rattle.slot_history.specs.Allowed.{IsReady};
+    ghost use Rattle.slot_history.specs.Calls.{Entering, Looking, Claiming, Shutting, Leaving, Paying, Marking, Sweeping, Reserving, Admitting, AskingArrivals, AskingFinished, NotingDone, SettingTotal, Installing, Releasing, AnnouncingNext, TakingReturn, TakingChange};
     ghost use Rattle.slot_history.specs.Histories.{IsLegal};
     ghost use Rattle.slot_station.specs.declared.log.Logged.TheVariants.{Exchanged};
     ghost use Rattle.slot_station.specs.Log.{calls_of};
@@ -26,7 +24,7 @@ pub trait SlotObject: Drop {
     ghost use Rattle.slot_station.specs.Replies.{look_act, claim_act, shut_act, leave_act, mark_act, sweep_act, pay_act, reserve_act, admit_act};
     ghost use Rattle.slot_station.specs.Shapes.{IsShape};
     ghost use Rattle.slot_station.specs.Tokens.{IsAnnouncer, ClaimGives, ShutGives, LeaveGives, SweepGives, PayGives, ReserveGives};
-    ghost use Rattle.one_thread.specs.Stories.{Story, MakesCall, place_in};
+    ghost use Rattle.one_thread.specs.Stories.{Story, MayMake, MakesCall, Brings, place_in};
 
     // How large it is, and its log.
     ghost story: { Self → Story };
@@ -53,142 +51,110 @@ pub trait SlotObject: Drop {
 
     /// A worker exchanged a cell, its own or another's, and has this note of it now.
     fn exchanged(&mut self, exchange: Exchange)
-        ensures { story self.new ≡ record (story self.old) { log = Exchanged exchange ∷ (story self.old).log } };
+        ensures { story self.new
+            ≡ record (story self.old) { log = Exchanged exchange ∷ (story self.old).log } };
 
     /// The worker goes to slot s.
     fn enter(&mut self, worker: u32, s: u32)
-        requires worker { worker < (story self.old).shape.workers }
-        requires place { place_in (story self.old) worker ≡ Free }
-        requires slot { s < (story self.old).shape.slots }
+        requires { MayMake (story self.old) worker (Entering s) }
         ensures { MakesCall (story self.old) worker (Enter s) (story self.new) };
 
     /// The worker looks at the slot at which it is.
     fn look(&mut self, worker: u32) -> Look
-        requires worker { worker < (story self.old).shape.workers }
-        requires place { (s : ℕ) × (place_in (story self.old) worker ≡ Entered s) }
+        requires { MayMake (story self.old) worker Looking }
         ensures { MakesCall (story self.old) worker (look_act result) (story self.new) };
 
     /// The worker claims up to n tuples of the task set with which it is inside.
     fn claim(&mut self, worker: u32, n: u32) -> Claim
-        requires worker { worker < (story self.old).shape.workers }
-        requires place { (s id : ℕ) × (place_in (story self.old) worker ≡ Inside s id) }
-        requires number { (0 < n) × (n ≤ MOST_CLAIM) }
+        requires { MayMake (story self.old) worker (Claiming n) }
         ensures made { MakesCall (story self.old) worker (claim_act n result) (story self.new) }
-        ensures spent { ClaimGives (story self.old).shape worker (place_in (story self.new) worker) result };
+        ensures spent { Brings ClaimGives (story self.new) worker result };
 
     /// The worker shuts the task set that it found used up.
     fn shut(&mut self, worker: u32) -> Shut
-        requires worker { worker < (story self.old).shape.workers }
-        requires place { (s id : ℕ) × (place_in (story self.old) worker ≡ Used s id) }
+        requires { MayMake (story self.old) worker Shutting }
         ensures made { MakesCall (story self.old) worker (shut_act result) (story self.new) }
-        ensures first { ShutGives (story self.old).shape worker (place_in (story self.new) worker) result };
+        ensures first { Brings ShutGives (story self.new) worker result };
 
     /// The worker leaves the slot at which it is.
     fn leave(&mut self, worker: u32) -> Leave
-        requires worker { worker < (story self.old).shape.workers }
-        requires place { can_leave (place_in (story self.old) worker) ≡ true }
+        requires { MayMake (story self.old) worker Leaving }
         ensures made { MakesCall (story self.old) worker (leave_act result) (story self.new) }
-        ensures debt { LeaveGives (story self.old).shape worker (place_in (story self.new) worker) result };
+        ensures debt { Brings LeaveGives (story self.new) worker result };
 
     /// The worker asks the next one.
     fn mark_next(&mut self, worker: u32) -> Mark
-        requires worker { worker < (story self.old).shape.workers }
-        requires place { (s id asked marked : ℕ)
-            × (place_in (story self.old) worker ≡ Asking s id asked marked)
-            × (asked + 1 < (story self.old).shape.workers) }
+        requires { MayMake (story self.old) worker Marking }
         ensures made { MakesCall (story self.old) worker (mark_act result) (story self.new) }
         ensures counted { IsCounted (place_in (story self.old) worker) };
 
     /// The worker ends its asking.
     fn sweep(&mut self, worker: u32) -> Sweep
-        requires worker { worker < (story self.old).shape.workers }
-        requires place { (s id asked marked : ℕ)
-            × (place_in (story self.old) worker ≡ Asking s id asked marked)
-            × (asked + 1 ≡ (story self.old).shape.workers) }
+        requires { MayMake (story self.old) worker Sweeping }
         ensures made { MakesCall (story self.old) worker (sweep_act result) (story self.new) }
-        ensures holder { SweepGives (story self.old).shape worker (place_in (story self.new) worker) result };
+        ensures holder { Brings SweepGives (story self.new) worker result };
 
     /// The worker pays what it owes.
     fn pay(&mut self, worker: u32) -> Pay
-        requires worker { worker < (story self.old).shape.workers }
-        requires place { (s id : ℕ) × (place_in (story self.old) worker ≡ Owing s id) }
+        requires { MayMake (story self.old) worker Paying }
         ensures made { MakesCall (story self.old) worker (pay_act result) (story self.new) }
-        ensures holder { PayGives (story self.old).shape worker (place_in (story self.new) worker) result };
+        ensures holder { Brings PayGives (story self.new) worker result };
 
     /// The worker reserves slot s.
     fn reserve(&mut self, worker: u32, s: u32) -> Reserve
-        requires worker { worker < (story self.old).shape.workers }
-        requires place { place_in (story self.old) worker ≡ Free }
-        requires slot { s < (story self.old).shape.slots }
+        requires { MayMake (story self.old) worker (Reserving s) }
         ensures made { MakesCall (story self.old) worker (reserve_act s result) (story self.new) }
-        ensures holder { ReserveGives (story self.old).shape worker (place_in (story self.new) worker) result };
+        ensures holder { Brings ReserveGives (story self.new) worker result };
 
     /// The worker admits query q for the slot that it holds.
     fn admit(&mut self, worker: u32, q: u32) -> Admit
-        requires worker { worker < (story self.old).shape.workers }
-        requires place { (s : ℕ) × (h : Held) × (place_in (story self.old) worker ≡ Holding s h)
-            × (h.query ≡ None) }
-        requires query { q < (story self.old).shape.queries }
+        requires { MayMake (story self.old) worker (Admitting q) }
         ensures { MakesCall (story self.old) worker (admit_act q result) (story self.new) };
 
     /// The number of admitted queries.
     fn arrivals(&mut self, worker: u32) -> u32
-        requires worker { worker < (story self.old).shape.workers }
+        requires { MayMake (story self.old) worker AskingArrivals }
         ensures { MakesCall (story self.old) worker (Arrivals result) (story self.new) };
 
     /// The number of task sets that were noted as done.
     fn finished(&mut self, worker: u32) -> u32
-        requires worker { worker < (story self.old).shape.workers }
+        requires { MayMake (story self.old) worker AskingFinished }
         ensures { MakesCall (story self.old) worker (Finished result) (story self.new) };
 
     /// The worker notes k task sets as done.
     fn note_done(&mut self, worker: u32, k: u32)
-        requires worker { worker < (story self.old).shape.workers }
-        requires place { (s : ℕ) × (h : Held) × (place_in (story self.old) worker ≡ Holding s h)
-            × IsSome h.query × (h.noted ≡ 0) × (h.stage + k ≤ STAGES) }
-        requires number { 0 < k }
+        requires { MayMake (story self.old) worker (NotingDone k) }
         ensures { MakesCall (story self.old) worker (NoteDone k) (story self.new) };
 
     /// The worker sets the total of the task set that it will install.
     fn set_total(&mut self, worker: u32, total: u32)
-        requires worker { worker < (story self.old).shape.workers }
-        requires place { (s : ℕ) × (h : Held) × (place_in (story self.old) worker ≡ Holding s h)
-            × IsSome h.query }
-        requires number { total ≤ MOST_TOTAL }
+        requires { MayMake (story self.old) worker (SettingTotal total) }
         ensures { MakesCall (story self.old) worker (SetTotal total) (story self.new) };
 
     /// The worker opens the slot that it holds.
     fn install(&mut self, worker: u32, id: u32) -> Announcer
-        requires worker { worker < (story self.old).shape.workers }
-        requires place { (s : ℕ) × (h : Held) × (place_in (story self.old) worker ≡ Holding s h)
-            × IsReady h × (id ≡ next_id h) }
+        requires { MayMake (story self.old) worker (Installing id) }
         ensures made { MakesCall (story self.old) worker (Install id) (story self.new) }
-        ensures announcer { IsAnnouncer (story self.old).shape worker (place_in (story self.new) worker) result };
+        ensures announcer { Brings IsAnnouncer (story self.new) worker result };
 
     /// The worker gives its slot back.
     fn release(&mut self, worker: u32)
-        requires worker { worker < (story self.old).shape.workers }
-        requires place { (s : ℕ) × (h : Held) × (place_in (story self.old) worker ≡ Holding s h)
-            × ((h.query ≡ None) ⊎ (0 < h.noted)) }
+        requires { MayMake (story self.old) worker Releasing }
         ensures { MakesCall (story self.old) worker Release (story self.new) };
 
     /// The worker tells the next one.
     fn announce(&mut self, worker: u32)
-        requires worker { worker < (story self.old).shape.workers }
-        requires place { (s : ℕ) × (again : Bool) × (told : ℕ)
-            × (place_in (story self.old) worker ≡ Announcing s again told) }
+        requires { MayMake (story self.old) worker AnnouncingNext }
         ensures made { MakesCall (story self.old) worker Announce (story self.new) }
         ensures counted { IsCounted (place_in (story self.old) worker) };
 
     /// The worker takes its return notices of a part.
     fn take_return(&mut self, worker: u32, part: u32) -> u64
-        requires worker { worker < (story self.old).shape.workers }
-        requires part { part < PARTS }
+        requires { MayMake (story self.old) worker (TakingReturn part) }
         ensures { MakesCall (story self.old) worker (TakeReturn part result) (story self.new) };
 
     /// The worker takes its change notices of a part.
     fn take_change(&mut self, worker: u32, part: u32) -> u64
-        requires worker { worker < (story self.old).shape.workers }
-        requires part { part < PARTS }
+        requires { MayMake (story self.old) worker (TakingChange part) }
         ensures { MakesCall (story self.old) worker (TakeChange part result) (story self.new) };
 }

@@ -24,7 +24,8 @@ use std::mem;
 use std::snapshot::Snapshot;
 use std::sync::ledger::Ledger;
 
-/// The station of one worker, while it borrows the table. When it ends, the table stands as it left it.
+/// The station of one worker, while it borrows the table. When it ends, the table is as the seat
+/// left it.
 pub struct OneSeat<'a, B: Fits, O: SlotObject> {
     pub table: &'a mut OneTable<B, O>,
     pub worker: u32,
@@ -72,17 +73,23 @@ impl<B: Fits, O: SlotObject> Drop for OneSeat<'_, B, O> {
 impl<B: Fits, O: SlotObject> OneSeat<'_, B, O> {
     /// Where the worker is. It tells which calls are allowed.
     pub fn place(&self) -> Place
-        ensures { result ≡ own_place (shown_by (desk_over self.now.start.value self.now.worker) self.now.table.now.log) }
+        ensures { result ≡ own_place (shown_by
+            (desk_over self.now.start.value self.now.worker) self.now.table.now.log) }
     {
         let table = &*self.table;
         table.object.place(self.worker)
     }
 }
 
+#[tactic(auto, using(crate::proofs::Since::since_grows))]
 impl<'a, B: Fits, O: SlotObject> Station<B> for OneSeat<'a, B, O> {
     ghost Origin = { SeatOrigin B.Subject };
 
-    ghost seen = { λ s. seen_by (record { name = s.table.ghost_name; start = s.start.value; worker = s.worker }) (desk_over s.start.value s.worker) s.table.now.log };
+    ghost seen = { λ s. seen_by (record {
+      name = s.table.ghost_name;
+      start = s.start.value;
+      worker = s.worker;
+    }) (desk_over s.start.value s.worker) s.table.now.log };
 
     fn worker(&self) -> u32 {
         self.worker
@@ -249,11 +256,17 @@ impl<'a, B: Fits, O: SlotObject> Station<B> for OneSeat<'a, B, O> {
         new: Option<B>,
         steps: &mut Steps<L>,
     ) -> Option<B>
-        requires holder { Owns IsHolder (⟦<OneSeat<'a, B, O> as Station<B>>⟧.seen self.old) holder.old }
-        requires worker { worker < (⟦<OneSeat<'a, B, O> as Station<B>>⟧.seen self.old).desk.shape.workers }
-        requires fits { IfSome new (NextFits B.fits (⟦<OneSeat<'a, B, O> as Station<B>>⟧.seen self.old) worker) }
-        ensures says { CellSays B.fits (⟦<OneSeat<'a, B, O> as Station<B>>⟧.seen self.old) worker result }
-        ensures put { Exchanges worker (fresh_note new) (⟦<OneSeat<'a, B, O> as Station<B>>⟧.seen self.old) (⟦<OneSeat<'a, B, O> as Station<B>>⟧.seen self.new) }
+        requires holder { Owns IsHolder
+            (⟦<OneSeat<'a, B, O> as Station<B>>⟧.seen self.old) holder.old }
+        requires worker { worker
+            < (⟦<OneSeat<'a, B, O> as Station<B>>⟧.seen self.old).desk.shape.workers }
+        requires fits { IfSome new (NextFits B.fits
+            (⟦<OneSeat<'a, B, O> as Station<B>>⟧.seen self.old) worker) }
+        ensures says { CellSays B.fits
+            (⟦<OneSeat<'a, B, O> as Station<B>>⟧.seen self.old) worker result }
+        ensures put { Exchanges worker (fresh_note new)
+            (⟦<OneSeat<'a, B, O> as Station<B>>⟧.seen self.old)
+            (⟦<OneSeat<'a, B, O> as Station<B>>⟧.seen self.new) }
         ensures same { holder.new ≡ holder.old }
         ensures ticks { steps.new ≡ steps.old + 1 }
     {
@@ -272,10 +285,15 @@ impl<'a, B: Fits, O: SlotObject> Station<B> for OneSeat<'a, B, O> {
     }
 
     fn own_cell<L: Ledger>(&mut self, new: Option<B>, steps: &mut Steps<L>) -> Option<B>
-        requires place { has_cell (own_place (⟦<OneSeat<'a, B, O> as Station<B>>⟧.seen self.old)) ≡ true }
-        requires fits { IfSome new (OwnFits B.fits (⟦<OneSeat<'a, B, O> as Station<B>>⟧.seen self.old)) }
-        ensures says { OwnCellSays B.fits (⟦<OneSeat<'a, B, O> as Station<B>>⟧.seen self.old) result }
-        ensures put { ExchangesOwn (kept_note new) (⟦<OneSeat<'a, B, O> as Station<B>>⟧.seen self.old) (⟦<OneSeat<'a, B, O> as Station<B>>⟧.seen self.new) }
+        requires place { has_cell (own_place
+            (⟦<OneSeat<'a, B, O> as Station<B>>⟧.seen self.old)) ≡ true }
+        requires fits { IfSome new (OwnFits B.fits
+            (⟦<OneSeat<'a, B, O> as Station<B>>⟧.seen self.old)) }
+        ensures says { OwnCellSays B.fits
+            (⟦<OneSeat<'a, B, O> as Station<B>>⟧.seen self.old) result }
+        ensures put { ExchangesOwn (kept_note new)
+            (⟦<OneSeat<'a, B, O> as Station<B>>⟧.seen self.old)
+            (⟦<OneSeat<'a, B, O> as Station<B>>⟧.seen self.new) }
         ensures ticks { steps.new ≡ steps.old + 1 }
     {
         steps.tick();

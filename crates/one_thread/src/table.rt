@@ -14,8 +14,8 @@ use std::alloc::Global;
 use std::marker::Model;
 use std::snapshot::Snapshot;
 
-/// The slot object for one thread. Its calls are those of its seats. Each takes time that does not grow with the
-/// history, which no bytes are kept of.
+/// The slot object for one thread. Its calls are those of its seats. Each takes time that does not
+/// grow with the history, of which no bytes are kept.
 #[derive(Drop)]
 pub struct OneTable<B: Fits, O: SlotObject> {
     pub(crate) object: O,
@@ -35,9 +35,10 @@ impl<B: Fits, O: SlotObject> Model for OneTable<B, O> {
 }
 
 impl<B: Fits, O: SlotObject> OneTable<B, O> {
-    /// A table whose slots are empty, whose cells hold None, and with no notices. `subject` is what it serves, for
-    /// contracts alone, and `queries` the number of the subject's queries. BadSlots comes exactly outside 1 to 128 slots,
-    /// then BadWorkers exactly outside 1 to 64 workers, then BadQueries exactly past 4,096 queries.
+    /// A table whose slots are empty, whose cells hold None, and with no notices. `subject` is what
+    /// it serves, for contracts alone, and `queries` the number of the subject's queries. BadSlots
+    /// is the answer exactly outside 1 to 128 slots, else BadWorkers exactly outside 1 to 64
+    /// workers, else BadQueries exactly past 4,096 queries.
     pub fn make(
         alloc: Global,
         slots: u32,
@@ -46,8 +47,13 @@ impl<B: Fits, O: SlotObject> OneTable<B, O> {
         subject: Snapshot<B::Subject>,
     ) -> Result<OneTable<B, O>, MakeRefusal>
         requires { queries ≡ B.queries subject.value }
-        ensures refused { MatchOption (refusal_of slots workers queries) (IsOkUnless result OutOfMemory) (λ e. result ≡ Err e) }
-        ensures table { IfOk result (λ t. t ≡ record { shape = record { workers = workers; slots = slots; queries = queries }; subject = subject.value; log = [] }) }
+        ensures refused { MatchOption (refusal_of slots workers queries)
+            (IsOkUnless result OutOfMemory) (λ e. result ≡ Err e) }
+        ensures table { IfOk result (λ t. t ≡ record {
+          shape = record { workers = workers; slots = slots; queries = queries };
+          subject = subject.value;
+          log = [];
+        }) }
     {
         let shape = shape_of(slots, workers, queries)?;
         let count = slots as usize * workers as usize;

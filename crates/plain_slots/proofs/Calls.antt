@@ -2,9 +2,9 @@
 use Rattle.std.proofs.Common.{◌≡◌, ◌≢◌, ℕ, ◌+◌, ◌*◌, ◌<◌, ◌≤◌, ◌⊎◌, Bool, true, false, cond, eqb, List, set, get_or, slice_get, IsSome, Option, Some, None, refl, sym, ap, ◌∙◌, subst, eq-eqb, eqb-true, arith}
 use mathlib.Core.Bool.{true≢false}
 use Rattle.slot_history.specs.declared.shape.Shape.{Shape}
-use Rattle.slot_history.specs.declared.shape.TheConstants.{STAGES, MOST_CLAIM, MOST_TOTAL}
+use Rattle.slot_history.specs.declared.shape.TheConstants.{MOST_CLAIM}
 use Rattle.slot_history.specs.declared.act.Act.{Act}
-use Rattle.slot_history.specs.declared.act.Act.TheVariants.{SetTotal, NoteDone, AdmitGot, AdmitLost}
+use Rattle.slot_history.specs.declared.act.Act.TheVariants.{Arrivals, Finished, SetTotal, NoteDone, AdmitGot, AdmitLost}
 use Rattle.slot_history.specs.declared.place.Place.{Place}
 use Rattle.slot_history.specs.declared.place.Held.{Held}
 use Rattle.slot_history.specs.declared.place.Place.TheVariants.{Free, Entered, Inside as At, Used, Owing, Holding}
@@ -12,6 +12,8 @@ use Rattle.slot_history.specs.Sets.{upd}
 use Rattle.slot_history.specs.States.{SlotState, Empty, Reserved, Open, Shut, Finishing, ObjectState, slot_of, id_of, owes, can_leave, is_open, is_shut, is_empty, is_inside, reservation, has_own_cell}
 use Rattle.slot_history.specs.Steps.{site, slot_after, moved, claimed, shut_by, held_on}
 use Rattle.slot_history.specs.Allowed.{IsAllowed}
+use Rattle.slot_history.specs.Calls.{AskingArrivals, AskingFinished, Looking, Claiming, Shutting, Leaving, Admitting, NotingDone, SettingTotal}
+use Rattle.one_thread.specs.Stories.{Story, MayMake}
 use Rattle.slot_history.proofs.Places.{inside-slots}
 use Rattle.slot_history.proofs.Duties.{owes-claimed, owes-shut, owes-held}
 use Rattle.slot_history.proofs.Growth.{open-shut-cases}
@@ -20,7 +22,7 @@ use Rattle.slot_station.specs.declared.reply.Look.{Look}
 use Rattle.slot_station.specs.declared.reply.Look.TheVariants as look
 use Rattle.slot_station.specs.declared.reply.Claim.{Claim}
 use Rattle.slot_station.specs.declared.reply.Claim.TheVariants as claim
-use Rattle.slot_station.specs.declared.reply.Shut.{Shut as Shutting}
+use Rattle.slot_station.specs.declared.reply.Shut.{Shut as ShutReply}
 use Rattle.slot_station.specs.declared.reply.Shut.TheVariants as shut
 use Rattle.slot_station.specs.declared.reply.Leave.{Leave}
 use Rattle.slot_station.specs.declared.reply.Leave.TheVariants as leave
@@ -37,7 +39,21 @@ use Rattle.slot_station.specs.Replies.{look_act, claim_act, shut_act, leave_act,
 use Rattle.slot_station.specs.Tokens.{ClaimGives, ShutGives, LeaveGives, ReserveGives}
 use Rattle.slot_station.proofs.Lists.{pair-within}
 use Rattle.plain_slots.proofs.Objects.{slots-set, slots-kept, debts-kept}
-use Rattle.plain_slots.proofs.Following.{Kept, Wrote, Calm, Still, Spot, now_of, read, tabled, follow, quiet, writes}
+use Rattle.plain_slots.proofs.Following.{Kept, Wrote, Calm, Still, Spot, contents, story_of, may-make, now_of, read, tabled, follow, quiet, writes}
+
+-- ---- the numbers
+
+pub arrivals-after : (o : Inside) (ok : Kept o) (old : Story) → story_of o ≡ old → (w : ℕ) → MayMake old w AskingArrivals
+    → (places : List Place) (log : List Logged) → Wrote o w (Arrivals o.admitted) places log → IsObject (record (contents o) { places = places; log = log })
+arrivals-after o ok old view w asks places log wrote =
+    quiet o ok w (may-make o old view w AskingArrivals asks).below (Arrivals o.admitted) (Arrivals o.admitted) refl ok.admitted_is places log wrote
+    (λ d v x. refl) (λ v p f. refl, λ v p f. refl, λ n. refl, λ n. refl)
+
+pub finished-after : (o : Inside) (ok : Kept o) (old : Story) → story_of o ≡ old → (w : ℕ) → MayMake old w AskingFinished
+    → (places : List Place) (log : List Logged) → Wrote o w (Finished o.finished) places log → IsObject (record (contents o) { places = places; log = log })
+finished-after o ok old view w asks places log wrote =
+    quiet o ok w (may-make o old view w AskingFinished asks).below (Finished o.finished) (Finished o.finished) refl ok.finished_is places log wrote
+    (λ d v x. refl) (λ v p f. refl, λ v p f. refl, λ n. refl, λ n. refl)
 
 -- ---- look
 
@@ -59,13 +75,13 @@ look-fine d S w s (Open t) at is = (s, at, rw is refl, rw is refl)
 look-fine d S w s (Shut t e) at is = (s, at, rw is refl)
 look-fine d S w s (Finishing id u h) at is = (s, at, rw is refl)
 
-pub look-after : (o : Inside) (ok : Kept o) (w : ℕ) (p : Place) (k : ℕ) → Spot o w p k → ((s : ℕ) × (p ≡ Entered s)) → (l : Look)
+pub look-after : (o : Inside) (ok : Kept o) (w : ℕ) (p : Place) (k : ℕ) → Spot o w Looking p k → (l : Look)
     → l ≡ look_of (shown ((now_of o).slots k)) → (a' : Act) → a' ≡ look_act l
     → (places : List Place) (log : List Logged) → Wrote o w a' places log
-    → IsObject o.shape o.slots.items o.owing.items places o.returns.items o.changes.items o.admitted o.finished log
-look-after o ok w p k s at l seen a' is places log wrote =
-    let e : k ≡ at.0 = s.slot ∙ ap slot_of at.1 in
-    let there : (now_of o).places w ≡ Entered k = sym s.is ∙ at.1 ∙ ap Entered (sym e) in
+    → IsObject (record (contents o) { places = places; log = log })
+look-after o ok w p k s l seen a' is places log wrote =
+    let (j, at) = s.may in
+    let there : (now_of o).places w ≡ Entered k = sym s.is ∙ at ∙ ap Entered (sym (s.slot ∙ ap slot_of at)) in
     quiet o ok w s.low (look_act l) a' is (subst (λ m. IsAllowed o.shape (now_of o) w (look_act m)) (sym seen)
     (look-fine o.shape (now_of o) w k ((now_of o).slots k) there refl)) places log wrote (look-still l) (look-calm l)
 
@@ -94,22 +110,22 @@ pub debt-index : (o : Inside) (ok : Kept o) (k v : ℕ) → k < o.shape.slots �
 debt-index o ok k v in_k in_v i at = let c = ok.debts_are.count in let l = o.owing.ok.0 in
     let p = pair-within o.shape.slots o.shape.workers k v in_k in_v in omega arith
 
-pub leave-after : (o : Inside) (ok : Kept o) (w : ℕ) (p : Place) (k : ℕ) → Spot o w p k → can_leave p ≡ true → (b : Bool) → b ≡ owes ((now_of o).slots k) w
+pub leave-after : (o : Inside) (ok : Kept o) (w : ℕ) (p : Place) (k : ℕ) → Spot o w Leaving p k → (b : Bool) → b ≡ owes ((now_of o).slots k) w
     → (id : ℕ) → id ≡ id_of ((now_of o).slots k) → (l : Leave) → l ≡ leave_of w k id b → (a' : Act) → a' ≡ leave_act l
     → (places : List Place) (log : List Logged) → Wrote o w a' places log
-    → IsObject o.shape o.slots.items o.owing.items places o.returns.items o.changes.items o.admitted o.finished log
-leave-after o ok w p k s can b owed id named l answers a' is places log wrote =
+    → IsObject (record (contents o) { places = places; log = log })
+leave-after o ok w p k s b owed id named l answers a' is places log wrote =
     quiet o ok w s.low (leave_act l) a' is
     (subst (λ m. IsAllowed o.shape (now_of o) w (leave_act m)) (sym answers)
-    (leave-fine o.shape (now_of o) w k id b (subst (λ q. can_leave q ≡ true) s.is can) (ap slot_of (sym s.is) ∙ sym s.slot) owed named))
+    (leave-fine o.shape (now_of o) w k id b (subst (λ q. can_leave q ≡ true) s.is s.may) (ap slot_of (sym s.is) ∙ sym s.slot) owed named))
     places log wrote (leave-still l) (leave-calm l)
 
 -- the token that a leave brings
-pub leave-gives : (d : Shape) (w k id : ℕ) (b : Bool) (p q : Place) (l : Leave) → l ≡ leave_of w k id b → k ≡ slot_of p → q ≡ moved d (leave_act l) p
-    → LeaveGives d w q l
-leave-gives d w k id true p q l is at goes = subst (λ m. q ≡ moved d (leave_act m) p → LeaveGives d w q m) (sym is)
-    (λ g. record { worker = refl; place = g ∙ ap (λ s. Owing s id) (sym at) }) goes
-leave-gives d w k id false p q l is at goes = subst (λ m. LeaveGives d w q m) (sym is) tt
+pub leave-gives : (d : Shape) (w k id : ℕ) (b : Bool) (p : Place) (l : Leave) → l ≡ leave_of w k id b → k ≡ slot_of p
+    → LeaveGives d w (moved d (leave_act l) p) l
+leave-gives d w k id true p l is at = subst (λ m. LeaveGives d w (moved d (leave_act m) p) m) (sym is)
+    (record { worker = refl; place = ap (λ s. Owing s id) (sym at) })
+leave-gives d w k id false p l is at = subst (λ m. LeaveGives d w (moved d (leave_act m) p) m) (sym is) tt
 
 -- ---- reserve
 
@@ -148,7 +164,7 @@ pub reserve-after : (o : Inside) (ok : Kept o) (w : ℕ) → w < o.shape.workers
     → r ≡ reserve_of w s ((now_of o).slots s) → (a' : Act) → a' ≡ reserve_act s r
     → (places : List Place) (log : List Logged) → Wrote o w a' places log → (y : Slot)
     → y ≡ cond (is_empty ((now_of o).slots s)) (shown (Reserved w reservation)) (shown ((now_of o).slots s))
-    → IsObject o.shape (set o.slots.items s y) o.owing.items places o.returns.items o.changes.items o.admitted o.finished log
+    → IsObject (record (contents o) { slots = set o.slots.items s y; places = places; log = log })
 reserve-after o ok w low s free in_s r answers a' is places log wrote y holds =
     let d = o.shape in let S = now_of o in let x = S.slots s in
     let a : Act = reserve_act s (reserve_of w s x) in
@@ -159,17 +175,15 @@ reserve-after o ok w low s free in_s r answers a' is places log wrote y holds =
       debts-kept d o.owing.items S.slots s (slot_after d w a x) ok.debts_are (λ v h. reserve-debts d w s x v),
     )
 
-reserve-holds : (d : Shape) (w s : ℕ) (x : SlotState) (p q : Place) → q ≡ moved d (reserve_act s (reserve_of w s x)) p
-    → ReserveGives d w q (reserve_of w s x)
-reserve-holds d w s Empty p q g = record { worker = refl; noted = 0; total = None; place = g }
-reserve-holds d w s (Reserved u h) p q g = tt
-reserve-holds d w s (Open t) p q g = tt
-reserve-holds d w s (Shut t e) p q g = tt
-reserve-holds d w s (Finishing id u h) p q g = tt
+reserve-holds : (d : Shape) (w s : ℕ) (x : SlotState) (p : Place) → ReserveGives d w (moved d (reserve_act s (reserve_of w s x)) p) (reserve_of w s x)
+reserve-holds d w s Empty p = record { worker = refl; noted = 0; total = None; place = refl }
+reserve-holds d w s (Reserved u h) p = tt
+reserve-holds d w s (Open t) p = tt
+reserve-holds d w s (Shut t e) p = tt
+reserve-holds d w s (Finishing id u h) p = tt
 
-pub reserve-gives : (d : Shape) (w s : ℕ) (x : SlotState) (p q : Place) (r : Reserve) → r ≡ reserve_of w s x → q ≡ moved d (reserve_act s r) p
-    → ReserveGives d w q r
-reserve-gives d w s x p q r is goes = subst (λ m. q ≡ moved d (reserve_act s m) p → ReserveGives d w q m) (sym is) (reserve-holds d w s x p q) goes
+pub reserve-gives : (d : Shape) (w s : ℕ) (x : SlotState) (p : Place) (r : Reserve) → r ≡ reserve_of w s x → ReserveGives d w (moved d (reserve_act s r) p) r
+reserve-gives d w s x p r is = subst (λ m. ReserveGives d w (moved d (reserve_act s m) p) m) (sym is) (reserve-holds d w s x p)
 
 -- ---- claim
 
@@ -195,18 +209,20 @@ works-on : (x : SlotState) → (is_open x ≡ true) ⊎ (is_shut x ≡ true) →
 works-on x = open-shut-cases x (λ y. has_work (shown y) ≡ true) (λ t. refl) (λ t e. refl)
 
 -- the slot of a worker that is inside with an id is open or shut with it
-pub inside-work : (o : Inside) (ok : Kept o) (w : ℕ) (p : Place) (k id : ℕ) → Spot o w p k → has_own_cell p k ≡ true → is_inside p id ≡ true
+inside-work : (o : Inside) (ok : Kept o) (w n : ℕ) (p : Place) (k id : ℕ) → Spot o w (Claiming n) p k → has_own_cell p k ≡ true → is_inside p id ≡ true
     → has_work (shown ((now_of o).slots k)) ≡ true
-inside-work o ok w p k id s cell in_ =
+inside-work o ok w n p k id s cell in_ =
     let r = inside-slots o.shape (now_of o) (tabled o ok) k w id s.low (subst (λ q. has_own_cell q k ≡ true) s.is cell)
     (subst (λ q. is_inside q id ≡ true) s.is in_) in works-on ((now_of o).slots k) r.0
 
-pub claim-after : (o : Inside) (ok : Kept o) (w : ℕ) (p : Place) (k n id : ℕ) → Spot o w p k → p ≡ At k id → 0 < n → n ≤ MOST_CLAIM
+pub claim-after : (o : Inside) (ok : Kept o) (w : ℕ) (p : Place) (k n : ℕ) → Spot o w (Claiming n) p k
     → (r : Option (ℕ × ℕ)) (y : Slot) → ClaimFrom ((now_of o).slots k) n r × (shown (claimed ((now_of o).slots k) n) ≡ y)
     → (c : Claim) → c ≡ claim_of w p r → (a' : Act) → a' ≡ claim_act n c → (places : List Place) (log : List Logged) → Wrote o w a' places log
-    → IsObject o.shape (set o.slots.items k y) o.owing.items places o.returns.items o.changes.items o.admitted o.finished log
-claim-after o ok w p k n id s at some most r y got c answers a' is places log wrote =
+    → IsObject (record (contents o) { slots = set o.slots.items k y; places = places; log = log })
+claim-after o ok w p k n s r y got c answers a' is places log wrote =
     let d = o.shape in let S = now_of o in let x = S.slots k in
+    let (j, id, is_at, some, most) = s.may in
+    let at : p ≡ At k id = is_at ∙ ap (λ i. At i id) (sym (s.slot ∙ ap slot_of is_at)) in
     let a : Act = claim_act n c in
     let after : slot_after d w a x ≡ claimed x n = claim-slot d w n c x in
     writes o ok w s.low a a' is (subst (λ m. IsAllowed d S w (claim_act n m)) (sym answers) (claim-fine d S w n k id p r (sym s.is ∙ at) some most got.0))
@@ -217,21 +233,20 @@ claim-after o ok w p k n id s at some most r y got c answers a' is places log wr
       debts-kept d o.owing.items S.slots k (slot_after d w a x) ok.debts_are (λ v h. ap (λ z. owes z v) after ∙ owes-claimed x n v),
     )
 
-claim-holds : (d : Shape) (w n : ℕ) (p q : Place) (r : Option (ℕ × ℕ)) → q ≡ moved d (claim_act n (claim_of w p r)) p → ClaimGives d w q (claim_of w p r)
-claim-holds d w n p q None g = record { worker = refl; place = g }
-claim-holds d w n p q (Some r) g = tt
+claim-holds : (d : Shape) (w n : ℕ) (p : Place) (r : Option (ℕ × ℕ)) → ClaimGives d w (moved d (claim_act n (claim_of w p r)) p) (claim_of w p r)
+claim-holds d w n p None = record { worker = refl; place = refl }
+claim-holds d w n p (Some r) = tt
 
-pub claim-gives : (d : Shape) (w n : ℕ) (p q : Place) (r : Option (ℕ × ℕ)) (c : Claim) → c ≡ claim_of w p r → q ≡ moved d (claim_act n c) p
-    → ClaimGives d w q c
-claim-gives d w n p q r c is goes = subst (λ m. q ≡ moved d (claim_act n m) p → ClaimGives d w q m) (sym is) (claim-holds d w n p q r) goes
+pub claim-gives : (d : Shape) (w n : ℕ) (p : Place) (r : Option (ℕ × ℕ)) (c : Claim) → c ≡ claim_of w p r → ClaimGives d w (moved d (claim_act n c) p) c
+claim-gives d w n p r c is = subst (λ m. ClaimGives d w (moved d (claim_act n m) p) m) (sym is) (claim-holds d w n p r)
 
 -- ---- shut
 
-shut-calm : (r : Shutting) → Calm (shut_act r)
+shut-calm : (r : ShutReply) → Calm (shut_act r)
 shut-calm (shut.Won y) = (λ w p f. refl, λ w p f. refl, λ n. refl, λ n. refl)
 shut-calm shut.Lost = (λ w p f. refl, λ w p f. refl, λ n. refl, λ n. refl)
 
-shut-site : (r : Shutting) (p : Place) → slot_of p ≡ site (shut_act r) p
+shut-site : (r : ShutReply) (p : Place) → slot_of p ≡ site (shut_act r) p
 shut-site (shut.Won y) p = refl
 shut-site shut.Lost p = refl
 
@@ -247,12 +262,14 @@ shut-slot d w p (Open t) = refl
 shut-slot d w p (Shut t e) = refl
 shut-slot d w p (Finishing jd u h) = refl
 
-pub shut-after : (o : Inside) (ok : Kept o) (w : ℕ) (p : Place) (k id : ℕ) → Spot o w p k → p ≡ Used k id → (b : Bool) (y : Slot)
+pub shut-after : (o : Inside) (ok : Kept o) (w : ℕ) (p : Place) (k : ℕ) → Spot o w Shutting p k → (b : Bool) (y : Slot)
     → (b ≡ is_open ((now_of o).slots k)) × (shown (shut_by w ((now_of o).slots k)) ≡ y)
-    → (r : Shutting) → r ≡ shut_of w p o.shape b → (a' : Act) → a' ≡ shut_act r → (places : List Place) (log : List Logged) → Wrote o w a' places log
-    → IsObject o.shape (set o.slots.items k y) o.owing.items places o.returns.items o.changes.items o.admitted o.finished log
-shut-after o ok w p k id s at b y got r answers a' is places log wrote =
+    → (r : ShutReply) → r ≡ shut_of w p o.shape b → (a' : Act) → a' ≡ shut_act r → (places : List Place) (log : List Logged) → Wrote o w a' places log
+    → IsObject (record (contents o) { slots = set o.slots.items k y; places = places; log = log })
+shut-after o ok w p k s b y got r answers a' is places log wrote =
     let d = o.shape in let S = now_of o in let x = S.slots k in
+    let (j, id, is_at) = s.may in
+    let at : p ≡ Used k id = is_at ∙ ap (λ i. Used i id) (sym (s.slot ∙ ap slot_of is_at)) in
     let was = inside-slots d S (tabled o ok) k w id s.low (subst (λ q. has_own_cell q k ≡ true) (sym at ∙ s.is) (eq-eqb k k refl))
     (subst (λ q. is_inside q id ≡ true) (sym at ∙ s.is) (eq-eqb id id refl)) in
     let a : Act = shut_act (shut_of w p d (is_open x)) in
@@ -265,20 +282,20 @@ shut-after o ok w p k id s at b y got r answers a' is places log wrote =
       debts-kept d o.owing.items S.slots k (slot_after d w a x) ok.debts_are (λ v h. ap (λ z. owes z v) after ∙ owes-shut w x v),
     )
 
-shut-holds : (d : Shape) (w : ℕ) (p q : Place) (b : Bool) → q ≡ moved d (shut_act (shut_of w p d b)) p → ShutGives d w q (shut_of w p d b)
-shut-holds d w p q true g = record { worker = refl; workers = refl; place = g; asked = refl; marked = refl }
-shut-holds d w p q false g = tt
+shut-holds : (d : Shape) (w : ℕ) (p : Place) (b : Bool) → ShutGives d w (moved d (shut_act (shut_of w p d b)) p) (shut_of w p d b)
+shut-holds d w p true = record { worker = refl; workers = refl; place = refl; asked = refl; marked = refl }
+shut-holds d w p false = tt
 
-pub shut-gives : (d : Shape) (w : ℕ) (p q : Place) (b : Bool) (r : Shutting) → r ≡ shut_of w p d b → q ≡ moved d (shut_act r) p → ShutGives d w q r
-shut-gives d w p q b r is goes = subst (λ m. q ≡ moved d (shut_act m) p → ShutGives d w q m) (sym is) (shut-holds d w p q b) goes
+pub shut-gives : (d : Shape) (w : ℕ) (p : Place) (b : Bool) (r : ShutReply) → r ≡ shut_of w p d b → ShutGives d w (moved d (shut_act r) p) r
+shut-gives d w p b r is = subst (λ m. ShutGives d w (moved d (shut_act m) p) m) (sym is) (shut-holds d w p b)
 
 -- the slot of a worker that is inside may be claimed from
-pub inside-spot : (o : Inside) (ok : Kept o) (w : ℕ) (p : Place) (k : ℕ) → Spot o w p k → ((s id : ℕ) × (p ≡ At s id))
-    → has_work (shown ((now_of o).slots k)) ≡ true
-inside-spot o ok w p k s at =
-    let e : p ≡ At k at.1 = at.2 ∙ ap (λ j. At j at.1) (sym (s.slot ∙ ap slot_of at.2)) in
-    inside-work o ok w p k at.1 s (subst (λ q. has_own_cell q k ≡ true) (sym e) (eq-eqb k k refl))
-    (subst (λ q. is_inside q at.1 ≡ true) (sym e) (eq-eqb at.1 at.1 refl))
+pub inside-spot : (o : Inside) (ok : Kept o) (w n : ℕ) (p : Place) (k : ℕ) → Spot o w (Claiming n) p k → has_work (shown ((now_of o).slots k)) ≡ true
+inside-spot o ok w n p k s =
+    let (j, id, is, some, most) = s.may in
+    let e : p ≡ At k id = is ∙ ap (λ i. At i id) (sym (s.slot ∙ ap slot_of is)) in
+    inside-work o ok w n p k id s (subst (λ q. has_own_cell q k ≡ true) (sym e) (eq-eqb k k refl))
+    (subst (λ q. is_inside q id ≡ true) (sym e) (eq-eqb id id refl))
 
 -- ---- what a holder notes
 
@@ -289,25 +306,23 @@ held-shown a (Open t) = refl
 held-shown a (Shut t e) = refl
 held-shown a (Finishing id u h) = refl
 
-pub total-after : (o : Inside) (ok : Kept o) (w : ℕ) → w < o.shape.workers → (t : ℕ)
-    → ((s : ℕ) × (h : Held) × ((now_of o).places w ≡ Holding s h) × IsSome h.query) → t ≤ MOST_TOTAL → (places : List Place) (log : List Logged)
+pub total-after : (o : Inside) (ok : Kept o) (w t : ℕ) → MayMake (story_of o) w (SettingTotal t) → (places : List Place) (log : List Logged)
     → Wrote o w (SetTotal t) places log
-    → IsObject o.shape o.slots.items o.owing.items places o.returns.items o.changes.items o.admitted o.finished log
-total-after o ok w low t at most places log wrote =
+    → IsObject (record (contents o) { places = places; log = log })
+total-after o ok w t asks places log wrote =
     let S = now_of o in let k = slot_of (S.places w) in
-    writes o ok w low (SetTotal t) (SetTotal t) refl (at.0, at.1, at.2, at.3, most) places log wrote
+    writes o ok w asks.below (SetTotal t) (SetTotal t) refl asks.may places log wrote
     (λ v p f. refl, λ v p f. refl, λ n. refl, λ n. refl) k refl o.slots.items o.owing.items (
       slots-kept o.shape o.slots.items S.slots k (held_on (SetTotal t) (S.slots k)) ok.slots_are (held-shown (SetTotal t) (S.slots k)),
       debts-kept o.shape o.owing.items S.slots k (held_on (SetTotal t) (S.slots k)) ok.debts_are (λ v h. owes-held (SetTotal t) (S.slots k) v),
     )
 
-pub note-after : (o : Inside) (ok : Kept o) (w : ℕ) → w < o.shape.workers → (n : ℕ)
-    → ((s : ℕ) × (h : Held) × ((now_of o).places w ≡ Holding s h) × IsSome h.query × (h.noted ≡ 0) × (h.stage + n ≤ STAGES)) → 0 < n
+pub note-after : (o : Inside) (ok : Kept o) (w n : ℕ) → MayMake (story_of o) w (NotingDone n)
     → (places : List Place) (log : List Logged) → Wrote o w (NoteDone n) places log
-    → IsObject o.shape o.slots.items o.owing.items places o.returns.items o.changes.items o.admitted (o.finished + n) log
-note-after o ok w low n at some places log wrote =
+    → IsObject (record (contents o) { places = places; finished = o.finished + n; log = log })
+note-after o ok w n asks places log wrote =
     let S = now_of o in let k = slot_of (S.places w) in
-    follow o ok w low (NoteDone n) (NoteDone n) refl (at.0, at.1, at.2, at.3, at.4, some, at.5) places log wrote o.slots.items o.owing.items o.returns.items
+    follow o ok w asks.below (NoteDone n) (NoteDone n) refl asks.may places log wrote o.slots.items o.owing.items o.returns.items
     o.changes.items o.admitted (o.finished + n) (
       slots-kept o.shape o.slots.items S.slots k (held_on (NoteDone n) (S.slots k)) ok.slots_are (held-shown (NoteDone n) (S.slots k)),
       debts-kept o.shape o.owing.items S.slots k (held_on (NoteDone n) (S.slots k)) ok.debts_are (λ v h. owes-held (NoteDone n) (S.slots k) v),
@@ -317,16 +332,16 @@ note-after o ok w low n at some places log wrote =
       ap (λ j. j + n) ok.finished_is,
     )
 
-admit-cases : (o : Inside) (ok : Kept o) (w : ℕ) → w < o.shape.workers → (q : ℕ)
-    → ((s : ℕ) × (h : Held) × ((now_of o).places w ≡ Holding s h) × (h.query ≡ None)) → q < o.shape.queries → (b : Bool) → eqb o.admitted q ≡ b
+admit-cases : (o : Inside) (ok : Kept o) (w q : ℕ) → MayMake (story_of o) w (Admitting q) → (b : Bool) → eqb o.admitted q ≡ b
     → (r : Admit) → r ≡ cond b admit.Got (admit.Lost o.admitted) → (n : ℕ) → n ≡ cond b (o.admitted + 1) o.admitted → (a' : Act) → a' ≡ admit_act q r
     → (places : List Place) (log : List Logged) → Wrote o w a' places log
-    → IsObject o.shape o.slots.items o.owing.items places o.returns.items o.changes.items n o.finished log
-admit-cases o ok w low q at few true same r answers n counts a' is places log wrote =
+    → IsObject (record (contents o) { places = places; admitted = n; log = log })
+admit-cases o ok w q asks true same r answers n counts a' is places log wrote =
     let S = now_of o in let k = slot_of (S.places w) in
     let e : S.admitted ≡ q = sym ok.admitted_is ∙ eqb-true o.admitted q same in
-    follow o ok w low (AdmitGot q) a' (is ∙ ap (admit_act q) answers)
-    (at.0, at.1, at.2, at.3, few, e) places log wrote o.slots.items o.owing.items o.returns.items o.changes.items n o.finished (
+    let (s, h, at, none, few) = asks.may in
+    follow o ok w asks.below (AdmitGot q) a' (is ∙ ap (admit_act q) answers)
+    (s, h, at, none, few, e) places log wrote o.slots.items o.owing.items o.returns.items o.changes.items n o.finished (
       slots-kept o.shape o.slots.items S.slots k (held_on (AdmitGot q) (S.slots k)) ok.slots_are (held-shown (AdmitGot q) (S.slots k)),
       debts-kept o.shape o.owing.items S.slots k (held_on (AdmitGot q) (S.slots k)) ok.debts_are (λ v h. owes-held (AdmitGot q) (S.slots k) v),
       ok.returns_are,
@@ -334,16 +349,16 @@ admit-cases o ok w low q at few true same r answers n counts a' is places log wr
       counts ∙ ap (λ j. j + 1) ok.admitted_is,
       ok.finished_is,
     )
-admit-cases o ok w low q at few false other r answers n counts a' is places log wrote =
+admit-cases o ok w q asks false other r answers n counts a' is places log wrote =
     let ne : o.admitted ≢ q = λ e. true≢false (sym (eq-eqb o.admitted q e) ∙ other) in
-    subst (λ j. IsObject o.shape o.slots.items o.owing.items places o.returns.items o.changes.items j o.finished log) (sym counts)
-    (quiet o ok w low (AdmitLost q o.admitted) a' (is ∙ ap (admit_act q) answers) (at.0, at.1, at.2, at.3, few, ok.admitted_is, ne) places log wrote
+    let (s, h, at, none, few) = asks.may in
+    subst (λ j. IsObject (record (contents o) { places = places; admitted = j; log = log })) (sym counts)
+    (quiet o ok w asks.below (AdmitLost q o.admitted) a' (is ∙ ap (admit_act q) answers) (s, h, at, none, few, ok.admitted_is, ne) places log wrote
     (λ d v x. refl) (λ v p f. refl, λ v p f. refl, λ n. refl, λ n. refl))
 
-pub admit-after : (o : Inside) (ok : Kept o) (w : ℕ) → w < o.shape.workers → (q : ℕ)
-    → ((s : ℕ) × (h : Held) × ((now_of o).places w ≡ Holding s h) × (h.query ≡ None)) → q < o.shape.queries
+pub admit-after : (o : Inside) (ok : Kept o) (w q : ℕ) → MayMake (story_of o) w (Admitting q)
     → (r : Admit) → r ≡ admit_of q o.admitted → (n : ℕ) → n ≡ cond (eqb o.admitted q) (o.admitted + 1) o.admitted → (a' : Act) → a' ≡ admit_act q r
     → (places : List Place) (log : List Logged) → Wrote o w a' places log
-    → IsObject o.shape o.slots.items o.owing.items places o.returns.items o.changes.items n o.finished log
-admit-after o ok w low q at few r answers n counts a' is places log wrote = admit-cases o ok w low q at few
-    (eqb o.admitted q) refl r answers n counts a' is places log wrote
+    → IsObject (record (contents o) { places = places; admitted = n; log = log })
+admit-after o ok w q asks r answers n counts a' is places log wrote =
+    admit-cases o ok w q asks (eqb o.admitted q) refl r answers n counts a' is places log wrote

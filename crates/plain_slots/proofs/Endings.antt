@@ -12,9 +12,10 @@ use Rattle.slot_history.specs.declared.place.Place.{Place}
 use Rattle.slot_history.specs.declared.place.Held.{Held}
 use Rattle.slot_history.specs.declared.place.Place.TheVariants.{Asking, Owing, Holding}
 use Rattle.slot_history.specs.Sets.{upd, count_of}
-use Rattle.slot_history.specs.States.{TaskSet, Ending, SlotState, Empty, Reserved, Open, Shut, Finishing, slot_of, id_at, finalisation, is_shut, is_swept, is_at, owes, next_id}
+use Rattle.slot_history.specs.States.{TaskSet, Ending, SlotState, Empty, Reserved, Open, Shut, Finishing, slot_of, id_at, finalisation, is_shut, is_swept, is_at, owes, next_id, held_at}
 use Rattle.slot_history.specs.Steps.{slot_after, moved, opened, ended, finalised_by, next_asked}
 use Rattle.slot_history.specs.Allowed.{IsReady, debts, next_is_at}
+use Rattle.slot_history.specs.Calls.{Call, Paying, Marking, Sweeping, Installing, Releasing}
 use Rattle.slot_history.specs.Table.{HasAsked, Meets, IsChainOf, duty_of, nth_other}
 use Rattle.slot_history.proofs.Sets.{upd-same, upd-else, count-same, none-counted}
 use Rattle.slot_history.proofs.Duties.{asking-leads, leads-slot, owing-else, paid-clear}
@@ -31,12 +32,12 @@ use Rattle.slot_station.specs.declared.log.Logged.{Logged}
 use Rattle.plain_slots.specs.declared.slot.Slot.{Slot}
 use Rattle.plain_slots.specs.declared.slot.Slot.TheVariants as Slots
 use Rattle.slot_station.specs.Answers.{finaliser_of, sweep_of, pay_of, mark_of}
-use Rattle.plain_slots.specs.Slots.{shown}
+use Rattle.plain_slots.specs.Slots.{shown, OfEach, is_last, debts_in}
 use Rattle.plain_slots.specs.Objects.{HasSlots, HasDebts, IsObject}
 use Rattle.slot_station.specs.Replies.{sweep_act, pay_act, mark_act}
 use Rattle.slot_station.specs.Tokens.{IsHolder, SweepGives, PayGives}
 use Rattle.plain_slots.proofs.Objects.{slots-set, slots-kept, debts-kept, debts-set}
-use Rattle.plain_slots.proofs.Following.{Kept, Wrote, Spot, now_of, tabled, writes}
+use Rattle.plain_slots.proofs.Following.{Kept, Wrote, Spot, contents, now_of, tabled, writes}
 
 -- the debts that are counted in a row are those of the slot
 pub row-count : (d : Shape) (owing : List Bool) (f : ℕ → SlotState) (k : ℕ) → HasDebts d owing f → k < d.slots
@@ -45,9 +46,9 @@ row-count d owing f k has in_k = count-same d.workers (λ v. slice_index_or owin
     (λ v in_v. get_or_from_slice_get owing (k * d.workers + v) (owes (f k) v) false (has.are k v in_k in_v))
 
 -- the slot whose end a worker coordinates
-leader : (o : Inside) (ok : Kept o) (w : ℕ) (p : Place) (k id n m : ℕ) → Spot o w p k → p ≡ Asking k id n m
+leader : (o : Inside) (ok : Kept o) (w : ℕ) (c : Call) (p : Place) (k id n m : ℕ) → Spot o w c p k → p ≡ Asking k id n m
     → (t : TaskSet) × (e : Ending) × ((now_of o).slots k ≡ Shut t e) × (w ≡ e.coordinator) × HasAsked o.shape e n m
-leader o ok w p k id n m s at =
+leader o ok w c p k id n m s at =
     let there : (now_of o).places w ≡ Asking k id n m = sym s.is ∙ at in
     let meets = subst (λ q. Meets o.shape k (duty_of ((now_of o).slots k) w) q) there ((tabled o ok).duty k w s.low) in
     let (e, duty, asked) = asking-leads o.shape k id n m (duty_of ((now_of o).slots k) w) meets in
@@ -55,12 +56,13 @@ leader o ok w p k id n m s at =
 
 -- ---- sweep
 
-sweep-cases : (o : Inside) (ok : Kept o) (w : ℕ) (p : Place) (k id n m : ℕ) → Spot o w p k → p ≡ Asking k id n m → n + 1 ≡ o.shape.workers
+sweep-cases : (o : Inside) (ok : Kept o) (w : ℕ) (p : Place) (k id n m : ℕ) → Spot o w Sweeping p k → p ≡ Asking k id n m
+    → n + 1 ≡ o.shape.workers
     → (t : TaskSet) (e : Ending) → (now_of o).slots k ≡ Shut t e → (c : ℕ) → c ≡ debts o.shape ((now_of o).slots k)
     → (b : Bool) → eqb c 0 ≡ b → (y : Slot) → y ≡ cond b (shown (finalised_by w (Shut t e))) (shown (ended o.shape w (SweepOthers c) (Shut t e)))
     → (r : Sweep) → r ≡ cond b (sweep.Last (finaliser_of w p)) (sweep.Others c) → (a' : Act) → a' ≡ sweep_act r
     → (places : List Place) (log : List Logged) → Wrote o w a' places log
-    → IsObject o.shape (set o.slots.items k y) o.owing.items places o.returns.items o.changes.items o.admitted o.finished log
+    → IsObject (record (contents o) { slots = set o.slots.items k y; places = places; log = log })
 sweep-cases o ok w p k id n m s at all t e is c counts true zero_ y holds r answers a' act places log wrote =
     let d = o.shape in let S = now_of o in
     let none : debts d (S.slots k) ≡ 0 = sym counts ∙ eqb-true c 0 zero_ in
@@ -84,37 +86,38 @@ sweep-cases o ok w p k id n m s at all t e is c counts false some_ y holds r ans
           (λ v h. ap (λ x. owes (ended d w (SweepOthers c) x) v) is ∙ ap (λ x. owes x v) (sym is)),
     )
 
-pub sweep-after : (o : Inside) (ok : Kept o) (w : ℕ) (p : Place) (k id n m : ℕ) → Spot o w p k → p ≡ Asking k id n m → n + 1 ≡ o.shape.workers → (c : ℕ)
-    → c ≡ count_of o.shape.workers (λ v. slice_index_or o.owing.items (k * o.shape.workers + v) false)
-    → (y : Slot) → ((x : SlotState) (d : Shape) → shown x ≡ shown ((now_of o).slots k) → is_shut x ≡ true
+pub sweep-after : (o : Inside) (ok : Kept o) (w : ℕ) (p : Place) (k : ℕ) → Spot o w Sweeping p k → (c : ℕ) → c ≡ debts_in o.shape o.owing.items k
+    → (y : Slot) → OfEach (shown ((now_of o).slots k)) (λ x. (d : Shape) → is_shut x ≡ true
     → y ≡ cond (eqb c 0) (shown (finalised_by w x)) (shown (ended d w (SweepOthers c) x))) → (r : Sweep) → r ≡ sweep_of w p c → (a' : Act)
     → a' ≡ sweep_act r
     → (places : List Place) (log : List Logged) → Wrote o w a' places log
-    → IsObject o.shape (set o.slots.items k y) o.owing.items places o.returns.items o.changes.items o.admitted o.finished log
-sweep-after o ok w p k id n m s at all c counted y holds r answers a' act places log wrote =
-    let (t, e, is, mine, asked) = leader o ok w p k id n m s at in
+    → IsObject (record (contents o) { slots = set o.slots.items k y; places = places; log = log })
+sweep-after o ok w p k s c counted y holds r answers a' act places log wrote =
+    let (j, id, n, m, is_at, all) = s.may in
+    let at : p ≡ Asking k id n m = is_at ∙ ap (λ i. Asking i id n m) (sym (s.slot ∙ ap slot_of is_at)) in
+    let (t, e, is, mine, asked) = leader o ok w Sweeping p k id n m s at in
     sweep-cases o ok w p k id n m s at all t e is c (counted ∙ row-count o.shape o.owing.items (now_of o).slots k ok.debts_are s.in_slots) (eqb c 0) refl y
-    (holds (Shut t e) o.shape (ap shown (sym is)) refl) r answers a' act places log wrote
+    (holds (Shut t e) (ap shown (sym is)) o.shape refl) r answers a' act places log wrote
 
-finaliser-holds : (w : ℕ) (p q : Place) → q ≡ Holding (slot_of p) (finalisation (id_at p)) → (d : Shape) → IsHolder d w q (finaliser_of w p)
-finaliser-holds w p q g d = record { worker = refl; noted = 0; total = None; place = g }
+finaliser-holds : (w : ℕ) (p : Place) (d : Shape) → IsHolder d w (Holding (slot_of p) (finalisation (id_at p))) (finaliser_of w p)
+finaliser-holds w p d = record { worker = refl; noted = 0; total = None; place = refl }
 
-sweep-holds : (d : Shape) (w : ℕ) (p q : Place) (c : ℕ) (b : Bool) → q ≡ moved d (sweep_act (cond b (sweep.Last (finaliser_of w p)) (sweep.Others c))) p
-    → SweepGives d w q (cond b (sweep.Last (finaliser_of w p)) (sweep.Others c))
-sweep-holds d w p q c true g = finaliser-holds w p q g d
-sweep-holds d w p q c false g = tt
+sweep-holds : (d : Shape) (w : ℕ) (p : Place) (c : ℕ) (b : Bool)
+    → SweepGives d w (moved d (sweep_act (cond b (sweep.Last (finaliser_of w p)) (sweep.Others c))) p) (cond b (sweep.Last (finaliser_of w p)) (sweep.Others c))
+sweep-holds d w p c true = finaliser-holds w p d
+sweep-holds d w p c false = tt
 
-pub sweep-gives : (d : Shape) (w : ℕ) (p q : Place) (c : ℕ) (r : Sweep) → r ≡ sweep_of w p c → q ≡ moved d (sweep_act r) p → SweepGives d w q r
-sweep-gives d w p q c r is goes = subst (λ m. q ≡ moved d (sweep_act m) p → SweepGives d w q m) (sym is) (sweep-holds d w p q c (eqb c 0)) goes
+pub sweep-gives : (d : Shape) (w : ℕ) (p : Place) (c : ℕ) (r : Sweep) → r ≡ sweep_of w p c → SweepGives d w (moved d (sweep_act r) p) r
+sweep-gives d w p c r is = subst (λ m. SweepGives d w (moved d (sweep_act m) p) m) (sym is) (sweep-holds d w p c (eqb c 0))
 
 -- ---- pay
 
-pay-cases : (o : Inside) (ok : Kept o) (w : ℕ) (p : Place) (k id : ℕ) → Spot o w p k → p ≡ Owing k id → (t : TaskSet) (e : Ending)
+pay-cases : (o : Inside) (ok : Kept o) (w : ℕ) (p : Place) (k id : ℕ) → Spot o w Paying p k → p ≡ Owing k id → (t : TaskSet) (e : Ending)
     → (now_of o).slots k ≡ Shut t e → (c : ℕ) → c ≡ debts o.shape (ended o.shape w PayDone (Shut t e))
-    → (owing : List Bool) → owing ≡ set o.owing.items (k * o.shape.workers + w) false → (b : Bool) → (is_swept (Shut t e) && eqb c 0) ≡ b → (y : Slot)
+    → (owing : List Bool) → owing ≡ set o.owing.items (k * o.shape.workers + w) false → (b : Bool) → is_last c (Shut t e) ≡ b → (y : Slot)
     → y ≡ cond b (shown (finalised_by w (Shut t e))) (shown (Shut t e)) → (r : Pay) → r ≡ pay_of w p b → (a' : Act) → a' ≡ pay_act r
     → (places : List Place) (log : List Logged) → Wrote o w a' places log
-    → IsObject o.shape (set o.slots.items k y) owing places o.returns.items o.changes.items o.admitted o.finished log
+    → IsObject (record (contents o) { slots = set o.slots.items k y; owing = owing; places = places; log = log })
 pay-cases o ok w p k id s at t e is c counts owing sets true last y holds r answers a' act places log wrote =
     let d = o.shape in let S = now_of o in
     let none : debts d (ended d w PayDone (S.slots k)) ≡ 0 = ap (λ x. debts d (ended d w PayDone x)) is ∙ sym counts ∙ eqb-true c 0
@@ -148,40 +151,40 @@ pay-cases o ok w p k id s at t e is c counts owing sets false more y holds r ans
           (λ v h ne. ap (λ x. owes (ended d w PayDone x) v) is ∙ owing-else d e v w ne ∙ ap (λ x. owes x v) (sym is))),
     )
 
-pub pay-after : (o : Inside) (ok : Kept o) (w : ℕ) (p : Place) (k id : ℕ) → Spot o w p k → p ≡ Owing k id → (owing : List Bool)
-    → owing ≡ set o.owing.items (k * o.shape.workers + w) false → (c : ℕ)
-    → c ≡ count_of o.shape.workers (λ v. slice_index_or owing (k * o.shape.workers + v) false)
-    → (y : Slot) → ((x : SlotState) → shown x ≡ shown ((now_of o).slots k) → is_shut x ≡ true
-    → y ≡ cond (is_swept x && eqb c 0) (shown (finalised_by w x)) (shown x)) → (r : Pay)
-    → ((x : SlotState) → shown x ≡ shown ((now_of o).slots k) → r ≡ pay_of w p (is_swept x && eqb c 0)) → (a' : Act) → a' ≡ pay_act r
+pub pay-after : (o : Inside) (ok : Kept o) (w : ℕ) (p : Place) (k : ℕ) → Spot o w Paying p k → (owing : List Bool)
+    → owing ≡ set o.owing.items (k * o.shape.workers + w) false → (c : ℕ) → c ≡ debts_in o.shape owing k
+    → (y : Slot) → OfEach (shown ((now_of o).slots k)) (λ x. is_shut x ≡ true → y ≡ cond (is_last c x) (shown (finalised_by w x)) (shown x))
+    → (r : Pay) → OfEach (shown ((now_of o).slots k)) (λ x. r ≡ pay_of w p (is_last c x)) → (a' : Act) → a' ≡ pay_act r
     → (places : List Place) (log : List Logged) → Wrote o w a' places log
-    → IsObject o.shape (set o.slots.items k y) owing places o.returns.items o.changes.items o.admitted o.finished log
-pay-after o ok w p k id s at owing sets c counted y holds r answers a' act places log wrote =
+    → IsObject (record (contents o) { slots = set o.slots.items k y; owing = owing; places = places; log = log })
+pay-after o ok w p k s owing sets c counted y holds r answers a' act places log wrote =
     let d = o.shape in let S = now_of o in
+    let (j, id, is_at) = s.may in
+    let at : p ≡ Owing k id = is_at ∙ ap (λ i. Owing i id) (sym (s.slot ∙ ap slot_of is_at)) in
     let (t, e, is, named) = paying-slot d S (tabled o ok) w k id s.low (sym s.is ∙ at) in
     let x' : SlotState = ended d w PayDone (Shut t e) in
     let row : HasDebts d owing (upd S.slots k x') = subst (λ l. HasDebts d l (upd S.slots k x')) (sym sets)
     (debts-set d o.owing.items S.slots k w x' false ok.debts_are s.in_slots s.low (paid-clear d e w)
     (λ v h ne. owing-else d e v w ne ∙ ap (λ x. owes x v) (sym is))) in
     pay-cases o ok w p k id s at t e is c (counted ∙ row-count d owing (upd S.slots k x') k row s.in_slots ∙ ap (debts d) (upd-same S.slots k x')) owing
-    sets (is_swept (Shut t e) && eqb c 0) refl y
+    sets (is_last c (Shut t e)) refl y
     (holds (Shut t e) (ap shown (sym is)) refl) r (answers (Shut t e) (ap shown (sym is))) a' act places log wrote
 
-pay-holds : (d : Shape) (w : ℕ) (p q : Place) (b : Bool) → q ≡ moved d (pay_act (pay_of w p b)) p → PayGives d w q (pay_of w p b)
-pay-holds d w p q true g = finaliser-holds w p q g d
-pay-holds d w p q false g = tt
+pay-holds : (d : Shape) (w : ℕ) (p : Place) (b : Bool) → PayGives d w (moved d (pay_act (pay_of w p b)) p) (pay_of w p b)
+pay-holds d w p true = finaliser-holds w p d
+pay-holds d w p false = tt
 
-pub pay-gives : (d : Shape) (w : ℕ) (p q : Place) (b : Bool) (r : Pay) → r ≡ pay_of w p b → q ≡ moved d (pay_act r) p → PayGives d w q r
-pay-gives d w p q b r is goes = subst (λ m. q ≡ moved d (pay_act m) p → PayGives d w q m) (sym is) (pay-holds d w p q b) goes
+pub pay-gives : (d : Shape) (w : ℕ) (p : Place) (b : Bool) (r : Pay) → r ≡ pay_of w p b → PayGives d w (moved d (pay_act r) p) r
+pay-gives d w p b r is = subst (λ m. PayGives d w (moved d (pay_act m) p) m) (sym is) (pay-holds d w p b)
 
 -- ---- mark_next
 
-mark-cases : (o : Inside) (ok : Kept o) (w : ℕ) (p : Place) (k id n m v : ℕ) → Spot o w p k → p ≡ Asking k id n m → n + 1 < o.shape.workers
+mark-cases : (o : Inside) (ok : Kept o) (w : ℕ) (p : Place) (k id n m v : ℕ) → Spot o w Marking p k → p ≡ Asking k id n m → n + 1 < o.shape.workers
     → (t : TaskSet) (e : Ending) → (now_of o).slots k ≡ Shut t e → v < o.shape.workers → v ≡ next_asked o.shape e → e.paid v ≡ false
     → (b : Bool) → b ≡ is_at ((now_of o).places v) k → (owing : List Bool) → owing ≡ set o.owing.items (k * o.shape.workers + v) (b || owes (Shut t e) v)
     → (r : Mark) → r ≡ mark_of b → (a' : Act) → a' ≡ mark_act r
     → (places : List Place) (log : List Logged) → Wrote o w a' places log
-    → IsObject o.shape o.slots.items owing places o.returns.items o.changes.items o.admitted o.finished log
+    → IsObject (record (contents o) { owing = owing; places = places; log = log })
 mark-cases o ok w p k id n m v s at more t e is in_v nxt unpaid true there owing sets r answers a' act places log wrote =
     let d = o.shape in let S = now_of o in
     let x' : SlotState = slot_after d w MarkMarked (S.slots k) in
@@ -208,19 +211,25 @@ mark-cases o ok w p k id n m v s at more t e is in_v nxt unpaid false there owin
           (debts-set d o.owing.items S.slots k v x' (owes (Shut t e) v) ok.debts_are s.in_slots in_v (same v ∙ ap (λ x. owes x v) is) (λ u h ne. same u)),
     )
 
--- the worker that is asked next, by the place of its coordinator
-pub next-worker : (o : Inside) (ok : Kept o) (w : ℕ) (p : Place) (k id n m : ℕ) → Spot o w p k → p ≡ Asking k id n m → n + 1 < o.shape.workers
-    → nth_other w n < o.shape.workers
-next-worker o ok w p k id n m s at more = nth-other-within w n o.shape.workers s.low more
+-- a worker that marks, by its place
+pub asks-at : (o : Inside) (w : ℕ) (p : Place) (k : ℕ) → Spot o w Marking p k
+    → (id n m : ℕ) × (p ≡ Asking k id n m) × (n + 1 < o.shape.workers)
+asks-at o w p k s =
+    let (j, id, n, m, is, more) = s.may in
+    (id, n, m, is ∙ ap (λ i. Asking i id n m) (sym (s.slot ∙ ap slot_of is)), more)
 
-pub mark-after : (o : Inside) (ok : Kept o) (w : ℕ) (p : Place) (k id n m : ℕ) → Spot o w p k → p ≡ Asking k id n m → n + 1 < o.shape.workers
+-- the worker that is asked next
+pub next-worker : (o : Inside) (w : ℕ) (p : Place) (k n : ℕ) → Spot o w Marking p k → n + 1 < o.shape.workers → nth_other w n < o.shape.workers
+next-worker o w p k n s more = nth-other-within w n o.shape.workers s.low more
+
+pub mark-after : (o : Inside) (ok : Kept o) (w : ℕ) (p : Place) (k id n m : ℕ) → Spot o w Marking p k → p ≡ Asking k id n m → n + 1 < o.shape.workers
     → (b : Bool) → b ≡ is_at ((now_of o).places (nth_other w n)) k → (i : ℕ) → i ≡ k * o.shape.workers + nth_other w n → (was : Bool)
     → was ≡ owes ((now_of o).slots k) (nth_other w n)
     → (r : Mark) → r ≡ mark_of b → (a' : Act) → a' ≡ mark_act r
     → (places : List Place) (log : List Logged) → Wrote o w a' places log
-    → IsObject o.shape o.slots.items (set o.owing.items i (b || was)) places o.returns.items o.changes.items o.admitted o.finished log
+    → IsObject (record (contents o) { owing = set o.owing.items i (b || was); places = places; log = log })
 mark-after o ok w p k id n m s at more b there i index was owed r answers a' act places log wrote =
-    let (t, e, is, mine, asked) = leader o ok w p k id n m s at in
+    let (t, e, is, mine, asked) = leader o ok w Marking p k id n m s at in
     let chain = subst (IsChainOf o.shape) is ((tabled o ok).chain k) in
     let v = nth_other w n in
     let nxt : v ≡ next_asked o.shape e = ap (λ u. nth_other u n) mine ∙ sym (next-is o.shape e n m asked chain.coordinator more) in
@@ -235,12 +244,16 @@ mark-after o ok w p k id n m s at more b there i index was owed r answers a' act
 open-shown : (id total : ℕ) → Slots.Open (record { id = id; total = total; next = 0 }) ≡ shown (Open (record { id = id; total = total; cursor = 0 }))
 open-shown id total = ap (λ n. Slots.Open (record { id = id; total = total; next = n })) (sym (min-zero total))
 
-install-with : (o : Inside) (ok : Kept o) (w : ℕ) (p : Place) (k id : ℕ) (h : Held) → Spot o w p k → p ≡ Holding k h → IsReady h → id ≡ next_id h
+install-with : (o : Inside) (ok : Kept o) (w : ℕ) (p : Place) (k id : ℕ) (h : Held) → Spot o w (Installing id) p k → p ≡ Holding k h → IsReady h
+    → id ≡ next_id h
     → (x : SlotState) → (now_of o).slots k ≡ x → ((v : ℕ) → owes x v ≡ false)
     → opened id x ≡ Open (record { id = id; total = unwrap_or h.total 0; cursor = 0 })
     → (places : List Place) (log : List Logged) → Wrote o w (Install id) places log
-    → IsObject o.shape (set o.slots.items k (Slots.Open (record { id = id; total = unwrap_or h.total 0; next = 0 }))) o.owing.items places
-    o.returns.items o.changes.items o.admitted o.finished log
+    → IsObject (record (contents o) {
+      slots = set o.slots.items k (Slots.Open (record { id = id; total = unwrap_or h.total 0; next = 0 }));
+      places = places;
+      log = log;
+    })
 install-with o ok w p k id h s at ready named x is clear opens places log wrote =
     let d = o.shape in let S = now_of o in
     let after : slot_after d w (Install id) (S.slots k) ≡ Open (record { id = id; total = unwrap_or h.total 0; cursor = 0 }) = ap (opened id) is ∙ opens in
@@ -253,19 +266,31 @@ install-with o ok w p k id h s at ready named x is clear opens places log wrote 
           (λ v u. ap (λ y. owes y v) after ∙ sym (clear v) ∙ ap (λ y. owes y v) (sym is)),
     )
 
-pub install-after : (o : Inside) (ok : Kept o) (w : ℕ) (p : Place) (k id : ℕ) (h : Held) → Spot o w p k → p ≡ Holding k h → IsReady h → id ≡ next_id h
+pub install-after : (o : Inside) (ok : Kept o) (w : ℕ) (p : Place) (k id total : ℕ) → Spot o w (Installing id) p k → total ≡ unwrap_or (held_at p).total 0
     → (places : List Place) (log : List Logged) → Wrote o w (Install id) places log
-    → IsObject o.shape (set o.slots.items k (Slots.Open (record { id = id; total = unwrap_or h.total 0; next = 0 }))) o.owing.items places o.returns.items
-    o.changes.items o.admitted o.finished log
-install-after o ok w p k id h s at ready named places log wrote =
-    ⊎_elim (λ is. install-with o ok w p k id h s at ready named (Reserved w h) is (λ v. refl) refl places log wrote)
+    → IsObject (record (contents o) {
+      slots = set o.slots.items k (Slots.Open (record { id = id; total = total; next = 0 }));
+      places = places;
+      log = log;
+    })
+install-after o ok w p k id total s set_to places log wrote =
+    let (j, h, is_at, ready, named) = s.may in
+    let at : p ≡ Holding k h = is_at ∙ ap (λ i. Holding i h) (sym (s.slot ∙ ap slot_of is_at)) in
+    let same : total ≡ unwrap_or h.total 0 = set_to ∙ ap (λ q. unwrap_or (held_at q).total 0) is_at in
+    subst (λ t. IsObject (record (contents o) {
+      slots = set o.slots.items k (Slots.Open (record { id = id; total = t; next = 0 }));
+      places = places;
+      log = log;
+    })) (sym same)
+    (⊎_elim (λ is. install-with o ok w p k id h s at ready named (Reserved w h) is (λ v. refl) refl places log wrote)
     (λ (jd, is). install-with o ok w p k id h s at ready named (Finishing jd w h) is (λ v. refl) refl places log wrote)
-    (holder-slot o.shape (now_of o) (tabled o ok) w k h s.low (sym s.is ∙ at))
+    (holder-slot o.shape (now_of o) (tabled o ok) w k h s.low (sym s.is ∙ at)))
 
-release-with : (o : Inside) (ok : Kept o) (w : ℕ) (p : Place) (k : ℕ) (h : Held) → Spot o w p k → p ≡ Holding k h → ((h.query ≡ None) ⊎ (0 < h.noted))
+release-with : (o : Inside) (ok : Kept o) (w : ℕ) (p : Place) (k : ℕ) (h : Held) → Spot o w Releasing p k → p ≡ Holding k h
+    → ((h.query ≡ None) ⊎ (0 < h.noted))
     → (x : SlotState) → (now_of o).slots k ≡ x → ((v : ℕ) → owes x v ≡ false)
     → (places : List Place) (log : List Logged) → Wrote o w Release places log
-    → IsObject o.shape (set o.slots.items k Slots.Empty) o.owing.items places o.returns.items o.changes.items o.admitted o.finished log
+    → IsObject (record (contents o) { slots = set o.slots.items k Slots.Empty; places = places; log = log })
 release-with o ok w p k h s at may x is clear places log wrote =
     let d = o.shape in let S = now_of o in
     writes o ok w s.low Release Release refl (k, h, sym s.is ∙ at, may) places log wrote (λ v q f. refl, λ v q f. refl, λ j. refl, λ j. refl) k
@@ -274,10 +299,12 @@ release-with o ok w p k h s at may x is clear places log wrote =
       debts-kept d o.owing.items S.slots k Empty ok.debts_are (λ v u. sym (clear v) ∙ ap (λ y. owes y v) (sym is)),
     )
 
-pub release-after : (o : Inside) (ok : Kept o) (w : ℕ) (p : Place) (k : ℕ) (h : Held) → Spot o w p k → p ≡ Holding k h → ((h.query ≡ None) ⊎ (0 < h.noted))
+pub release-after : (o : Inside) (ok : Kept o) (w : ℕ) (p : Place) (k : ℕ) → Spot o w Releasing p k
     → (places : List Place) (log : List Logged) → Wrote o w Release places log
-    → IsObject o.shape (set o.slots.items k Slots.Empty) o.owing.items places o.returns.items o.changes.items o.admitted o.finished log
-release-after o ok w p k h s at may places log wrote =
+    → IsObject (record (contents o) { slots = set o.slots.items k Slots.Empty; places = places; log = log })
+release-after o ok w p k s places log wrote =
+    let (j, h, is_at, may) = s.may in
+    let at : p ≡ Holding k h = is_at ∙ ap (λ i. Holding i h) (sym (s.slot ∙ ap slot_of is_at)) in
     ⊎_elim (λ is. release-with o ok w p k h s at may (Reserved w h) is (λ v. refl) places log wrote)
     (λ (jd, is). release-with o ok w p k h s at may (Finishing jd w h) is (λ v. refl) places log wrote)
     (holder-slot o.shape (now_of o) (tabled o ok) w k h s.low (sym s.is ∙ at))

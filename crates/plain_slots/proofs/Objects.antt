@@ -15,8 +15,23 @@ use Rattle.plain_slots.specs.declared.slot.Slot.{Slot}
 use Rattle.slot_station.specs.Log.{call}
 use Rattle.plain_slots.specs.Slots.{shown}
 use Rattle.one_thread.specs.Stories.{state_in}
-use Rattle.plain_slots.specs.Objects.{HasSlots, HasDebts, HasPlaces, HasMasks, IsObject}
+use Rattle.one_thread.proofs.Places.{places-set}
+use Rattle.plain_slots.specs.Objects.{HasSlots, HasDebts, HasMasks, Contents, IsObject}
 use Rattle.slot_station.proofs.Lists.{lists-set, lists-kept, get-set_same, get-set_other, pair-within}
+
+-- what an object keeps, part by part
+abbrev pub contents_of : Shape → List Slot → List Bool → List Place → List ℕ → List ℕ → ℕ → ℕ → List Logged → Contents
+contents_of d slots owing places returns changes admitted finished log = record {
+  shape = d;
+  slots = slots;
+  owing = owing;
+  places = places;
+  returns = returns;
+  changes = changes;
+  admitted = admitted;
+  finished = finished;
+  log = log;
+}
 
 module _ (d : Shape) where
   pub slots-set : (slots : List Slot) (f : ℕ → SlotState) (k : ℕ) (x : SlotState) → HasSlots d slots f → k < d.slots
@@ -26,14 +41,6 @@ module _ (d : Shape) where
   pub slots-kept : (slots : List Slot) (f : ℕ → SlotState) (k : ℕ) (x : SlotState) → HasSlots d slots f → shown x ≡ shown (f k)
       → HasSlots d slots (upd f k x)
   slots-kept slots f k x has same = record { count = has.count; are = lists-kept shown d.slots slots f k x same has.are }
-
-  pub places-set : (places : List Place) (f : ℕ → Place) (w : ℕ) (p : Place) → HasPlaces d places f → w < d.workers
-      → HasPlaces d (set places w p) (upd f w p)
-  places-set places f w p has low = record {
-    count = length-set places w p ∙ has.count;
-    are = lists-set
-        (λ q. q) d.workers places f w p has.count low has.are;
-  }
 
   debts-kept-at : (owing : List Bool) (f : ℕ → SlotState) (k : ℕ) (x : SlotState) → HasDebts d owing f → ((v : ℕ) → v < d.workers → owes x v ≡ owes (f k) v)
       → (s v : ℕ) → s < d.slots → v < d.workers → Dec (s ≡ k) → slice_get owing (s * d.workers + v) ≡ Some (owes (upd f k x s) v)
@@ -80,18 +87,18 @@ module _ (d : Shape) where
   }
 
 -- After a call, where slots, debts, notices and numbers are those of the next state. The worker goes to its next place.
-pub after-call : (d : Shape) (slots slots' : List Slot) (owing owing' : List Bool) (places : List Place) (returns returns' changes changes' : List ℕ)
-    (admitted admitted' finished finished' : ℕ) (log : List Logged) (w : ℕ) (a : Act)
-    → IsObject d slots owing places returns changes admitted finished log → w < d.workers → IsAllowed d (state_in d log) w a
-    → (let S = next d (state_in d log) w a in HasSlots d slots' S.slots × HasDebts d owing' S.slots × HasMasks d S.returns returns'
-    × HasMasks d S.changes changes' × (admitted' ≡ S.admitted) × (finished' ≡ S.finished))
-    → IsObject d slots' owing' (set places w (moved d a ((state_in d log).places w))) returns' changes' admitted' finished' (call w a ∷ log)
-after-call d slots slots' owing owing' places returns returns' changes changes' admitted admitted' finished finished' log w a ok low allowed new = record {
+pub after-call : (o : Contents) (w : ℕ) (a : Act) → IsObject o → w < o.shape.workers → IsAllowed o.shape (state_in o.shape o.log) w a
+    → (slots : List Slot) (owing : List Bool) (returns changes : List ℕ) (admitted finished : ℕ)
+    → (let S = next o.shape (state_in o.shape o.log) w a in HasSlots o.shape slots S.slots × HasDebts o.shape owing S.slots
+    × HasMasks o.shape S.returns returns × HasMasks o.shape S.changes changes × (admitted ≡ S.admitted) × (finished ≡ S.finished))
+    → IsObject (contents_of o.shape slots owing (set o.places w (moved o.shape a ((state_in o.shape o.log).places w))) returns changes admitted finished
+    (call w a ∷ o.log))
+after-call o w a ok low allowed slots owing returns changes admitted finished new = record {
   shape = ok.shape;
   legal = (low, allowed, ok.legal);
   slots_are = new.0;
   debts_are = new.1;
-  places_are = places-set d places (state_in d log).places w (moved d a ((state_in d log).places w)) ok.places_are low;
+  places_are = places-set o.shape o.places (state_in o.shape o.log).places w (moved o.shape a ((state_in o.shape o.log).places w)) ok.places_are low;
   returns_are = new.2;
   changes_are = new.3;
   admitted_is = new.4;

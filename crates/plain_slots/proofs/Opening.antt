@@ -12,6 +12,7 @@ use Rattle.plain_slots.specs.declared.slot.Slot.TheVariants.{Empty}
 use Rattle.slot_station.specs.Shapes.{IsShape}
 use Rattle.plain_slots.specs.Objects.{HasMasks, IsObject}
 use Rattle.slot_station.proofs.Lists.{get-replicate, pair-within}
+use Rattle.plain_slots.proofs.Objects.{contents_of}
 use Rattle.plain_slots.proofs.Masks.{word-within}
 
 no-masks : (d : Shape) → HasMasks d (λ w s. false) (replicate {A = ℕ} (d.workers * PARTS) 0)
@@ -21,11 +22,9 @@ no-masks d = record {
       (record { small = omega arith; each = λ k low. bit_at-zero k });
 }
 
-pub opens : (d : Shape) (slots : List Slot) (owing : List Bool) (places : List Place) (returns changes : List ℕ) (log : List Logged) → IsShape d
-    → slots ≡ replicate d.slots Empty → owing ≡ replicate (d.slots * d.workers) false → places ≡ replicate d.workers Free
-    → returns ≡ replicate {A = ℕ} (d.workers * PARTS) 0 → changes ≡ replicate {A = ℕ} (d.workers * PARTS) 0 → log ≡ []
-    → IsObject d slots owing places returns changes 0 0 log
-opens d slots owing places returns changes log shape a b c e f g = rw (a, b, c, e, f, g) (record {
+opened : (d : Shape) → IsShape d → IsObject (contents_of d (replicate d.slots Empty) (replicate (d.slots * d.workers) false)
+    (replicate d.workers Free) (replicate {A = ℕ} (d.workers * PARTS) 0) (replicate {A = ℕ} (d.workers * PARTS) 0) 0 0 [])
+opened d shape = record {
   shape = shape;
   legal = tt;
   slots_are = record { count = length-replicate d.slots Empty; are = λ s h. get-replicate d.slots s Empty h };
@@ -39,4 +38,10 @@ opens d slots owing places returns changes log shape a b c e f g = rw (a, b, c, 
   changes_are = no-masks d;
   admitted_is = refl;
   finished_is = refl;
-})
+}
+
+pub opens : (d : Shape) (slots : List Slot) (owing : List Bool) (places : List Place) (returns changes : List ℕ) (log : List Logged) → IsShape d
+    → slots ≡ replicate d.slots Empty → owing ≡ replicate (d.slots * d.workers) false → places ≡ replicate d.workers Free
+    → returns ≡ replicate {A = ℕ} (d.workers * PARTS) 0 → changes ≡ replicate {A = ℕ} (d.workers * PARTS) 0 → log ≡ []
+    → IsObject (contents_of d slots owing places returns changes 0 0 log)
+opens d slots owing places returns changes log shape a b c e f g = rw (a, b, c, e, f, g) (opened d shape)

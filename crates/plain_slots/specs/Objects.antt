@@ -9,7 +9,7 @@ use Rattle.slot_history.specs.Histories.{IsLegal}
 use Rattle.slot_station.specs.declared.log.Logged.{Logged}
 use Rattle.slot_station.specs.Log.{calls_of}
 use Rattle.slot_station.specs.Shapes.{IsShape}
-use Rattle.one_thread.specs.Stories.{state_in}
+use Rattle.one_thread.specs.Stories.{HasPlaces, state_in}
 use Rattle.plain_slots.specs.declared.slot.Slot.{Slot}
 use Rattle.plain_slots.specs.Slots.{shown}
 
@@ -19,31 +19,37 @@ pub record HasMasks (d : Shape) (pending : ℕ → ℕ → Bool) (words : List �
   pub masks : (w part : ℕ) → w < d.workers → part < PARTS
       → IsMask part (pending w) (get_or words (w * PARTS + part) 0)
 
--- the slots, in a list
-pub record HasSlots (d : Shape) (slots : List Slot) (f : ℕ → SlotState) : Type 0 where
+-- a list of slots shows the states of the slots
+pub record HasSlots (d : Shape) (slots : List Slot) (states : ℕ → SlotState) : Type 0 where
   pub count : length slots ≡ d.slots
-  pub are : (s : ℕ) → s < d.slots → slice_get slots s ≡ Some (shown (f s))
+  pub are : (s : ℕ) → s < d.slots → slice_get slots s ≡ Some (shown (states s))
 
--- of each slot and worker whether the worker was marked there and has not paid
-pub record HasDebts (d : Shape) (owing : List Bool) (f : ℕ → SlotState) : Type 0 where
+-- a list says of each slot and worker whether the worker was marked there and has not paid
+pub record HasDebts (d : Shape) (owing : List Bool) (states : ℕ → SlotState) : Type 0 where
   pub count : length owing ≡ d.slots * d.workers
   pub are : (s v : ℕ) → s < d.slots → v < d.workers
-      → slice_get owing (s * d.workers + v) ≡ Some (owes (f s) v)
+      → slice_get owing (s * d.workers + v) ≡ Some (owes (states s) v)
 
--- the places of the workers
-pub record HasPlaces (d : Shape) (places : List Place) (f : ℕ → Place) : Type 0 where
-  pub count : length places ≡ d.workers
-  pub are : (w : ℕ) → w < d.workers → slice_get places w ≡ Some (f w)
+-- what an object keeps
+pub record Contents : Type 0 where
+  pub shape : Shape
+  pub slots : List Slot
+  pub owing : List Bool
+  pub places : List Place
+  pub returns : List ℕ
+  pub changes : List ℕ
+  pub admitted : ℕ
+  pub finished : ℕ
+  pub log : List Logged
 
--- what is kept at run time is what the legal history of the log leaves
-pub record IsObject (d : Shape) (slots : List Slot) (owing : List Bool) (places : List Place)
-    (returns changes : List ℕ) (admitted finished : ℕ) (log : List Logged) : Type 0 where
-  pub shape : IsShape d
-  pub legal : IsLegal d (calls_of log)
-  pub slots_are : HasSlots d slots (state_in d log).slots
-  pub debts_are : HasDebts d owing (state_in d log).slots
-  pub places_are : HasPlaces d places (state_in d log).places
-  pub returns_are : HasMasks d (state_in d log).returns returns
-  pub changes_are : HasMasks d (state_in d log).changes changes
-  pub admitted_is : admitted ≡ (state_in d log).admitted
-  pub finished_is : finished ≡ (state_in d log).finished
+-- what is kept is what the legal history of the log leaves
+pub record IsObject (kept : Contents) : Type 0 where
+  pub shape : IsShape kept.shape
+  pub legal : IsLegal kept.shape (calls_of kept.log)
+  pub slots_are : HasSlots kept.shape kept.slots (state_in kept.shape kept.log).slots
+  pub debts_are : HasDebts kept.shape kept.owing (state_in kept.shape kept.log).slots
+  pub places_are : HasPlaces kept.shape kept.places (state_in kept.shape kept.log).places
+  pub returns_are : HasMasks kept.shape (state_in kept.shape kept.log).returns kept.returns
+  pub changes_are : HasMasks kept.shape (state_in kept.shape kept.log).changes kept.changes
+  pub admitted_is : kept.admitted ≡ (state_in kept.shape kept.log).admitted
+  pub finished_is : kept.finished ≡ (state_in kept.shape kept.log).finished

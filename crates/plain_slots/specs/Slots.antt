@@ -1,6 +1,12 @@
--- What a one-thread table shows of the state of a slot.
-use Rattle.std.specs.Prelude.{◌≡◌, ℕ, ◌+◌, ◌<◌, ◌≤◌, Bool, true, false, min, Option, Some, None}
+-- What an object keeps of the state of a slot, and what its calls make of that and of other lists.
+use Rattle.std.specs.Prelude.{◌≡◌, ℕ, ◌+◌, ◌*◌, ◌/◌, ◌<◌, ◌≤◌, Bool, true, false, eqb, ◌&&◌, min, List, Option, Some, None, bit_or, slice_get, slice_set, slice_index, slice_index_or}
+use Rattle.slot_history.specs.declared.shape.Shape.{Shape}
+use Rattle.slot_history.specs.declared.shape.TheConstants.{PARTS, MOST_SLOTS, MOST_WORKERS}
+use Rattle.slot_history.specs.declared.place.Place.{Place}
+use Rattle.slot_history.specs.declared.place.Place.TheVariants.{Announcing}
+use Rattle.slot_history.specs.Sets.{count_of}
 use Rattle.slot_history.specs.States as state
+use Rattle.slot_history.specs.Allowed.{bit_of}
 use Rattle.slot_station.specs.declared.reply.Look.{Look}
 use Rattle.slot_station.specs.declared.reply.Look.TheVariants as look
 use Rattle.plain_slots.specs.declared.slot.Work.{Work}
@@ -11,12 +17,17 @@ use Rattle.plain_slots.specs.declared.slot.Slot.TheVariants.{Empty, Reserved, Op
 abbrev pub work_of : state.TaskSet → Work
 work_of t = record { id = t.id; total = t.total; next = min t.total t.cursor }
 
+-- what is kept of a slot in this state
 abbrev pub shown : state.SlotState → Slot
 shown state.Empty = Empty
-shown (state.Reserved w h) = Reserved
+shown (state.Reserved w held) = Reserved
 shown (state.Open t) = Open (work_of t)
-shown (state.Shut t e) = Shut (work_of t) e.swept
-shown (state.Finishing id w h) = Finishing id
+shown (state.Shut t end) = Shut (work_of t) end.swept
+shown (state.Finishing id w held) = Finishing id
+
+-- it holds of every state of which this is kept
+abbrev pub OfEach : Slot → (state.SlotState → Type 0) → Type 0
+OfEach slot P = (x : state.SlotState) → shown x ≡ slot → P x
 
 -- the slot has a task set that may be claimed from
 abbrev pub has_work : Slot → Bool
@@ -26,7 +37,7 @@ has_work _ = false
 
 abbrev pub swept_slot : Slot → Slot
 swept_slot (Shut t swept) = Shut t true
-swept_slot x = x
+swept_slot slot = slot
 
 abbrev pub look_of : Slot → Look
 look_of Empty = look.Vacant
@@ -40,3 +51,39 @@ abbrev pub ClaimFrom : state.SlotState → ℕ → Option (ℕ × ℕ) → Type 
 ClaimFrom x n None = (state.task_of x).total ≤ (state.task_of x).cursor
 ClaimFrom x n (Some r) = let t = state.task_of x in
     (r.0 ≡ t.cursor) × (r.0 < t.total) × (r.1 ≡ min t.total (r.0 + n))
+
+-- a payment is the last where so many other workers have to pay, if the slot was swept
+abbrev pub is_last : ℕ → state.SlotState → Bool
+is_last debts x = state.is_swept x && eqb debts 0
+
+-- how many workers have to pay at a slot, by the list of those that have to
+abbrev pub debts_in : Shape → List Bool → ℕ → ℕ
+debts_in d owing s = count_of d.workers (λ v. slice_index_or owing (s * d.workers + v) false)
+
+-- it holds of the place of a worker, where the list has one
+abbrev pub OfPlace : List Place → ℕ → (Place → Type 0) → Type 0
+OfPlace places w P = (p : Place) → slice_get places w ≡ Some p → P p
+
+-- ---- notices
+
+-- where the mask word of a slot is among those of all workers
+abbrev pub word_index : ℕ → ℕ → ℕ
+word_index w s = w * PARTS + s / 64
+
+-- the mask words with a notice of the slot s for the worker w
+abbrev pub with_notice : List ℕ → ℕ → ℕ → List ℕ
+with_notice words w s =
+    let i = word_index w s in
+    slice_set words i (bit_or (slice_index words i) (bit_of s))
+
+-- The mask words of one kind after an announcer at this place told one more worker; `again` is the
+-- kind.
+abbrev pub words_told : Bool → Place → List ℕ → List ℕ
+words_told true (Announcing s true told) words = with_notice words told s
+words_told false (Announcing s false told) words = with_notice words told s
+words_told again p words = words
+
+-- the place is an announcer's, and so many words have that of the worker that it tells
+abbrev pub CanTell : Place → ℕ → Type 0
+CanTell p count = (s told : ℕ) × (again : Bool) × (p ≡ Announcing s again told)
+    × (s < MOST_SLOTS) × (told < MOST_WORKERS) × (word_index told s < count)

@@ -1,18 +1,13 @@
-//! What a one-thread table answers, and what it writes for that.
-ghost use Rattle.std.specs.Prelude.{◌≡◌, ℕ, ◌+◌, ◌*◌, ◌/◌, ◌%◌, ◌^◌, ◌<◌, ◌≤◌, Bool, true, false, cond, eqb, ◌||◌, ◌&&◌, ◌∷◌, Some, length, bit_or, slice_get, slice_set, slice_index, slice_index_or};
+//! What the calls of an object answer, and what they write for that.
+ghost use Rattle.std.specs.Prelude.{◌≡◌, ℕ, ◌+◌, ◌*◌, ◌^◌, ◌<◌, ◌≤◌, Bool, true, false, cond, eqb, ◌||◌, ◌∷◌, length, slice_set};
 ghost use Rattle.slot_history.specs.declared.shape.Shape.{Shape};
-ghost use Rattle.slot_history.specs.declared.shape.TheConstants.{PARTS, MOST_SLOTS, MOST_WORKERS};
-ghost use Rattle.slot_history.specs.declared.act.Act.TheVariants.{SweepOthers, PayDone};
-ghost use Rattle.slot_history.specs.declared.place.Place.{Place};
-ghost use Rattle.slot_history.specs.declared.place.Place.TheVariants.{Asking, Announcing};
-ghost use Rattle.slot_history.specs.Sets.{count_of};
+ghost use Rattle.slot_history.specs.declared.act.Act.TheVariants.{SweepOthers};
 ghost use Rattle.slot_history.specs.States as states;
 ghost use Rattle.slot_history.specs.Steps as steps;
-ghost use Rattle.slot_history.specs.Table.{nth_other};
-ghost use Rattle.slot_station.specs.Answers.{claim_of, shut_of, leave_of, mark_of, finaliser_of, sweep_of, pay_of, reserve_of, admit_of};
+ghost use Rattle.slot_station.specs.Answers.{mark_of, sweep_of, pay_of, reserve_of, admit_of};
 ghost use Rattle.slot_station.specs.Log.{call};
 ghost use Rattle.slot_station.specs.Places.{IsCounted};
-ghost use Rattle.plain_slots.specs.Slots.{shown};
+ghost use Rattle.plain_slots.specs.Slots.{shown, OfEach, OfPlace, is_last, debts_in, words_told, CanTell};
 
 use crate::slot::{Slot, id_in, is_swept, sweep_in, word_in};
 use slot_history::act::{Act, Entry};
@@ -34,8 +29,9 @@ pub(crate) fn step(
     act: &Act,
 )
     requires worker { worker < length places.old.items }
-    requires counted { (p : Place) → slice_get places.old.items worker ≡ Some p → IsCounted p }
-    ensures places { (p : Place) → slice_get places.old.items worker ≡ Some p → places.new.items ≡ slice_set places.old.items worker (steps.moved shape.now act.now p) }
+    requires counted { OfPlace places.old.items worker IsCounted }
+    ensures places { OfPlace places.old.items worker (λ p. places.new.items
+        ≡ slice_set places.old.items worker (steps.moved shape.now act.now p)) }
     ensures log { log.new ≡ call worker act.now ∷ log.old }
 {
     let place = &mut places[worker as usize];
@@ -59,7 +55,7 @@ pub(crate) fn mark_if(is_there: bool, owes: &mut bool) -> Mark
 /// How many workers have to pay at a slot.
 pub(crate) fn debts_at(owing: &[bool], shape: &Shape, slot: u32) -> u32
     requires { slot * shape.now.workers + shape.now.workers ≤ length owing.now }
-    ensures { result ≡ count_of shape.now.workers (λ v. slice_index_or owing.now (slot * shape.now.workers + v) false) }
+    ensures { result ≡ debts_in shape.now owing.now slot }
 {
     let mut debts = 0;
     for worker in 0..shape.workers {
@@ -73,7 +69,9 @@ pub(crate) fn debts_at(owing: &[bool], shape: &Shape, slot: u32) -> u32
 /// Sweeps a slot at which so many workers have to pay.
 pub(crate) fn swept_by(worker: u32, place: &Place, slot: &mut Slot, debts: u32) -> Sweep
     ensures sweep { result ≡ sweep_of worker place.now debts }
-    ensures slot { (x : states.SlotState) (d : Shape) → shown x ≡ slot.old → states.is_shut x ≡ true → slot.new ≡ cond (eqb debts 0) (shown (steps.finalised_by worker x)) (shown (steps.ended d worker (SweepOthers debts) x)) }
+    ensures slot { OfEach slot.old (λ x. (d : Shape) → states.is_shut x ≡ true
+        → slot.new ≡ cond (eqb debts 0) (shown (steps.finalised_by worker x))
+        (shown (steps.ended d worker (SweepOthers debts) x))) }
 {
     if debts == 0 {
         *slot = Slot::Finishing(id_in(slot));
@@ -86,8 +84,9 @@ pub(crate) fn swept_by(worker: u32, place: &Place, slot: &mut Slot, debts: u32) 
 
 /// Pays at a slot at which so many other workers have to pay.
 pub(crate) fn paid_by(worker: u32, place: &Place, slot: &mut Slot, debts: u32) -> Pay
-    ensures pay { (x : states.SlotState) → shown x ≡ slot.old → result ≡ pay_of worker place.now (states.is_swept x && eqb debts 0) }
-    ensures slot { (x : states.SlotState) → shown x ≡ slot.old → states.is_shut x ≡ true → slot.new ≡ cond (states.is_swept x && eqb debts 0) (shown (steps.finalised_by worker x)) (shown x) }
+    ensures pay { OfEach slot.old (λ x. result ≡ pay_of worker place.now (is_last debts x)) }
+    ensures slot { OfEach slot.old (λ x. states.is_shut x ≡ true
+        → slot.new ≡ cond (is_last debts x) (shown (steps.finalised_by worker x)) (shown x)) }
 {
     if is_swept(slot) && debts == 0 {
         *slot = Slot::Finishing(id_in(slot));
@@ -99,8 +98,9 @@ pub(crate) fn paid_by(worker: u32, place: &Place, slot: &mut Slot, debts: u32) -
 
 /// Reserves a slot that is empty.
 pub(crate) fn reserved_by(worker: u32, s: u32, slot: &mut Slot) -> Reserve
-    ensures reserve { (x : states.SlotState) → shown x ≡ slot.old → result ≡ reserve_of worker s x }
-    ensures slot { (x : states.SlotState) → shown x ≡ slot.old → slot.new ≡ cond (states.is_empty x) (shown (states.Reserved worker states.reservation)) (shown x) }
+    ensures reserve { OfEach slot.old (λ x. result ≡ reserve_of worker s x) }
+    ensures slot { OfEach slot.old (λ x. slot.new ≡ cond (states.is_empty x)
+        (shown (states.Reserved worker states.reservation)) (shown x)) }
 {
     match slot {
         Slot::Empty => {
@@ -133,9 +133,10 @@ pub(crate) fn admit_at(admitted: &mut u32, q: u32) -> Admit
 
 /// Gives the next worker that an announcer tells a notice of its slot.
 pub(crate) fn tell_at(place: &Place, returns: &mut Vec<u64>, changes: &mut Vec<u64>)
-    requires { (s told : ℕ) × (again : Bool) × (place.now ≡ Announcing s again told) × (s < MOST_SLOTS) × (told < MOST_WORKERS) × (told * PARTS + s / 64 < length returns.old.items) × (told * PARTS + s / 64 < length changes.old.items) }
-    ensures again { (s told : ℕ) → place.now ≡ Announcing s true told → (changes.new.items ≡ changes.old.items) × (returns.new.items ≡ slice_set returns.old.items (told * PARTS + s / 64) (bit_or (slice_index returns.old.items (told * PARTS + s / 64)) (1 * 2 ^ (s % 64) % 2 ^ 64))) }
-    ensures first { (s told : ℕ) → place.now ≡ Announcing s false told → (returns.new.items ≡ returns.old.items) × (changes.new.items ≡ slice_set changes.old.items (told * PARTS + s / 64) (bit_or (slice_index changes.old.items (told * PARTS + s / 64)) (1 * 2 ^ (s % 64) % 2 ^ 64))) }
+    requires returns { CanTell place.now (length returns.old.items) }
+    requires changes { CanTell place.now (length changes.old.items) }
+    ensures returns { returns.new.items ≡ words_told true place.now returns.old.items }
+    ensures changes { changes.new.items ≡ words_told false place.now changes.old.items }
 {
     let Place::Announcing(s, again, told) = *place else {
         unreachable!()

@@ -1,4 +1,5 @@
-//! The object on one thread as the states of its slots and workers: what is kept of it at run time, and each call's step.
+//! The object on one thread as the states of its slots and workers: what is kept of it at run time,
+//! and each call's step.
 use crate::answers::{admit_at, debts_at, mark_if, paid_by, reserved_by, step, swept_by, tell_at};
 use crate::slot::{Slot, Work, claim_in, id_in, seen_in, shut_in};
 use one_thread::object::SlotObject;
@@ -15,8 +16,8 @@ use std::alloc::{AllocError, Global};
 use std::marker::Model;
 use std::mem;
 
-/// What is kept: of each slot what it holds and which workers have to pay there, of each worker its place and its
-/// pending notices, and the two numbers. The log is for contracts alone.
+/// What is kept: of each slot what it holds and which workers have to pay there, of each worker its
+/// place and its pending notices, and the two numbers. The log is for contracts alone.
 #[derive(Drop)]
 pub struct PlainObject {
     shape: Shape,
@@ -40,7 +41,17 @@ impl Model for PlainObject {
 
     ghost view = { λ o. record { shape = o.shape; log = o.log } };
 
-    ghost invariant = { λ o. IsObject o.shape o.slots.items o.owing.items o.places.items o.returns.items o.changes.items o.admitted o.finished o.log };
+    ghost invariant = { λ o. IsObject (record {
+      shape = o.shape;
+      slots = o.slots.items;
+      owing = o.owing.items;
+      places = o.places.items;
+      returns = o.returns.items;
+      changes = o.changes.items;
+      admitted = o.admitted;
+      finished = o.finished;
+      log = o.log;
+    }) };
 }
 
 impl SlotObject for PlainObject {

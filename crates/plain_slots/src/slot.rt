@@ -1,9 +1,9 @@
-//! What a one-thread table keeps of a slot.
-ghost use Rattle.std.specs.Prelude.{◌≡◌, ◌+◌, ◌<◌, ◌≤◌, true, min, MatchOption};
+//! What an object keeps of a slot, and what calls read and write there.
+ghost use Rattle.std.specs.Prelude.{◌≡◌, ℕ, ◌+◌, ◌<◌, ◌≤◌, true, min, MatchOption};
 ghost use Rattle.slot_history.specs.States as states;
 ghost use Rattle.slot_history.specs.Steps as steps;
 ghost use Rattle.plain_slots.specs.declared.slot.Work.{Work};
-ghost use Rattle.plain_slots.specs.Slots.{shown, has_work, swept_slot, look_of, ClaimFrom};
+ghost use Rattle.plain_slots.specs.Slots.{shown, OfEach, has_work, swept_slot, look_of, ClaimFrom};
 
 use slot_station::reply::Look;
 
@@ -15,7 +15,8 @@ pub(crate) struct Work {
     pub next: u32,
 }
 
-/// What is in a slot. Its holder has the rest in its place, and who has to pay is kept beside the slot.
+/// What is in a slot. Its holder has the rest in its place, and who has to pay is kept beside the
+/// slot.
 #[derive(Clone, Copy)]
 pub(crate) enum Slot {
     Empty,
@@ -40,7 +41,7 @@ pub(crate) fn seen_in(slot: &Slot) -> Look
 
 /// The slot's word: 0 empty, 1 reserved, `(id + 1) * 4 + 2` open, and that plus 1 once it is shut.
 pub(crate) fn word_in(slot: &Slot) -> u64
-    ensures { (x : states.SlotState) → shown x ≡ slot.now → result ≡ states.slot_word x }
+    ensures { OfEach slot.now (λ x. result ≡ states.slot_word x) }
 {
     match slot {
         Slot::Empty => 0,
@@ -53,7 +54,7 @@ pub(crate) fn word_in(slot: &Slot) -> u64
 
 /// The id of the task set there, else 0.
 pub(crate) fn id_in(slot: &Slot) -> u32
-    ensures { (x : states.SlotState) → shown x ≡ slot.now → result ≡ states.id_of x }
+    ensures { OfEach slot.now (λ x. result ≡ states.id_of x) }
 {
     match slot {
         Slot::Empty | Slot::Reserved => 0,
@@ -64,7 +65,7 @@ pub(crate) fn id_in(slot: &Slot) -> u32
 
 /// Whether a shut task set was swept.
 pub(crate) fn is_swept(slot: &Slot) -> bool
-    ensures { (x : states.SlotState) → shown x ≡ slot.now → result ≡ states.is_swept x }
+    ensures { OfEach slot.now (λ x. result ≡ states.is_swept x) }
 {
     match slot {
         Slot::Shut(_, swept) => *swept,
@@ -72,11 +73,14 @@ pub(crate) fn is_swept(slot: &Slot) -> bool
     }
 }
 
-/// Takes up to n of the tuples that are left, and answers the range. None exactly where none was left.
+/// Takes up to n of the tuples that are left, and answers the range. None exactly if none was left.
 fn take_range(work: &mut Work, n: u32) -> Option<(u32, u32)>
     requires { work.old.next ≤ work.old.total }
-    ensures none { MatchOption result (work.old.total ≤ work.old.next) (λ r. (r.0 ≡ work.old.next) × (r.0 < work.old.total)) }
-    ensures range { MatchOption result (work.new ≡ work.old) (λ r. (r.1 ≡ min work.old.total (work.old.next + n)) × (work.new ≡ record work.old { next = r.1 })) }
+    ensures none { MatchOption result (work.old.total ≤ work.old.next)
+        (λ r. (r.0 ≡ work.old.next) × (r.0 < work.old.total)) }
+    ensures range { MatchOption result (work.new ≡ work.old)
+        (λ r. (r.1 ≡ min work.old.total (work.old.next + n))
+        × (work.new ≡ record work.old { next = r.1 })) }
 {
     if work.next == work.total {
         return None;
@@ -91,7 +95,8 @@ fn take_range(work: &mut Work, n: u32) -> Option<(u32, u32)>
 pub(crate) fn claim_in(slot: &mut Slot, n: u32) -> Option<(u32, u32)>
     requires work { has_work slot.old ≡ true }
     requires state { (x : states.SlotState) × (shown x ≡ slot.old) }
-    ensures { (x : states.SlotState) → shown x ≡ slot.old → ClaimFrom x n result × (shown (steps.claimed x n) ≡ slot.new) }
+    ensures { OfEach slot.old (λ x. ClaimFrom x n result
+        × (shown (steps.claimed x n) ≡ slot.new)) }
 {
     match slot {
         Slot::Open(work) => take_range(work, n),
@@ -102,7 +107,8 @@ pub(crate) fn claim_in(slot: &mut Slot, n: u32) -> Option<(u32, u32)>
 
 /// Shuts an open slot. Whether it was open.
 pub(crate) fn shut_in(slot: &mut Slot) -> bool
-    ensures { (x : states.SlotState) (w : _) → shown x ≡ slot.old → (result ≡ states.is_open x) × (shown (steps.shut_by w x) ≡ slot.new) }
+    ensures { OfEach slot.old (λ x. (w : ℕ) → (result ≡ states.is_open x)
+        × (shown (steps.shut_by w x) ≡ slot.new)) }
 {
     match *slot {
         Slot::Open(work) => {

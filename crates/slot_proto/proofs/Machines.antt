@@ -18,29 +18,35 @@ use Rattle.slot_history.proofs.Sets.{upd-same, upd-else}
 use Rattle.slot_history.proofs.Within.{within}
 use Rattle.slot_station.specs.declared.log.Logged.{Logged}
 use Rattle.slot_station.specs.Log.{calls_of, call}
-use Rattle.one_thread.specs.Stories.{MakesCall, state_in, place_in}
+use Rattle.one_thread.specs.Stories.{Story, MayMake, MakesCall, state_in, place_in}
+use Rattle.one_thread.proofs.Places.{places-set}
 use Rattle.slot_station.specs.Places.{IsCounted}
 use Rattle.slot_station.proofs.PlaceCounts as counts
 use Rattle.slot_station.proofs.Lists.{get-replicate, get-set_same, get-set_other}
 use Rattle.slot_words.specs.declared.address.Address.{Address}
 use Rattle.slot_words.specs.Addresses.{index}
-use Rattle.slot_words.specs.Steps.{change_of, answer_of}
+use Rattle.slot_words.specs.Steps.{address_of, change_of, answer_of}
 use Rattle.slot_words.specs.Words.{StandsFor, AreFirst, word_at}
 use Rattle.slot_words.specs.Numbers.{IsSmall}
 use Rattle.slot_words.specs.Laws.{Turn, IsLawful, stepped}
 use Rattle.slot_proto.specs.declared.machine.Machine.TheInside.{Inside}
 use Rattle.slot_words.proofs.Law.{law}
 use Rattle.slot_words.proofs.Openings.{first-words-stand}
-use Rattle.slot_proto.specs.Machines.{Running, IsMachine, IsCallOn, IsStepOf, Calls, place_now, story_of}
+use Rattle.slot_proto.specs.Machines.{Running, WordStep, IsMachine, IsCallOn, IsStepOf, Calls, place_now, state_now, story_of}
 
--- the worker that calls is then where the call moves it, and what the reply brings is so by that place
-pub brings : (old new : Running) (w : ℕ) (a b : Act) (Brings : Place → Type 0) → Calls old w b new → b ≡ a → (q : Place) → q ≡ place_now old w
-    → Brings (moved old.shape a q) → Brings (place_now new w)
-brings old new w a b Brings made is q here h =
-    let S : ObjectState = state_in old.shape old.log in
-    let then : place_now new w ≡ moved old.shape b (place_now old w) =
-    ap (λ x. place_in x w) made.story ∙ upd-same S.places w (moved old.shape b (place_now old w)) in
-    subst Brings (ap₂ (moved old.shape) (sym is) here ∙ sym then) h
+-- what a reply brings, by the place to which its call moved the worker
+pub brings : (old new : Running) (w : ℕ) (a b : Act) (X : Shape → Place → Type 0) → Calls old w b new → b ≡ a → (q : Place) → q ≡ place_now old w
+    → X old.shape (moved old.shape a q) → X new.shape (place_now new w)
+brings old new w a b X made is q here h =
+    let then = upd-same (state_now old).places w (moved old.shape b (place_now old w)) in
+    subst (λ (x : Story). X x.shape (place_in x w)) (sym made.story)
+    (subst (X old.shape) (ap₂ (moved old.shape) (sym is) here ∙ sym then) h)
+
+-- the step of a call
+pub is-step : {r : Running} {w : ℕ} {c : Call} {a : Address} {new : ℕ} {act : Act} → MayMake (story_of r) w c → a ≡ address_of w c (place_now r w)
+    → new ≡ change_of c (place_now r w) (word_at r.shape r.words a) → act ≡ answer_of c (place_now r w) (word_at r.shape r.words a)
+    → IsStepOf r (record { worker = w; call = c; address = a; new = new; act = act })
+is-step may on changes reads = record { call = record { may = may; on = on }; changes = changes; reads = reads }
 
 -- of a machine that shows r
 module _ (r : Running) (places : List Place) (ok : IsMachine r.shape r.words places r.log) (w : ℕ) where
@@ -50,11 +56,11 @@ module _ (r : Running) (places : List Place) (ok : IsMachine r.shape r.words pla
   abbrev p : Place
   p = place_now r w
 
+  abbrev step_on : Call → Address → ℕ → Act → WordStep
+  step_on c a new act = record { worker = w; call = c; address = a; new = new; act = act }
+
   pub place-got : w < r.shape.workers → slice_get places w ≡ Some p
   place-got low = ok.places_are.are w low
-
-  pub place-in : w < r.shape.workers → w < length places
-  place-in low = let c = ok.places_are.count in omega arith
 
   pub place-within : IsPlaceWithin r.shape p
   place-within = (within r.shape (calls_of r.log) ok.words_are.legal).places w
@@ -70,14 +76,14 @@ module _ (r : Running) (places : List Place) (ok : IsMachine r.shape r.words pla
       → IsLawful (turn_of c) (record { address = a; change = change_of c p; answer = answer_of c p }) r.words
   lawful c a on =
       subst (λ b. IsLawful (turn_of c) (record { address = b; change = change_of c p; answer = answer_of c p }) r.words) (sym on.on)
-      (law c r.shape (calls_of r.log) w r.words ok.words_are on.below on.may)
+      (law c r.shape (calls_of r.log) w r.words ok.words_are on.may.below on.may.may)
 
   -- the words, the places and the log that the step leaves
-  pub made : (c : Call) (a : Address) (new : ℕ) (act : Act) → IsStepOf r w c a new act
+  pub made : (c : Call) (a : Address) (new : ℕ) (act : Act) → IsStepOf r (step_on c a new act)
       → IsMachine r.shape (slice_set r.words (index r.shape a) new) (slice_set places w (moved r.shape act p)) (call w act ∷ r.log)
   made c a new act step =
       let l = lawful c a step.call in
-      let low = step.call.below in
+      let low = step.call.may.below in
       let put = moved r.shape act p in record {
         words_are = record {
           shape = ok.words_are.shape;
@@ -85,18 +91,15 @@ module _ (r : Running) (places : List Place) (ok : IsMachine r.shape r.words pla
           stands = subst (λ n. StandsFor r.shape (slice_set r.words (index r.shape a) n) (state_in r.shape (call w act ∷ r.log))) (sym step.changes)
               (subst (λ b. StandsFor r.shape (stepped r.shape r.words a (change_of c p)) (state_in r.shape (call w b ∷ r.log))) (sym step.reads) l.stands);
         };
-        places_are = record {
-          count = length-set places w put ∙ ok.places_are.count;
-          are = λ v in_v. dite (ℕ_discrete v w)
-              (λ e. ap (slice_get (slice_set places w put)) e ∙ get-set_same places w put (place-in low)
-              ∙ ap Some (sym (ap (upd S.places w put) e ∙ upd-same S.places w put)))
-              (λ ne. get-set_other places w v put ne ∙ ok.places_are.are v in_v ∙ ap Some (sym (upd-else S.places w put v ne)));
-        };
+        places_are = places-set r.shape places S.places w put ok.places_are low;
       }
 
 -- of the machine o, which shows r
 module _ (o : Inside) (ok : IsMachine o.shape o.words.items o.places.items o.log) (r : Running)
     (view : record { shape = o.shape; words = o.words.items; log = o.log } ≡ r) (w : ℕ) where
+  abbrev step_of : Call → Address → ℕ → Act → WordStep
+  step_of c a new act = record { worker = w; call = c; address = a; new = new; act = act }
+
   abbrev Kept : Running → Type 0
   Kept x = IsMachine x.shape x.words o.places.items x.log
 
@@ -127,11 +130,11 @@ module _ (o : Inside) (ok : IsMachine o.shape o.words.items o.places.items o.log
   answer-small c a on n is = subst (λ k. IsSmall (answer_of c (place_now r w) k)) (sym is) (lawful r o.places.items sound w c a on).small
 
   -- what is kept after the step, of a word, a place and a log that became so
-  pub kept : (c : Call) (a : Address) (new : ℕ) (act : Act) → IsStepOf r w c a new act → (at : ℕ) → at ≡ index o.shape a
+  pub kept : (c : Call) (a : Address) (new : ℕ) (act : Act) → IsStepOf r (step_of c a new act) → (at : ℕ) → at ≡ index o.shape a
       → (q put : Place) → q ≡ get_or o.places.items w q → put ≡ moved o.shape act q → (log : List Logged) → log ≡ call w act ∷ o.log
       → IsMachine o.shape (slice_set o.words.items at new) (slice_set o.places.items w put) log
   kept c a new act step at is q put reads moves log noted =
-      let low = step.call.below in
+      let low = step.call.may.below in
       let After : Running → Type 0 =
       λ x. IsMachine x.shape (slice_set x.words (index x.shape a) new) (slice_set o.places.items w (moved x.shape act (place_now r w))) (call w act ∷ x.log) in
       let then : After (record { shape = o.shape; words = o.words.items; log = o.log }) =
@@ -143,7 +146,7 @@ module _ (o : Inside) (ok : IsMachine o.shape o.words.items o.places.items o.log
       subst (λ l. Now at put l) (sym noted)
       (subst (λ z. Now at z (call w act ∷ o.log)) (sym moved_to) (subst (λ i. Now i p (call w act ∷ o.log)) (sym is) then))
 
-  pub called : (c : Call) (a : Address) (new : ℕ) (act : Act) → IsStepOf r w c a new act → (log : List Logged) → log ≡ call w act ∷ o.log
+  pub called : (c : Call) (a : Address) (new : ℕ) (act : Act) → IsStepOf r (step_of c a new act) → (log : List Logged) → log ≡ call w act ∷ o.log
       → MakesCall (story_of r) w act (record { shape = o.shape; log = log })
   called c a new act step log noted =
       let legal = (made r o.places.items sound w c a new act step).words_are.legal in

@@ -1,13 +1,13 @@
--- The object as words on one thread, without its cells.
-use Rattle.std.specs.Prelude.{◌≡◌, ℕ, ◌<◌, List, Some, length, slice_get}
+-- The object as words on one thread, without its cells: what contracts see of it, and its steps.
+use Rattle.std.specs.Prelude.{◌≡◌, ℕ, List}
 use Rattle.slot_history.specs.declared.shape.Shape.{Shape}
 use Rattle.slot_history.specs.declared.act.Act.{Act}
 use Rattle.slot_history.specs.declared.place.Place.{Place}
 use Rattle.slot_history.specs.States.{ObjectState}
-use Rattle.slot_history.specs.Calls.{Call, MayAt}
+use Rattle.slot_history.specs.Calls.{Call}
 use Rattle.slot_station.specs.declared.log.Logged.{Logged}
 use Rattle.slot_station.specs.Log.{calls_of}
-use Rattle.one_thread.specs.Stories.{Story, MakesCall, state_in, place_in}
+use Rattle.one_thread.specs.Stories.{Story, HasPlaces, MayMake, MakesCall, state_in, place_in}
 use Rattle.slot_words.specs.declared.address.Address.{Address}
 use Rattle.slot_words.specs.Words.{word_at}
 use Rattle.slot_words.specs.Steps.{address_of, change_of, answer_of}
@@ -37,22 +37,25 @@ Calls old w a new = MakesCall (story_of old) w a (story_of new)
 
 -- the worker w may make the call c, and its step is on this word
 pub record IsCallOn (r : Running) (w : ℕ) (c : Call) (a : Address) : Type 0 where
-  pub below : w < r.shape.workers
-  pub may : MayAt r.shape (place_now r w) c
+  pub may : MayMake (story_of r) w c
   pub on : a ≡ address_of w c (place_now r w)
 
--- the word at this address becomes `new`, and the call answers `act`: by what it holds, this is the
--- step of the call c
-pub record IsStepOf (r : Running) (w : ℕ) (c : Call) (a : Address)
-    (new : ℕ) (act : Act) : Type 0 where
-  pub call : IsCallOn r w c a
-  pub changes : new ≡ change_of c (place_now r w) (word_at r.shape r.words a)
-  pub reads : act ≡ answer_of c (place_now r w) (word_at r.shape r.words a)
+-- one atomic step: the call of a worker, the address of its word, what the word becomes, and the
+-- call with its answer
+pub record WordStep : Type 0 where
+  pub worker : ℕ
+  pub call : Call
+  pub address : Address
+  pub new : ℕ
+  pub act : Act
 
--- the places of the workers
-pub record HasPlaces (d : Shape) (places : List Place) (f : ℕ → Place) : Type 0 where
-  pub count : length places ≡ d.workers
-  pub are : (w : ℕ) → w < d.workers → slice_get places w ≡ Some (f w)
+-- by what the word holds, this is the step of its call
+pub record IsStepOf (r : Running) (step : WordStep) : Type 0 where
+  pub call : IsCallOn r step.worker step.call step.address
+  pub changes : step.new
+      ≡ change_of step.call (place_now r step.worker) (word_at r.shape r.words step.address)
+  pub reads : step.act
+      ≡ answer_of step.call (place_now r step.worker) (word_at r.shape r.words step.address)
 
 -- what is kept at run time is what the legal history of the log leaves
 pub record IsMachine (d : Shape) (words : List ℕ) (places : List Place)

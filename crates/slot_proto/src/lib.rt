@@ -13,3 +13,13 @@ pub mod proto;
 pub mod reading;
 #[cfg(test)]
 mod tests;
+
+pub use machine::Machine;
+pub use one_thread::{OneSeat, OneTable, SlotObject};
+pub use proto::{Proto, ProtoSeat, words};
+pub use slot_history::{act, place, shape};
+pub use slot_station::{
+    Admit, Announcer, Claim, Coordinator, Debt, Fits, History, Holder, Leave, Look, MakeRefusal,
+    Mark, Note, Pay, Reserve, Shut, Spent, Station, StepWork, Steps, Sweep, run_uncounted,
+};
+pub use slot_words::{address, encoding};

@@ -10,8 +10,8 @@ ghost use Rattle.slot_words.specs.Words.{StandsFor, word_at};
 ghost use Rattle.slot_proto.specs.Machines.{Calls, IsCallOn, IsStepOf, place_now, state_now};
 
 use crate::reading::{
-    admit_in, claim_in, exchanged, leave_in, look_in, mark_in, marked_at, mask_told, next_to_ask,
-    pay_in, reserve_in, shut_in, sweep_in,
+    admit_read, claim_read, exchanged, leave_read, look_read, mark_read, marked_at, mask_told,
+    next_to_ask, pay_read, reserve_read, shut_read, sweep_read,
 };
 use one_thread::object::SlotObject;
 use slot_history::act::{Act, Entry};
@@ -79,7 +79,13 @@ impl Machine {
     /// The one atomic step of a call: its word becomes `new`, its worker goes to its next place,
     /// and it is noted with its answer.
     fn step(&mut self, worker: u32, address: Address, new: u64, act: &Act)
-        requires { (c : Call) × IsStepOf self.old worker c address new act.now }
+        requires { (c : Call) × IsStepOf self.old (record {
+          worker = worker;
+          call = c;
+          address = address;
+          new = new;
+          act = act.now;
+        }) }
         ensures { Calls self.old worker act.now self.new }
     {
         self.words[index(&self.shape, address)] = new;
@@ -138,7 +144,7 @@ impl SlotObject for Machine {
     fn look(&mut self, worker: u32) -> Look {
         let state = Address::StateOf(slot_at(&self.worker_place(worker)));
         let found = self.found(worker, state);
-        let look = look_in(found);
+        let look = look_read(found);
         self.step(worker, state, found, &look.act());
         look
     }
@@ -147,7 +153,7 @@ impl SlotObject for Machine {
         let place = self.worker_place(worker);
         let cursor = Address::CursorOf(slot_at(&place));
         let found = self.found(worker, cursor);
-        let claim = claim_in(found, n, worker, &place);
+        let claim = claim_read(found, n, worker, &place);
         let new = found.wrapping_add(u64::from(n));
         self.step(worker, cursor, new, &claim.act(n));
         claim
@@ -157,7 +163,7 @@ impl SlotObject for Machine {
         let place = self.worker_place(worker);
         let state = Address::StateOf(slot_at(&place));
         let found = self.found(worker, state);
-        let shut = shut_in(found, worker, &place, &self.shape);
+        let shut = shut_read(found, worker, &place, &self.shape);
         self.step(worker, state, found | 1, &shut.act());
         shut
     }
@@ -165,7 +171,7 @@ impl SlotObject for Machine {
     fn leave(&mut self, worker: u32) -> Leave {
         let place = self.worker_place(worker);
         let own = Address::WorkerOf(worker);
-        let leave = leave_in(self.found(worker, own), worker, &place);
+        let leave = leave_read(self.found(worker, own), worker, &place);
         self.step(worker, own, 0, &leave.act());
         leave
     }
@@ -175,7 +181,7 @@ impl SlotObject for Machine {
         let slot = slot_at(&place);
         let other = Address::WorkerOf(next_to_ask(worker, &place));
         let found = self.found(worker, other);
-        let mark = mark_in(found, slot);
+        let mark = mark_read(found, slot);
         let there = at_word(slot);
         let new = exchanged(found, there, marked(there, id_at(&place)));
         self.step(worker, other, new, &mark.act());
@@ -187,7 +193,7 @@ impl SlotObject for Machine {
         let counter = Address::CounterOf(slot_at(&place));
         let found = self.found(worker, counter);
         let marked = marked_at(&place);
-        let sweep = sweep_in(found, marked, worker, &place);
+        let sweep = sweep_read(found, marked, worker, &place);
         let new = found.wrapping_add(u64::from(marked));
         self.step(worker, counter, new, &sweep.act());
         sweep
@@ -197,7 +203,7 @@ impl SlotObject for Machine {
         let place = self.worker_place(worker);
         let counter = Address::CounterOf(slot_at(&place));
         let found = self.found(worker, counter);
-        let pay = pay_in(found, worker, &place);
+        let pay = pay_read(found, worker, &place);
         self.step(worker, counter, found.wrapping_sub(1), &pay.act());
         pay
     }
@@ -205,14 +211,14 @@ impl SlotObject for Machine {
     fn reserve(&mut self, worker: u32, s: u32) -> Reserve {
         let state = Address::StateOf(s);
         let found = self.found(worker, state);
-        let reserve = reserve_in(found, worker, s);
+        let reserve = reserve_read(found, worker, s);
         self.step(worker, state, exchanged(found, 0, 1), &reserve.act(s));
         reserve
     }
 
     fn admit(&mut self, worker: u32, q: u32) -> Admit {
         let found = self.found(worker, Address::ArrivalsAt);
-        let admit = admit_in(found, q);
+        let admit = admit_read(found, q);
         let new = exchanged(found, u64::from(q), u64::from(q) + 1);
         self.step(worker, Address::ArrivalsAt, new, &admit.act(q));
         admit

@@ -16,17 +16,17 @@ ghost use Rattle.slot_words.specs.Steps as step;
 
 use slot_history::place::Place;
 use slot_history::shape::Shape;
-use slot_station::answers::finaliser;
-use slot_station::moves::{id_at, slot_at};
+use slot_station::answers::{claimed_by, finaliser, left_by, shut_by};
+use slot_station::moves::slot_at;
 use slot_station::reply::{Admit, Claim, Leave, Look, Mark, Pay, Reserve, Shut, Sweep};
-use slot_station::token::{Coordinator, Debt, Holder, Spent};
+use slot_station::token::Holder;
 use slot_words::address::Address;
 
 /// The counter's word at 0.
 const ZERO: u64 = 1 << 32;
 
 /// What a look finds in the state of its slot.
-pub fn look_in(word: u64) -> Look
+pub fn look_read(word: u64) -> Look
     requires { IsSmall (step.look_answer word) }
     ensures { look_act result ≡ step.look_answer word }
 {
@@ -38,7 +38,7 @@ pub fn look_in(word: u64) -> Look
 }
 
 /// What a claim of n tuples finds in the cursor of its slot.
-pub fn claim_in(word: u64, n: u32, worker: u32, place: &Place) -> Claim
+pub fn claim_read(word: u64, n: u32, worker: u32, place: &Place) -> Claim
     ensures act { claim_act n result ≡ step.claim_answer n word }
     ensures gives { (d : Shape)
         → ClaimGives d worker (moved d (claim_act n result) place.now) result }
@@ -48,36 +48,25 @@ pub fn claim_in(word: u64, n: u32, worker: u32, place: &Place) -> Claim
     if cursor < total {
         Claim::Range(cursor as u32, total.min(cursor + u64::from(n)) as u32)
     } else {
-        Claim::Exhausted(Spent {
-            worker,
-            slot: slot_at(place),
-            id: id_at(place),
-        })
+        claimed_by(worker, place, None)
     }
 }
 
 /// What a shut finds in the state of its slot.
-pub fn shut_in(word: u64, worker: u32, place: &Place, shape: &Shape) -> Shut
+pub fn shut_read(word: u64, worker: u32, place: &Place, shape: &Shape) -> Shut
     ensures act { shut_act result ≡ step.shut_answer word }
     ensures gives { let d = shape.now in
         ShutGives d worker (moved d (shut_act result) place.now) result }
 {
     if word % 4 == 2 {
-        Shut::Won(Coordinator {
-            worker,
-            slot: slot_at(place),
-            id: id_at(place),
-            workers: shape.workers,
-            asked: 0,
-            marked: 0,
-        })
+        shut_by(worker, place, shape, true)
     } else {
         Shut::Lost
     }
 }
 
 /// What a leave finds in the state of its worker.
-pub fn leave_in(word: u64, worker: u32, place: &Place) -> Leave
+pub fn leave_read(word: u64, worker: u32, place: &Place) -> Leave
     requires { IsSmall (step.leave_answer word) }
     ensures act { leave_act result ≡ step.leave_answer word }
     ensures gives { (d : Shape)
@@ -86,16 +75,12 @@ pub fn leave_in(word: u64, worker: u32, place: &Place) -> Leave
     if word < 512 {
         Leave::Left
     } else {
-        Leave::Owe(Debt {
-            worker,
-            slot: slot_at(place),
-            id: (word / 1024) as u32,
-        })
+        left_by(worker, slot_at(place), (word / 1024) as u32, true)
     }
 }
 
 /// What a mark at a slot finds in the state of the worker that is asked.
-pub fn mark_in(word: u64, slot: u32) -> Mark
+pub fn mark_read(word: u64, slot: u32) -> Mark
     ensures { mark_act result ≡ step.mark_answer slot word }
 {
     if word == u64::from(slot) + 1 {
@@ -106,7 +91,7 @@ pub fn mark_in(word: u64, slot: u32) -> Mark
 }
 
 /// What a sweep after so many marks finds in the counter of its slot.
-pub fn sweep_in(word: u64, marked: u32, worker: u32, place: &Place) -> Sweep
+pub fn sweep_read(word: u64, marked: u32, worker: u32, place: &Place) -> Sweep
     requires { IsSmall (step.sweep_answer marked word) }
     ensures act { sweep_act result ≡ step.sweep_answer marked word }
     ensures gives { (d : Shape)
@@ -121,7 +106,7 @@ pub fn sweep_in(word: u64, marked: u32, worker: u32, place: &Place) -> Sweep
 }
 
 /// What a payment finds in the counter of its slot.
-pub fn pay_in(word: u64, worker: u32, place: &Place) -> Pay
+pub fn pay_read(word: u64, worker: u32, place: &Place) -> Pay
     ensures act { pay_act result ≡ step.pay_answer word }
     ensures gives { (d : Shape)
         → PayGives d worker (moved d (pay_act result) place.now) result }
@@ -134,7 +119,7 @@ pub fn pay_in(word: u64, worker: u32, place: &Place) -> Pay
 }
 
 /// What a reservation of slot s finds in its state.
-pub fn reserve_in(word: u64, worker: u32, s: u32) -> Reserve
+pub fn reserve_read(word: u64, worker: u32, s: u32) -> Reserve
     ensures act { reserve_act s result ≡ step.reserve_answer s word }
     ensures gives { (d : Shape) → (p : Place)
         → ReserveGives d worker (moved d (reserve_act s result) p) result }
@@ -153,7 +138,7 @@ pub fn reserve_in(word: u64, worker: u32, s: u32) -> Reserve
 }
 
 /// What an admission of query q finds in the arrivals.
-pub fn admit_in(word: u64, q: u32) -> Admit
+pub fn admit_read(word: u64, q: u32) -> Admit
     requires { IsSmall (step.admit_answer q word) }
     ensures { admit_act q result ≡ step.admit_answer q word }
 {

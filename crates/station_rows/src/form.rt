@@ -13,7 +13,8 @@ use std::process::Abort;
 use std::snapshot::Snapshot;
 use std::sync::ledger::Ledger;
 
-/// What the rows ask of a form: tables of a subject, the calls of a worker, and the counter of a slot where it is a word.
+/// What the rows ask of a form: tables of a subject, the calls of a worker, and the counter of a
+/// slot if it is a word.
 pub(crate) trait Form: Drop {
     ghost use Rattle.std.specs.Prelude.{◌≡◌, IfOk};
     ghost use Rattle.station_rows.specs.declared.worker_calls.Sets.{Sets};
@@ -25,7 +26,8 @@ pub(crate) trait Form: Drop {
     fn make(alloc: Global, slots: u32, workers: u32, sets: &Sets) -> Result<Self, MakeRefusal>
         ensures { IfOk result (λ table. serves table ≡ sets.now) };
 
-    /// The worker's call of this entry. The answer is the entry that it made, and what it has in hand after it.
+    /// The worker's call of this entry. The answer is the entry that it made, and what it has in
+    /// hand after it.
     fn call<L: Ledger>(
         &mut self,
         rt: &impl Abort,

@@ -1,11 +1,13 @@
 //! Worked rows of the slot object: what each worker calls, in order, and the answer that it gets.
 //!
-//! It stands on the forms of the object, `plain_slots` and `slot_proto`, and has tests alone. A row is a list of entries
-//! (`rows`). A player (`player`) makes them in order, through the bound of a station, by the calls of `worker_calls`, and
-//! asserts each answer. It plays on any form (`form`), which makes a table for a subject, seats a worker at it, and shows
-//! a slot's counter where that is a word. So each row is played on every form, and all give the same answers.
+//! It stands on the forms of the object, `plain_slots` and `slot_proto`, and has tests alone. A row
+//! is a list of entries (`rows`). A player (`player`) makes them in order, through the bound of a
+//! station, by the calls of `worker_calls`, and asserts each answer. It plays on any form (`form`),
+//! which makes a table for a subject, seats a worker at it, and shows a slot's counter if that is a
+//! word. So each row is played on every form, and all give the same answers.
 //!
-//! Nothing stands above it. A new form of the object implements `Form` and is named once in `rows` and once in `limits`.
+//! Nothing stands above it. A new form of the object implements `Form` and is named once in `rows`
+//! and once in `limits`.
 #![tactic(auto)]
 
 #[cfg(test)]

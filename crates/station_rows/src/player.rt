@@ -87,8 +87,8 @@ impl<T: Form> Player<T> {
     }
 }
 
-/// The call of this entry, through the bound of a station. The answer is the entry that it made, and what the worker has in
-/// hand after it.
+/// The call of this entry, through the bound of a station. The answer is the entry that it made,
+/// and what the worker has in hand after it.
 pub(crate) fn call<S: Station<Piece>, L: Ledger>(
     rt: &impl Abort,
     station: &mut S,

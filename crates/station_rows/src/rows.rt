@@ -26,8 +26,8 @@ fn table<T: Form>(
     Player::new(alloc, slots, workers, Sets { queries: 3, totals })
 }
 
-/// A worker reserves slot s, and opens it with the first task set of the next query, of this id and total. Nobody is told of it
-/// yet.
+/// A worker reserves slot s, and opens it with the first task set of the next query, of this id and
+/// total. Nobody is told of it yet.
 fn opens(worker: u32, s: u32, id: u32, total: u32) -> [(u32, Act); 4] {
     [
         (worker, Act::ReserveGot(s)),
@@ -174,7 +174,8 @@ fn after_a_query<T: Form, L: Ledger>(
     Ok(table)
 }
 
-/// A slot gets another query and its next task set while a worker keeps a notice of the query before.
+/// A slot gets another query and its next task set while a worker keeps a notice of the query
+/// before.
 fn notices_outlive_a_query<T: Form, L: Ledger>(
     rt: &impl Abort,
     alloc: Global,
@@ -352,7 +353,8 @@ fn one_of_two_shuts<T: Form, L: Ledger>(
     Ok(())
 }
 
-/// The last of 65 slots is opened, and later opened again. Its notices are in the masks of the second part alone.
+/// The last of 65 slots is opened, and later opened again. Its notices are in the masks of the
+/// second part alone.
 fn notices_of_the_second_part<T: Form, L: Ledger>(
     rt: &impl Abort,
     alloc: Global,

@@ -1,6 +1,8 @@
-//! A worker's calls at a cell type of the tests' own, through the bound of a station. Each asserts what its call asks for, by
-//! the worker's place and the token in its hand, so that a test may make its calls in any order. It answers the entry that the
-//! call made, and what the worker has in hand after it.
+//! A worker's calls at a cell type of the tests' own, through the bound of a station.
+//!
+//! Each asserts what its call asks for, by the worker's place and the token in its hand, so that a
+//! test may make its calls in any order. It answers the entry that the call made, and what the
+//! worker has in hand after it.
 ghost use Rattle.std.specs.Prelude.{◌≡◌, ℕ, ◌<◌, true, IsSome, IfSome};
 ghost use Rattle.slot_history.specs.States as states;
 ghost use Rattle.slot_station.specs.declared.note.Note.TheVariants.{Kept};
@@ -172,7 +174,8 @@ fn may_leave(place: &Place) -> bool
 fn keep_own<S: Station<Piece>, L: Ledger>(station: &mut S, place: &Place, steps: &mut Steps<L>)
     requires { place.now ≡ own_place (S.seen station.old) }
     ensures stays { KeepsTrail (S.seen station.old) (S.seen station.new) }
-    ensures note { has_cell place.now ≡ true → (S.seen station.new).notes (S.seen station.old).desk.worker ≡ Kept }
+    ensures note { has_cell place.now ≡ true
+        → (S.seen station.new).notes (S.seen station.old).desk.worker ≡ Kept }
 {
     if is_inside(place) {
         let piece = Piece {
@@ -447,7 +450,8 @@ fn put_all<S: Station<Piece>, L: Ledger>(
         × (next ≡ states.next_id (own_holding (S.seen station.old)))) }
     ensures stays { KeepsTrail (S.seen station.old) (S.seen station.new) }
     ensures same { holder.new ≡ holder.old }
-    ensures cells { (v : ℕ) → v < (S.seen station.old).desk.shape.workers → (S.seen station.new).notes v ≡ fresh_note id }
+    ensures cells { (v : ℕ) → v < (S.seen station.old).desk.shape.workers
+        → (S.seen station.new).notes v ≡ fresh_note id }
 {
     let workers = station.workers();
     for worker in 0..workers {

@@ -2,24 +2,20 @@ use Rattle.std.proofs.Common.{◌≡◌, ℕ, ◌+◌, ◌<◌, Bool}
 use Rattle.slot_station.specs.Tokens.{IsAnnouncer}
 use Rattle.slot_history.specs.declared.shape.Shape.{Shape}
 use Rattle.slot_history.specs.declared.place.Place.TheVariants.{Announcing}
-use Rattle.one_thread.proofs.Seated.{seat, place-for, shape-for, token-old, table-after, new-place, seat-after, token-for, seat-makes, seat-done}
+use Rattle.slot_history.specs.Calls.{AnnouncingNext}
+use Rattle.one_thread.proofs.Seated.{seat, may-make, shape-for, token-old, table-after, new-place, token-for, seat-makes, seat-done}
 use Rattle.slot_station.proofs.TokensKept.{tell-holds}
 use Rattle.one_thread.proofs.seat.OneSeatStation.announce.Goals as goal
-
-pub announce-requires-clause-place : goal.announce-requires-clause-place
-announce-requires-clause-place g c =
-    let x = seat c.args.self.now c.table.inside c.table.view_is c.table.invariant in
-    let now = c.args.announcer.now in
-    place-for x (λ p. (s : ℕ) × (again : Bool) × (told : ℕ) × (p ≡ Announcing s again told)) (now.slot, now.again, now.told, c.requires.announcer.place)
 
 pub invariant_of-table : goal.invariant_of-table
 invariant_of-table g c = table-after (seat c.args.self.now c.table.inside c.table.view_is c.table.invariant) c.announce.ensures.made tt
 
-pub invariant_of-self : goal.invariant_of-self
-invariant_of-self g c = seat-after (seat c.args.self.now c.table.inside c.table.view_is c.table.invariant) c.announce.ensures.made
-
 pub returns-clause-made : goal.returns-clause-made
 returns-clause-made g c = seat-makes (seat c.args.self.now c.table.inside c.table.view_is c.table.invariant) c.announce.ensures.made tt
+
+pub announce-requires : goal.announce-requires
+announce-requires g c = may-make (seat c.args.self.now c.table.inside c.table.view_is c.table.invariant) AnnouncingNext
+    (_, _, _, c.requires.announcer.place)
 
 pub returns-clause-announcer : goal.returns-clause-announcer
 returns-clause-announcer g c more =

@@ -1,6 +1,6 @@
 use Rattle.std.proofs.Common.{◌+◌, ◌*◌, ◌<◌, length, refl, ap, ◌∙◌, arith}
 use Rattle.slot_history.specs.declared.shape.Shape.{Shape}
-use Rattle.one_thread.proofs.Seated.{seat, exchanged}
+use Rattle.one_thread.proofs.Seated.{seat}
 use Rattle.one_thread.proofs.SeatCells.{cell-index, seat-cell-says, seat-cell}
 use Rattle.one_thread.proofs.seat.OneSeatStation.cell.Goals as goal
 
@@ -19,9 +19,6 @@ invariant_of-table g c =
     let at = c.cell_index-at.ensures ∙ ap (λ (d : Shape). c.args.holder.now.slot * d.workers + c.args.worker) c.shape.ensures.shape in
     seat-cell x c.shape.ensures.legal c.args.holder.now c.requires.holder c.args.worker c.requires.worker at
     c.replace-old.ensures.after c.fresh_for-note.ensures c.requires.fits c.exchanged.ensures
-
-pub invariant_of-self : goal.invariant_of-self
-invariant_of-self g c = exchanged (seat c.args.self.now c.table.inside c.table.view_is c.table.invariant) c.exchanged.ensures refl
 
 pub returns-clause-says : goal.returns-clause-says
 returns-clause-says g c =

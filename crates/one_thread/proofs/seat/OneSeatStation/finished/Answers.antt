@@ -1,11 +1,8 @@
-use Rattle.one_thread.proofs.Seated.{seat, table-after, seat-after, seat-makes}
+use Rattle.one_thread.proofs.Seated.{seat, table-after, seat-makes}
 use Rattle.one_thread.proofs.seat.OneSeatStation.finished.Goals as goal
 
 pub invariant_of-table : goal.invariant_of-table
 invariant_of-table g c = table-after (seat c.args.self.now c.table.inside c.table.view_is c.table.invariant) c.finished.ensures tt
-
-pub invariant_of-self : goal.invariant_of-self
-invariant_of-self g c = seat-after (seat c.args.self.now c.table.inside c.table.view_is c.table.invariant) c.finished.ensures
 
 pub returns-clause-made : goal.returns-clause-made
 returns-clause-made g c = seat-makes (seat c.args.self.now c.table.inside c.table.view_is c.table.invariant) c.finished.ensures tt

@@ -1,7 +1,7 @@
 use Rattle.std.proofs.Common.{ℕ, ◌+◌, ◌*◌, ◌<◌, length, ap₂, refl, ap, ◌∙◌, arith}
 use Rattle.slot_history.specs.declared.shape.Shape.{Shape}
 use Rattle.slot_history.specs.States.{slot_of}
-use Rattle.one_thread.proofs.Seated.{seat, exchanged}
+use Rattle.one_thread.proofs.Seated.{seat}
 use Rattle.one_thread.proofs.SeatCells.{own-index, seat-own_says, seat-own}
 use Rattle.one_thread.proofs.seat.OneSeatStation.own_cell.Goals as goal
 
@@ -20,9 +20,6 @@ invariant_of-table g c =
     let at = c.cell_index-at.ensures ∙ ap₂ (λ (d : Shape) (s : ℕ). s * d.workers + c.args.self.now.worker) c.shape.ensures.shape
     (c.slot_at-slot.ensures ∙ ap slot_of c.place.ensures) in
     seat-own x c.shape.ensures.legal c.requires.place at c.replace-old.ensures.after c.kept_for-note.ensures c.requires.fits c.exchanged.ensures
-
-pub invariant_of-self : goal.invariant_of-self
-invariant_of-self g c = exchanged (seat c.args.self.now c.table.inside c.table.view_is c.table.invariant) c.exchanged.ensures refl
 
 pub returns-clause-says : goal.returns-clause-says
 returns-clause-says g c =

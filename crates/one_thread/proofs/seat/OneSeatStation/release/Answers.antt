@@ -3,25 +3,23 @@ use Rattle.slot_history.specs.States.{held_at}
 use Rattle.std.proofs.Common.{⊎_elim, inl, inr}
 use Rattle.slot_history.specs.declared.place.Held.{Held}
 use Rattle.slot_history.specs.declared.place.Place.TheVariants.{Holding}
-use Rattle.one_thread.proofs.Seated.{seat, place-for, release-allows, table-after, seat-after, seat-makes}
+use Rattle.slot_history.specs.Calls.{Releasing}
+use Rattle.one_thread.proofs.Seated.{seat, may-make, release-allows, table-after, seat-makes}
 use Rattle.one_thread.proofs.seat.OneSeatStation.release.Goals as goal
-
-pub release-requires-clause-place : goal.release-requires-clause-place
-release-requires-clause-place g c =
-    let x = seat c.args.self.now c.table.inside c.table.view_is c.table.invariant in
-    let at = c.requires.holder.place in
-    place-for x (λ p. (s : ℕ) × (h : Held) × (p ≡ Holding s h) × ((h.query ≡ None) ⊎ (0 < h.noted)))
-    (c.args._holder.slot, _, at, ⊎_elim (λ h. inl h) (λ h. inr (subst (λ p. 0 < (held_at p).noted) at h)) c.requires.noted)
 
 pub invariant_of-table : goal.invariant_of-table
 invariant_of-table g c =
     let x = seat c.args.self.now c.table.inside c.table.view_is c.table.invariant in
     table-after x c.release.ensures (release-allows x c.requires.cells)
 
-pub invariant_of-self : goal.invariant_of-self
-invariant_of-self g c = seat-after (seat c.args.self.now c.table.inside c.table.view_is c.table.invariant) c.release.ensures
-
 pub returns-clause-made : goal.returns-clause-made
 returns-clause-made g c =
     let x = seat c.args.self.now c.table.inside c.table.view_is c.table.invariant in
     seat-makes x c.release.ensures (release-allows x c.requires.cells)
+
+pub release-requires : goal.release-requires
+release-requires g c =
+    let x = seat c.args.self.now c.table.inside c.table.view_is c.table.invariant in
+    let at = c.requires.holder.place in
+    may-make x Releasing
+    (c.args._holder.slot, _, at, ⊎_elim (λ h. inl h) (λ h. inr (subst (λ p. 0 < (held_at p).noted) at h)) c.requires.noted)

@@ -2,20 +2,17 @@ use Rattle.std.proofs.Common.{◌≡◌, ℕ, IsSome}
 use Rattle.slot_station.specs.Tokens.{IsHolder}
 use Rattle.slot_history.specs.declared.place.Held.{Held}
 use Rattle.slot_history.specs.declared.place.Place.TheVariants.{Holding}
-use Rattle.one_thread.proofs.Seated.{seat, place-for, token-old, table-after, new-place, seat-after, token-for, seat-makes}
+use Rattle.slot_history.specs.Calls.{SettingTotal}
+use Rattle.one_thread.proofs.Seated.{seat, may-make, token-old, table-after, new-place, token-for, seat-makes}
 use Rattle.slot_station.proofs.TokensKept.{total-holds}
 use Rattle.one_thread.proofs.seat.OneSeatStation.set_total.Goals as goal
-
-pub set_total-requires-clause-place : goal.set_total-requires-clause-place
-set_total-requires-clause-place g c =
-    let x = seat c.args.self.now c.table.inside c.table.view_is c.table.invariant in
-    place-for x (λ p. (s : ℕ) × (h : Held) × (p ≡ Holding s h) × IsSome h.query) (c.args._holder.now.slot, _, c.requires.holder.place, c.requires.query)
 
 pub invariant_of-table : goal.invariant_of-table
 invariant_of-table g c = table-after (seat c.args.self.now c.table.inside c.table.view_is c.table.invariant) c.set_total.ensures tt
 
-pub invariant_of-self : goal.invariant_of-self
-invariant_of-self g c = seat-after (seat c.args.self.now c.table.inside c.table.view_is c.table.invariant) c.set_total.ensures
+pub set_total-requires : goal.set_total-requires
+set_total-requires g c = may-make (seat c.args.self.now c.table.inside c.table.view_is c.table.invariant) (SettingTotal c.args.total)
+    (c.args._holder.now.slot, _, c.requires.holder.place, c.requires.query, c.requires.number)
 
 pub returns-clause-made : goal.returns-clause-made
 returns-clause-made g c = seat-makes (seat c.args.self.now c.table.inside c.table.view_is c.table.invariant) c.set_total.ensures tt

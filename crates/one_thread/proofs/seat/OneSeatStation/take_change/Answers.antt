@@ -1,16 +1,12 @@
 use Rattle.slot_station.proofs.Follows.{changes-named}
-use Rattle.one_thread.proofs.Seated.{seat, table-after, seat-after, seat-makes}
+use Rattle.one_thread.proofs.Seated.{seat, table-after, seat-makes}
 use Rattle.one_thread.proofs.seat.OneSeatStation.take_change.Goals as goal
 
 pub invariant_of-table : goal.invariant_of-table
 invariant_of-table g c = table-after (seat c.args.self.now c.table.inside c.table.view_is c.table.invariant) c.take_change.ensures tt
 
-pub invariant_of-self : goal.invariant_of-self
-invariant_of-self g c = seat-after (seat c.args.self.now c.table.inside c.table.view_is c.table.invariant) c.take_change.ensures
-
 pub returns-clause-made : goal.returns-clause-made
 returns-clause-made g c = seat-makes (seat c.args.self.now c.table.inside c.table.view_is c.table.invariant) c.take_change.ensures tt
 
 pub returns-clause-slots : goal.returns-clause-slots
-returns-clause-slots g c =
-    changes-named (seat-makes (seat c.args.self.now c.table.inside c.table.view_is c.table.invariant) c.take_change.ensures {o = tt {0}} tt)
+returns-clause-slots g c = changes-named (returns-clause-made g c)

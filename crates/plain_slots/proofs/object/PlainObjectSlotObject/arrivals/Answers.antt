@@ -1,16 +1,12 @@
-use Rattle.std.proofs.Common.{◌<◌, refl}
-use Rattle.slot_history.specs.declared.act.Act.TheVariants.{Arrivals}
-use Rattle.one_thread.specs.Stories.{Story}
-use Rattle.plain_slots.proofs.Following.{quiet, counted-at, of-story}
+use Rattle.slot_history.specs.Calls.{AskingArrivals}
+use Rattle.plain_slots.proofs.Calls.{arrivals-after}
+use Rattle.plain_slots.proofs.Following.{may-make, counted-at}
 use Rattle.plain_slots.proofs.object.PlainObjectSlotObject.arrivals.Goals as goal
 
 pub step-requires-clause-counted : goal.step-requires-clause-counted
 step-requires-clause-counted c = counted-at c.self.inside c.self.invariant c.args.worker
-    (of-story c.self.inside _ c.self.view_is (λ (x : Story). c.args.worker < x.shape.workers) c.requires.worker)
+    (may-make c.self.inside _ c.self.view_is c.args.worker AskingArrivals c.requires).below
 
 pub invariant_of-self : goal.invariant_of-self
 invariant_of-self c =
-    let o = c.self.inside in
-    quiet o c.self.invariant c.args.worker (of-story o _ c.self.view_is (λ (x : Story). c.args.worker < x.shape.workers) c.requires.worker)
-    (Arrivals o.admitted) (Arrivals o.admitted) refl c.self.invariant.admitted_is _ _ (c.step.ensures.places, c.step.ensures.log) (λ d v x. refl)
-    (λ v p f. refl, λ v p f. refl, λ n. refl, λ n. refl)
+    arrivals-after c.self.inside c.self.invariant _ c.self.view_is c.args.worker c.requires _ _ (c.step.ensures.places, c.step.ensures.log)

@@ -1,14 +1,8 @@
-use Rattle.std.proofs.Common.{◌≡◌, ℕ, ◌<◌, IsSome}
-use Rattle.slot_history.specs.declared.place.Held.{Held}
-use Rattle.slot_history.specs.declared.place.Place.TheVariants.{Holding}
-use Rattle.one_thread.specs.Stories.{Story, place_in}
+use Rattle.slot_history.specs.Calls.{SettingTotal}
 use Rattle.plain_slots.proofs.Calls.{total-after}
-use Rattle.plain_slots.proofs.Following.{of-story}
+use Rattle.plain_slots.proofs.Following.{may-make}
 use Rattle.plain_slots.proofs.object.PlainObjectSlotObject.set_total.Goals as goal
 
 pub invariant_of-self : goal.invariant_of-self
-invariant_of-self c =
-    let o = c.self.inside in
-    let at = of-story o _ c.self.view_is (λ (x : Story). (c.args.worker < x.shape.workers)
-    × ((s : ℕ) × (h : Held) × (place_in x c.args.worker ≡ Holding s h) × IsSome h.query)) (c.requires.worker, c.requires.place) in
-    total-after o c.self.invariant c.args.worker at.0 c.args.total at.1 c.requires.number _ _ (c.step.ensures.places, c.step.ensures.log)
+invariant_of-self c = total-after c.self.inside c.self.invariant c.args.worker c.args.total
+    (may-make c.self.inside _ c.self.view_is c.args.worker (SettingTotal c.args.total) c.requires) _ _ (c.step.ensures.places, c.step.ensures.log)

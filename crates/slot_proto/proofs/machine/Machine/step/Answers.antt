@@ -10,7 +10,7 @@ pub place_after-requires : goal.place_after-requires
 place_after-requires c =
     let (k, step) = c.requires in
     let q = c.index_mut-place.result.now in
-    read-counted c.self.inside c.self.invariant c.args.self.now c.self.view_is c.args.worker step.call.below q c.index_mut-place.ensures.value
+    read-counted c.self.inside c.self.invariant c.args.self.now c.self.view_is c.args.worker step.call.may.below q c.index_mut-place.ensures.value
 
 pub invariant_of-self : goal.invariant_of-self
 invariant_of-self c =

@@ -5,32 +5,23 @@ use Rattle.slot_words.specs.Steps.{leave_answer}
 use Rattle.slot_station.specs.Replies.{leave_act}
 use Rattle.slot_station.specs.Tokens.{LeaveGives}
 use Rattle.slot_proto.specs.Machines.{IsCallOn}
-use Rattle.slot_proto.proofs.Machines.{brings}
+use Rattle.slot_proto.proofs.Machines.{brings, is-step}
 use Rattle.slot_proto.proofs.machine.MachineSlotObject.leave.Goals as goal
 
 pub found-requires : goal.found-requires
-found-requires c =
-    (Leaving, record { below = c.requires.worker; may = c.requires.place; on = refl })
+found-requires c = (Leaving, record { may = c.requires; on = refl })
 
-pub leave_in-leave-requires : goal.leave_in-leave-requires
-leave_in-leave-requires c =
-    let on : IsCallOn c.args.self.now c.args.worker Leaving (WorkerOf c.args.worker) =
-    record { below = c.requires.worker; may = c.requires.place; on = refl } in
+pub leave_read-leave-requires : goal.leave_read-leave-requires
+leave_read-leave-requires c =
+    let on : IsCallOn c.args.self.now c.args.worker Leaving (WorkerOf c.args.worker) = record { may = c.requires; on = refl } in
     c.found.ensures.small Leaving on
 
 pub step-requires : goal.step-requires
-step-requires c = (
-  Leaving,
-  record {
-    call = record { below = c.requires.worker; may = c.requires.place; on = refl };
-    changes = refl;
-    reads = c.act.ensures ∙ c.leave_in-leave.ensures.act ∙ ap leave_answer c.found.ensures.word;
-  },
-)
+step-requires c =
+    (Leaving, is-step c.requires refl refl (c.act.ensures ∙ c.leave_read-leave.ensures.act ∙ ap leave_answer c.found.ensures.word))
 
 pub returns-clause-debt : goal.returns-clause-debt
 returns-clause-debt c =
-    let r = c.args.self.now in
-    let act = leave_act c.leave_in-leave.result in
-    brings r c.step.new.self c.args.worker act c.act.result (λ q. LeaveGives r.shape c.args.worker q c.leave_in-leave.result)
-    c.step.ensures c.act.ensures c.worker_place-place.result c.worker_place-place.ensures.place (c.leave_in-leave.ensures.gives r.shape)
+    let r = c.leave_read-leave.result in
+    brings c.args.self.now c.step.new.self c.args.worker (leave_act r) c.act.result (λ d q. LeaveGives d c.args.worker q r)
+    c.step.ensures c.act.ensures c.worker_place-place.result c.worker_place-place.ensures.place (c.leave_read-leave.ensures.gives c.args.self.now.shape)

@@ -3,3 +3,9 @@ mod Distinct
 mod Items
 mod Hashed
 mod Adding
+mod Aggregates
+mod Puts
+mod Folding
+mod Merging
+mod Places
+mod Groups

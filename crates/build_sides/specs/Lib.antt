@@ -6,3 +6,8 @@ pub mod HashRows
 pub mod RowLists
 pub mod HashFields
 pub mod HashSides
+pub mod GroupTotals
+pub mod FoldedRows
+pub mod GroupSides
+pub mod GroupFields
+pub mod Columns

@@ -1,18 +1,25 @@
-//! The sides that stages build and read: rows by key for joins.
+//! The two sides that stages build and read: rows by key for joins, and totals by key for groups.
 //!
-//! A `HashSide` has, for each key, the rows of the build table with this key. It numbers its keys
-//! as they come, in a table of chains by bucket (`key_table`), and keeps the rows of a key by the
-//! key's number. So a row costs one look-up, and an allocation of its own only if its key has others.
+//! A `HashSide` has, for each key, the rows of the build table with this key. A `GroupSide` has,
+//! for each key, the totals of the rows with this key. Both number their keys as they come, in a
+//! table of chains by bucket (`key_table`), and keep what belongs to a key by the key's number. So
+//! a row costs one look-up, and an allocation of its own only in a join whose key has other rows.
 //!
-//! What the layer above may use: a side is a finite map (`rows_at`), and each call is one change of
-//! that map.
+//! It stands on `plan_ast`: aggregates, and what they make of values.
+//!
+//! What the layer above may use: a `HashSide` is a finite map (`rows_at`), and a `GroupSide` folds
+//! the rows that it was given, key by key (`Folds`).
 
 #![tactic(auto)]
 
+mod columns;
+mod group_side;
 mod hash_side;
 mod key_table;
 
+pub use group_side::GroupSide;
 pub use hash_side::HashSide;
+pub use key_table::Key;
 
 #[cfg(test)]
 mod tests;

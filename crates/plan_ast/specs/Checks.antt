@@ -15,7 +15,7 @@ query_of checked = checked.query
 abbrev pub places_of : Checked → Places
 places_of checked = checked.places
 
--- what `check` gives for these tables: a query within its limits, and the place of each of its names
+-- what `check` gives for these tables: a query within its limits, and the places of its names
 pub record IsCheckedFor (tables : List NamedTable) (checked : Checked) : Type 0 where
   pub bounds : IsInBounds (query_of checked)
   pub places : ArePlacesOf tables (query_of checked) (places_of checked)

@@ -12,7 +12,8 @@ use crate::lookup::table_of;
 use crate::queries::{NamedTable, Output, Query};
 use col_table::Table;
 
-/// The number of parts into which a key's first value sorts a group. They are the tuples of a merge.
+/// The number of parts into which a key's first value sorts a group. They are the tuples of a
+/// merge.
 pub const GROUP_PARTS: u32 = 16;
 
 /// The number of a query's stages, which are its task sets: one build for each join, then the scan,

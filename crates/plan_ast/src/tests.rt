@@ -10,8 +10,8 @@ use col_table::{ListOf, Name, Table, Text};
 use std::process::Abort;
 use std::test::Fail;
 
-// The names of a query, numbered in the order of their check. From `missing` on they are `?` and the
-// number, which names nothing.
+// The names of a query, numbered in the order of their check. From `missing` on they are `?` and
+// the number, which names nothing.
 #[derive(Drop)]
 struct Names<'a, R> {
     rt: &'a R,
@@ -63,8 +63,8 @@ impl<R: Abort + AllocGlobal> Names<'_, R> {
         })
     }
 
-    // Of `t`, joined with `u` on `k` and with `v` on `w` of `u`: by `k` of `t` and `w` of `u` the sum
-    // of `x` of `v`.
+    // Of `t`, joined with `u` on `k` and with `v` on `w` of `u`: by `k` of `t` and `w` of `u` the
+    // sum of `x` of `v`.
     fn query(&self) -> Result<Query, Fail> {
         let alloc = self.rt.alloc();
         let joins = vec![in alloc;

@@ -2,7 +2,7 @@
 
 use col_table::ListOf;
 
-/// The value of one aggregate. The sum of nothing is 0, and nothing has no least and no greatest.
+/// The value of one aggregate. The sum of no values is 0; their least and greatest are `None`.
 #[derive(Debug, Drop)]
 pub enum AggValue {
     Count(u64),

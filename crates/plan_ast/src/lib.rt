@@ -25,6 +25,7 @@ pub use bounds::{
     MAX_AFTER, MAX_COST, MAX_FILTERS, MAX_GROUP_COLUMNS, MAX_JOINS, MAX_OUTPUTS, MAX_WEIGHT,
 };
 pub use checks::{Checked, check};
+pub use lookup::table_of;
 pub use places::{AggAt, ColumnAt, FilterAt, JoinAt, OutputAt, Places};
 pub use queries::{Agg, Filter, Func, Join, NameRef, NamedTable, Op, Output, Query};
 pub use refusals::PlanRefusal;

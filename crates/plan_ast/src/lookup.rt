@@ -62,8 +62,8 @@ fn find_column(table: &Table, name: &Name) -> Result<u32, PlanRefusal>
     }
 }
 
-/// The table at a place.
-pub(crate) fn table_of(tables: &[NamedTable], place: usize) -> &Table
+/// The table at a place. It allocates nothing.
+pub fn table_of(tables: &[NamedTable], place: usize) -> &Table
     requires { place < length tables.now }
     ensures { result.now ≡ table_at tables.now place }
 {

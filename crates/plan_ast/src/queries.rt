@@ -29,8 +29,8 @@ pub struct Filter {
     pub value: i64,
 }
 
-/// Joins each row so far with the rows of `table` that pass `filters` and have the same value:
-/// theirs in `right`, its own in `left`, which is a column of a side before.
+/// Joins each row so far with the rows of `table` that pass `filters` and whose `right` equals the
+/// row's `left`. `left` is a column of a side before this join's.
 #[derive(Clone, Debug, Drop)]
 pub struct Join {
     pub table: Name,

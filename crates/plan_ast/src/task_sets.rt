@@ -63,10 +63,9 @@ pub fn table_of_side<'a>(checked: &Checked, tables: &'a [NamedTable], side: usiz
 }
 
 /// What a stage makes of two disjoint sets of its tuples together is the sum of what it makes of
-/// each, but for the order of rows. So the tuples may be cut into any ranges, and shared among any
-/// accumulators in any way: the sum is always what the stage makes of all of them.
+/// each, but for the order of rows. The sets may be any: two ranges, or what two workers took.
 ///
-/// Ruled out: a fold that depends on which worker took which range, or in which order.
+/// Ruled out: a fold in which a tuple counts otherwise beside others than alone.
 pub fn folds_add()
     ensures { FoldsAdd }
 {}

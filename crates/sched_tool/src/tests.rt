@@ -14,6 +14,9 @@ const TABLE: &str = "k,v\n1,10\n1,20\n2,5\n";
 
 const ANSWER: &str = "query 0 lines 1\ntotal 35\nend\n";
 
+// No write fails, and one takes 1,000 bytes.
+const ALL_WRITES: (u64, u32) = (0, 1000);
+
 // Two more tables, to be joined.
 const JOINED: &str = "k,w\n1,7\n2,8\n2,9\n3,1\n";
 
@@ -23,53 +26,48 @@ const JOINED_NEXT: &str = "w,z\n7,100\n8,200\n8,300\n9,400\n";
 const ENTRIES: &str = r#"{"name":"t","file":"t.csv"},{"name":"u","file":"u.csv"},
 {"name":"x","file":"x.csv"}"#;
 
-// What a command is run on. The reads and the writes with these numbers fail, and a write takes at
-// most so many bytes.
-#[derive(Clone, Copy)]
-struct Run<'a> {
-    words: &'a [&'a str],
-    files: &'a [(&'a str, &'a [u8])],
-    failing_reads: &'a [u64],
-    failing_writes: &'a [u64],
-    most: u32,
+// Adds a file.
+fn add(alloc: Global, files: &mut MemFiles, name: &str, bytes: &[u8]) -> Result<(), AllocError> {
+    files.add(
+        String::from_str(alloc, name)?,
+        Vec::from_slice(alloc, bytes)?,
+    )
 }
 
-impl<'a> Run<'a> {
-    // A command of these words on these files. No call fails.
-    fn of(words: &'a [&'a str], files: &'a [(&'a str, &'a [u8])]) -> Run<'a> {
-        Run {
-            words,
-            files,
-            failing_reads: &[],
-            failing_writes: &[],
-            most: 1000,
-        }
-    }
+// The files `s.json`, `t.csv` and those to be joined. The reads with these numbers fail.
+fn files_of(
+    alloc: Global,
+    script: &[u8],
+    table: &[u8],
+    failing_reads: &[u64],
+) -> Result<MemFiles, AllocError> {
+    let mut files = MemFiles::new(alloc, Vec::from_slice(alloc, failing_reads)?);
+    add(alloc, &mut files, "s.json", script)?;
+    add(alloc, &mut files, "t.csv", table)?;
+    add(alloc, &mut files, "u.csv", JOINED.as_bytes())?;
+    add(alloc, &mut files, "x.csv", JOINED_NEXT.as_bytes())?;
+    Ok(files)
 }
 
-// Asserts with which status the command ends, and what it writes.
+// Asserts with which status a command ends, and what it writes. The write of this number fails, and
+// a write takes at most so many bytes.
 fn ends(
     rt: &(impl Abort + AllocGlobal),
-    run: &Run<'_>,
+    words: &[&str],
+    files: &mut MemFiles,
+    writes: (u64, u32),
     status: u8,
     text: &str,
 ) -> Result<(), Fail> {
     let alloc = rt.alloc();
-    let mut files = MemFiles::new(alloc, Vec::from_slice(alloc, run.failing_reads)?);
-    for (name, bytes) in run.files {
-        files.add(
-            String::from_str(alloc, name)?,
-            Vec::from_slice(alloc, bytes)?,
-        )?;
+    let mut given = Vec::new(alloc);
+    for word in words {
+        given.push(String::from_str(alloc, word)?)?;
     }
-    let mut words = Vec::new(alloc);
-    for word in run.words {
-        words.push(String::from_str(alloc, word)?)?;
-    }
-    let failing_writes = Vec::from_slice(alloc, run.failing_writes)?;
-    let mut out = MemSink::new(alloc, 1000, run.most.max(1), failing_writes)?;
+    let failing = vec![in alloc; writes.0]?;
+    let mut out = MemSink::new(alloc, 1000, writes.1.max(1), failing)?;
     let mut meter = CostMeter::new();
-    let answered = command(alloc, words.as_slice(), &mut files, &mut out, &mut meter);
+    let answered = command(alloc, given.as_slice(), files, &mut out, &mut meter);
     assert_eq!(rt; out.written(), text.as_bytes(), "{text}");
     assert_eq!(rt; answered, status, "{text}");
     Ok(())
@@ -83,13 +81,15 @@ fn check_ends(
     status: u8,
     text: &str,
 ) -> Result<(), Fail> {
-    let files = [
-        ("s.json", script),
-        ("t.csv", table),
-        ("u.csv", JOINED.as_bytes()),
-        ("x.csv", JOINED_NEXT.as_bytes()),
-    ];
-    ends(rt, &Run::of(&["check", "s.json"], &files), status, text)
+    let mut files = files_of(rt.alloc(), script, table, &[])?;
+    ends(
+        rt,
+        &["check", "s.json"],
+        &mut files,
+        ALL_WRITES,
+        status,
+        text,
+    )
 }
 
 // A script with these entries of tables and these queries.
@@ -120,9 +120,9 @@ fn reads_words(rt: HostRuntime) -> Result<(), Fail> {
         (&["turns", "s.json"], 2, usage),
         (&["check", "-"], 3, "error: cannot read -\n"),
     ];
-    let files = [("s.json", SCRIPT.as_bytes()), ("t.csv", TABLE.as_bytes())];
     for (words, status, text) in cases {
-        ends(&rt, &Run::of(words, &files), status, text)?;
+        let mut files = files_of(rt.alloc(), SCRIPT.as_bytes(), TABLE.as_bytes(), &[])?;
+        ends(&rt, words, &mut files, ALL_WRITES, status, text)?;
     }
     Ok(())
 }
@@ -362,13 +362,10 @@ fn reports_reads_that_fail(rt: HostRuntime) -> Result<(), Fail> {
         (4, 3, "error: cannot read t.csv\n"),
         (5, 0, ANSWER),
     ];
-    let files = [("s.json", SCRIPT.as_bytes()), ("t.csv", TABLE.as_bytes())];
     for (call, status, text) in cases {
-        let run = Run {
-            failing_reads: &[call],
-            ..Run::of(&["check", "s.json"], &files)
-        };
-        ends(&rt, &run, status, text)?;
+        let mut files = files_of(rt.alloc(), SCRIPT.as_bytes(), TABLE.as_bytes(), &[call])?;
+        let words = ["check", "s.json"];
+        ends(&rt, &words, &mut files, ALL_WRITES, status, text)?;
     }
     Ok(())
 }
@@ -388,14 +385,9 @@ fn reports_writes_that_fail(rt: HostRuntime) -> Result<(), Fail> {
         (check, 9, 0, ANSWER),
         (&[], 2, 4, "erro"),
     ];
-    let files = [("s.json", SCRIPT.as_bytes()), ("t.csv", TABLE.as_bytes())];
     for (words, call, status, text) in cases {
-        let run = Run {
-            failing_writes: &[call],
-            most: 4,
-            ..Run::of(words, &files)
-        };
-        ends(&rt, &run, status, text)?;
+        let mut files = files_of(rt.alloc(), SCRIPT.as_bytes(), TABLE.as_bytes(), &[])?;
+        ends(&rt, words, &mut files, (call, 4), status, text)?;
     }
     Ok(())
 }
@@ -471,11 +463,10 @@ fn limits_the_bytes_of_names(rt: HostRuntime) -> Result<(), Fail> {
         )?;
         let script = script_of(alloc, entry.as_str(), query.as_str())?;
         let rows = format!(in alloc; "v,{column}\n1,2\n")?;
-        let files = [
-            ("s.json", script.as_bytes()),
-            (file.as_str(), rows.as_bytes()),
-        ];
-        ends(&rt, &Run::of(&["check", "s.json"], &files), status, text)?;
+        let mut files = files_of(alloc, script.as_bytes(), b"", &[])?;
+        add(alloc, &mut files, file.as_str(), rows.as_bytes())?;
+        let words = ["check", "s.json"];
+        ends(&rt, &words, &mut files, ALL_WRITES, status, text)?;
     }
     Ok(())
 }

@@ -1,0 +1,187 @@
+//! The calls of a worker that reserves and holds a slot. Each makes one atomic step, takes no memory
+//! and never waits.
+ghost use Rattle.std.specs.Prelude.{◌≡◌, ◌⊎◌, ◌+◌, ◌<◌, ◌≤◌, None, IsSome};
+ghost use Rattle.slot_history.specs.declared.act.Act.TheVariants.{NoteDone, SetTotal, Install, Release};
+ghost use Rattle.slot_history.specs.declared.place.Place.TheVariants.{Free};
+ghost use Rattle.slot_history.specs.declared.shape.TheConstants.{STAGES, MOST_TOTAL};
+ghost use Rattle.slot_history.specs.Allowed.{IsReady};
+ghost use Rattle.slot_history.specs.States.{next_id};
+ghost use Rattle.slot_station.specs.declared.note.Note.TheVariants.{Empty, Fresh};
+ghost use Rattle.slot_station.specs.Desks.{AllNoted, HasTotal, Makes, Owns, own_holding, own_place};
+ghost use Rattle.slot_station.specs.Replies.{reserve_act, admit_act, admitted_holder};
+ghost use Rattle.slot_station.specs.Tokens.{IsAnnouncer, IsHolder, ReserveGives};
+ghost use Rattle.board_rule.specs.Passes.{IsPassOf, seen_of};
+
+use board_rule::board::{Board, Pass};
+use board_rule::steps::{compare_exchange, fetch_add, store};
+use slot_history::act::Act;
+use slot_proto::reading::{admit_read, reserve_read};
+use slot_station::moves::{held_at, place_after, slot_at};
+use slot_station::reply::{Admit, Reserve};
+use slot_station::station::Fits;
+use slot_station::steps::Steps;
+use slot_station::token::{Announcer, Holder};
+use slot_words::address::Address;
+use slot_words::encoding::{cursor_word, open_word};
+use std::marker::Brand;
+use std::sync::ledger::Ledger;
+
+/// `Station::reserve`: the slot's state word becomes 1 if it is 0.
+pub fn reserve<B: Fits, L: Ledger>(
+    board: &Board<B>,
+    pass: &mut Pass<B>,
+    s: u32,
+    steps: &mut Steps<L>,
+) -> Reserve
+    requires pass { IsPassOf board.now pass.old }
+    requires place { own_place (seen_of board.now pass.old) ≡ Free }
+    requires slot { s < (seen_of board.now pass.old).desk.shape.slots }
+    ensures pass { IsPassOf board.now pass.new }
+    ensures made { Makes B.total (reserve_act s result)
+        (seen_of board.now pass.old) (seen_of board.now pass.new) }
+    ensures holder { Owns ReserveGives (seen_of board.now pass.new) result }
+    ensures ticks { steps.new ≡ steps.old + 1 }
+{
+    steps.tick();
+    let found = compare_exchange::<Brand, B>(board, pass, Address::StateOf(s), 0, 1);
+    let reserve = reserve_read(found, pass.worker, s);
+    pass.place = place_after(&board.shape, &reserve.act(s), pass.place);
+    reserve
+}
+
+/// `Station::admit`: the arrivals become `q + 1` if they are `q`.
+pub fn admit<B: Fits, L: Ledger>(
+    board: &Board<B>,
+    pass: &mut Pass<B>,
+    holder: &mut Holder,
+    q: u32,
+    steps: &mut Steps<L>,
+) -> Admit
+    requires pass { IsPassOf board.now pass.old }
+    requires holder { Owns IsHolder (seen_of board.now pass.old) holder.old }
+    requires none { holder.old.query ≡ None }
+    requires query { q < (seen_of board.now pass.old).desk.shape.queries }
+    ensures pass { IsPassOf board.now pass.new }
+    ensures made { Makes B.total (admit_act q result)
+        (seen_of board.now pass.old) (seen_of board.now pass.new) }
+    ensures query { holder.new ≡ admitted_holder q result holder.old }
+    ensures holder { Owns IsHolder (seen_of board.now pass.new) holder.new }
+    ensures ticks { steps.new ≡ steps.old + 1 }
+{
+    steps.tick();
+    let due = u64::from(q);
+    let found = compare_exchange::<Brand, B>(board, pass, Address::ArrivalsAt, due, due + 1);
+    let admit = admit_read(found, q);
+    pass.place = place_after(&board.shape, &admit.act(q), pass.place);
+    holder.admit(q, admit);
+    admit
+}
+
+/// `Station::note_done`: `k` is added to the number of task sets noted as done.
+pub fn note_done<B: Fits, L: Ledger>(
+    board: &Board<B>,
+    pass: &mut Pass<B>,
+    _holder: &mut Holder,
+    k: u32,
+    steps: &mut Steps<L>,
+)
+    requires pass { IsPassOf board.now pass.old }
+    requires holder { Owns IsHolder (seen_of board.now pass.old) _holder.old }
+    requires query { IsSome _holder.old.query }
+    requires once { (own_holding (seen_of board.now pass.old)).noted ≡ 0 }
+    requires number { (0 < k) × (_holder.old.stage + k ≤ STAGES) }
+    ensures pass { IsPassOf board.now pass.new }
+    ensures made { Makes B.total (NoteDone k)
+        (seen_of board.now pass.old) (seen_of board.now pass.new) }
+    ensures same { _holder.new ≡ _holder.old }
+    ensures holder { Owns IsHolder (seen_of board.now pass.new) _holder.new }
+    ensures ticks { steps.new ≡ steps.old + 1 }
+{
+    steps.tick();
+    fetch_add::<Brand, B>(board, pass, Address::FinishedAt, u64::from(k));
+    pass.place = place_after(&board.shape, &Act::NoteDone(k), pass.place);
+}
+
+/// `Station::set_total`: a store of the total and the cursor 0 in the slot's cursor word.
+pub fn set_total<B: Fits, L: Ledger>(
+    board: &Board<B>,
+    pass: &mut Pass<B>,
+    _holder: &mut Holder,
+    total: u32,
+    steps: &mut Steps<L>,
+)
+    requires pass { IsPassOf board.now pass.old }
+    requires holder { Owns IsHolder (seen_of board.now pass.old) _holder.old }
+    requires query { IsSome _holder.old.query }
+    requires number { total ≤ MOST_TOTAL }
+    ensures pass { IsPassOf board.now pass.new }
+    ensures made { Makes B.total (SetTotal total)
+        (seen_of board.now pass.old) (seen_of board.now pass.new) }
+    ensures same { _holder.new ≡ _holder.old }
+    ensures holder { Owns IsHolder (seen_of board.now pass.new) _holder.new }
+    ensures ticks { steps.new ≡ steps.old + 1 }
+{
+    steps.tick();
+    let cursor = Address::CursorOf(slot_at(&pass.place));
+    store::<Brand, B>(board, pass, cursor, cursor_word(total, 0));
+    pass.place = place_after(&board.shape, &Act::SetTotal(total), pass.place);
+}
+
+/// `Station::install`: a store of the open word in the slot's state word.
+pub fn install<B: Fits, L: Ledger>(
+    board: &Board<B>,
+    pass: &mut Pass<B>,
+    holder: Holder,
+    id: u32,
+    steps: &mut Steps<L>,
+) -> Announcer
+    requires pass { IsPassOf board.now pass.old }
+    requires holder { Owns IsHolder (seen_of board.now pass.old) holder }
+    requires ready { IsReady (own_holding (seen_of board.now pass.old)) }
+    requires id { id ≡ next_id (own_holding (seen_of board.now pass.old)) }
+    requires total { HasTotal B.total (seen_of board.now pass.old) id }
+    requires cells { AllNoted Fresh (seen_of board.now pass.old) }
+    ensures pass { IsPassOf board.now pass.new }
+    ensures made { Makes B.total (Install id)
+        (seen_of board.now pass.old) (seen_of board.now pass.new) }
+    ensures announcer { Owns IsAnnouncer (seen_of board.now pass.new) result }
+    ensures ticks { steps.new ≡ steps.old + 1 }
+{
+    steps.tick();
+    let announcer = Announcer {
+        worker: pass.worker,
+        slot: slot_at(&pass.place),
+        workers: board.shape.workers,
+        told: 0,
+        again: held_at(&pass.place).again,
+    };
+    let state = Address::StateOf(slot_at(&pass.place));
+    store::<Brand, B>(board, pass, state, open_word(id));
+    pass.place = place_after(&board.shape, &Act::Install(id), pass.place);
+    drop(holder);
+    announcer
+}
+
+/// `Station::release`: a store of 0 in the slot's state word.
+pub fn release<B: Fits, L: Ledger>(
+    board: &Board<B>,
+    pass: &mut Pass<B>,
+    holder: Holder,
+    steps: &mut Steps<L>,
+)
+    requires pass { IsPassOf board.now pass.old }
+    requires holder { Owns IsHolder (seen_of board.now pass.old) holder }
+    requires noted { (holder.query ≡ None)
+        ⊎ (0 < (own_holding (seen_of board.now pass.old)).noted) }
+    requires cells { AllNoted Empty (seen_of board.now pass.old) }
+    ensures pass { IsPassOf board.now pass.new }
+    ensures made { Makes B.total Release
+        (seen_of board.now pass.old) (seen_of board.now pass.new) }
+    ensures ticks { steps.new ≡ steps.old + 1 }
+{
+    steps.tick();
+    let state = Address::StateOf(slot_at(&pass.place));
+    store::<Brand, B>(board, pass, state, 0);
+    pass.place = place_after(&board.shape, &Act::Release, pass.place);
+    drop(holder);
+}

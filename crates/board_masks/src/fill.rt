@@ -1,5 +1,5 @@
-//! The calls of a worker that reserves and holds a slot. Each makes one atomic step, takes no memory
-//! and never waits.
+//! The calls of a worker that reserves and holds a slot. Each makes one atomic step, takes no
+//! memory and never waits.
 ghost use Rattle.std.specs.Prelude.{◌≡◌, ◌⊎◌, ◌+◌, ◌<◌, ◌≤◌, None, IsSome};
 ghost use Rattle.slot_history.specs.declared.act.Act.TheVariants.{NoteDone, SetTotal, Install, Release};
 ghost use Rattle.slot_history.specs.declared.place.Place.TheVariants.{Free};

@@ -1,4 +1,5 @@
--- The definitions of the board: views, the running rule, steps, passes, and how a board begins and ends.
+-- The definitions of the board: views, the running rule, steps, passes, and how a board begins and
+-- ends.
 pub mod Cells
 pub mod Ends
 pub mod Laws

@@ -21,8 +21,9 @@ use Rattle.board_rule.specs.declared.view.View.{View}
 use Rattle.board_rule.specs.declared.view.Heard.{Heard}
 use Rattle.board_rule.specs.Views.{times}
 
--- What a board serves: how large it is, and its subject. `total` gives a subject's totals, and `fits`
--- says what a value of a worker's cell has to fit, by a task set and the ranges claimed of it.
+-- What a board serves: how large it is, and its subject. `total` gives a subject's totals, and
+-- `fits` says what a value of a worker's cell has to fit, by a task set and the ranges claimed of
+-- it.
 pub record Terms (B Sub : Type 0) : Type 1 where
   pub shape : Shape
   pub subject : Sub
@@ -69,14 +70,16 @@ module _ {B Sub : Type 0} (terms : Terms B Sub) (known : Knowledge) where
   CellIs s u (some x) = CellOf (terms.fits terms.subject u) (moment_of terms known)
       (record { slot = s; worker = u; value = x })
 
-  -- what a seat was joined with is a beginning of the longest trail that has all of its worker's calls
+  -- what a seat was joined with is a beginning of the longest trail that has all of its worker's
+  -- calls
   pub record IsHeard (v : View Sub) (x : Heard) : Type 0 where
     pub begins : Begins known.trail x.trail
     pub own : own_calls x.worker known.trail ≡ own_calls x.worker x.trail
     pub there : 0 < times x.worker v.numbers
 
-  -- What a view says is so. Its trail begins the longest one, and has all calls of each worker whose
-  -- number the view has. Workers with further numbers are free. A view without a number has no trail.
+  -- What a view says is so. Its trail begins the longest one, and has all calls of each worker
+  -- whose number the view has. Workers with further numbers are free. A view without a number has
+  -- no trail.
   pub record IsViewOf (v : View Sub) : Type 0 where
     pub shape : (w : ℕ) (ws : List ℕ) → v.numbers ≡ w ∷ ws → v.shape ≡ terms.shape
     pub subject_is : (w : ℕ) (ws : List ℕ) → v.numbers ≡ w ∷ ws → v.subject ≡ Some terms.subject
@@ -92,8 +95,8 @@ module _ {B Sub : Type 0} (terms : Terms B Sub) (known : Knowledge) where
 
   -- What is known is so of the table. The longest trail is a legal history of the subject, and the
   -- words stand for the state that it leaves. Each number below the workers is in one view, once,
-  -- and no other number is in a view. Each view says what is so, and so do the notes of each cell. A
-  -- worker without a call has no cell out and no note.
+  -- and no other number is in a view. Each view says what is so, and so do the notes of each cell.
+  -- A worker without a call has no cell out and no note.
   pub record IsKnown (table : State (Option B) (View Sub)) : Type 0 where
     pub words_are : AreWordsOf terms.shape known.trail table.words
     pub of_subject : IsOfTotals (terms.total terms.subject) terms.shape known.trail

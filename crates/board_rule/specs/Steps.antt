@@ -26,8 +26,8 @@ pub record MayMake {O Sub : Type 0} (total : Sub → ℕ → Option ℕ) (x : Se
   pub place : MayAt x.desk.shape (own_place x) c
   pub cells : CellsAllow (totals_of total x) (caller_in x) c
 
--- The seat with this view may make a step that is this call: its worker may make the call, by its own
--- trail and notes; the seat has no cell out, and no other seat was joined into it.
+-- The seat with this view may make a step that is this call: its worker may make the call, by its
+-- own trail and notes; the seat has no cell out, and no other seat was joined into it.
 pub record MayStep {B Sub : Type 0} (terms : Terms B Sub) (v : View Sub) (c : Call) : Type 0 where
   pub rest : List ℕ
   pub numbers : v.numbers ≡ number v ∷ rest

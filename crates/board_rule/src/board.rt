@@ -13,8 +13,8 @@ use slot_station::history::HistoryKeeper;
 use slot_station::station::Fits;
 use std::alloc::Global;
 
-/// The shared slot object: words that change in single atomic steps, and beside them a cell for each
-/// slot and worker. Threads share it by reference.
+/// The shared slot object: words that change in single atomic steps, and beside them a cell for
+/// each slot and worker. Threads share it by reference.
 #[derive(Drop)]
 pub struct Board<B: Fits> {
     pub(crate) table: Table<Option<B>, View<B::Subject>, About<B::Subject>, Running<B>, Global>,

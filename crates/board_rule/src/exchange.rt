@@ -1,5 +1,5 @@
-//! Exchanges of cells: a load takes a cell out of the table, the seat exchanges it, and a load gives
-//! it back.
+//! Exchanges of cells: a load takes a cell out of the table, the seat exchanges it, and a load
+//! gives it back.
 ghost use Rattle.std.specs.Prelude.{◌≡◌, ◌<◌, ℕ, IfSome};
 ghost use mathlib.Core.Option.{none};
 ghost use Rattle.atomic_table.specs.Table.{Allows, step};
@@ -38,8 +38,8 @@ fn take_cell<K: Wanted, B: Fits>(
     board.table.shared.load::<Taking<K>>(seat, 0);
 }
 
-/// Exchanges the cell of a worker that this pass's worker has: its own while it is inside, or any of
-/// the slot that it holds. It answers the old value, which is as the cell's note says.
+/// Exchanges the cell of a worker that this pass's worker has: its own while it is inside, or any
+/// of the slot that it holds. It answers the old value, which is as the cell's note says.
 pub fn exchange_cell<B: Fits>(
     board: &Board<B>,
     pass: &mut Pass<B>,

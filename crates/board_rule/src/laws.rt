@@ -4,8 +4,8 @@ ghost use Rattle.board_rule.specs.Laws.{Extends, NoticesStay};
 use slot_station::station::Fits;
 
 /// The extension law, once for every call. Take a table on which the rule holds, a seat, and a call
-/// that the seat's own trail and notes allow. After the call's one step the rule holds again, and the
-/// seat's trail is the longest trail with this call.
+/// that the seat's own trail and notes allow. After the call's one step the rule holds again, and
+/// the seat's trail is the longest trail with this call.
 ///
 /// It rests on the law of the call's step on words (`slot_words::laws`), on the laws of histories,
 /// and on nothing else that is said of marks or of cells.

@@ -7,8 +7,9 @@
 //! (`steps`), exchanges of cells (`exchange`), and how a board begins and ends (`life`). The calls
 //! are in the crates above. `docs/BOARD.md` tells all this in prose.
 //!
-//! The layers above may use one fact: a step that is a call which its worker may make leaves the pass
-//! with this call as its trail's newest entry, and this trail is a legal history of the subject.
+//! The layers above may use one fact: a step that is a call which its worker may make leaves the
+//! pass with this call as its trail's newest entry, and this trail is a legal history of the
+//! subject.
 #![tactic(auto)]
 
 pub mod board;

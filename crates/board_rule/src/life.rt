@@ -24,10 +24,10 @@ use std::alloc::{AllocError, Global};
 use std::snapshot::Snapshot;
 
 impl<B: Fits> Board<B> {
-    /// A board whose slots are empty, whose cells hold None, and with no notices, and a pass for each
-    /// worker, from 0 on. `subject` is what it serves, for contracts alone, and `queries` the number
-    /// of the subject's queries. BadSlots comes exactly outside 1 to 128 slots, then BadWorkers
-    /// exactly outside 1 to 64 workers, then BadQueries exactly past 4,096 queries.
+    /// A board whose slots are empty, whose cells hold None, and with no notices, and a pass for
+    /// each worker, from 0 on. `subject` is what it serves, for contracts alone, and `queries` the
+    /// number of the subject's queries. BadSlots comes exactly outside 1 to 128 slots, then
+    /// BadWorkers exactly outside 1 to 64 workers, then BadQueries exactly past 4,096 queries.
     pub fn make(
         alloc: Global,
         slots: u32,
@@ -51,8 +51,8 @@ impl<B: Fits> Board<B> {
         Ok(made)
     }
 
-    /// Ends a board whose passes are all here, each worker's and each at the place Free. It takes no
-    /// memory.
+    /// Ends a board whose passes are all here, each worker's and each at the place Free. It takes
+    /// no memory.
     pub fn finish(self, passes: Vec<Pass<B>>) -> Joined
         requires all { AreAll self passes.items }
         requires done { AreDone self passes.items }

@@ -1,5 +1,5 @@
-//! The calls of a visit. Each makes one atomic step, takes no memory and never waits; the exchange of
-//! a cell makes two loads and the exchange.
+//! The calls of a visit. Each makes one atomic step, takes no memory and never waits; the exchange
+//! of a cell makes two loads and the exchange.
 ghost use Rattle.std.specs.Prelude.{◌≡◌, ℕ, ◌+◌, ◌<◌, ◌≤◌, true, IfSome};
 ghost use Rattle.slot_history.specs.declared.act.Act.TheVariants.{Enter};
 ghost use Rattle.slot_history.specs.declared.place.Place.TheVariants.{Free, Entered, Inside};

@@ -19,6 +19,8 @@ pub mod laws;
 pub mod life;
 pub mod rule;
 pub mod steps;
+#[cfg(test)]
+mod tests;
 pub mod view;
 
 pub use board::{Board, Pass};

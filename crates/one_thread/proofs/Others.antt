@@ -1,13 +1,11 @@
 -- What a seat leaves to others.
 use Rattle.std.proofs.Common.{◌≡◌, ◌≢◌, ℕ, List, [], ◌∷◌, ◌++◌, cond, eqb, ◌&&◌, All, refl, sym, ap, ◌∙◌, subst, ne_eqb}
 use Rattle.std.proofs.lemmas.List.Elements.{All-head, All-tail}
-use Rattle.slot_history.specs.declared.act.Entry.{Entry}
-use Rattle.slot_station.specs.declared.note.Note.{Note}
 use Rattle.slot_station.specs.declared.log.Logged.{Logged}
 use Rattle.slot_station.specs.declared.log.Logged.TheVariants.{Call, Exchanged}
 use Rattle.slot_station.specs.Cells.{noted}
 use Rattle.slot_station.specs.Log.{calls_of, note_in, who}
-use Rattle.one_thread.specs.Seats.{IsUntouched, OthersStay, trail_in}
+use Rattle.one_thread.specs.Seats.{IsUntouched, OthersStay}
 use Rattle.one_thread.proofs.Trails.{trail-other}
 
 -- one step of w

@@ -1,5 +1,5 @@
 -- The places of the workers, in a list.
-use Rattle.std.proofs.Common.{◌≡◌, ℕ, ◌<◌, List, set, ◌∙◌, length-set}
+use Rattle.std.proofs.Common.{ℕ, ◌<◌, List, set, ◌∙◌, length-set}
 use Rattle.slot_history.specs.declared.shape.Shape.{Shape}
 use Rattle.slot_history.specs.declared.place.Place.{Place}
 use Rattle.slot_history.specs.Sets.{upd}

@@ -1,13 +1,12 @@
 -- Each call of the object keeps what is kept of it.
-use Rattle.std.proofs.Common.{◌≡◌, ◌≢◌, ℕ, ◌+◌, ◌*◌, ◌<◌, ◌≤◌, ◌⊎◌, Bool, true, false, cond, eqb, List, set, get_or, slice_get, IsSome, Option, Some, None, refl, sym, ap, ◌∙◌, subst, eq-eqb, eqb-true, arith}
+use Rattle.std.proofs.Common.{◌≡◌, ◌≢◌, ℕ, ◌+◌, ◌*◌, ◌<◌, ◌≤◌, ◌⊎◌, Bool, true, false, cond, eqb, List, set, get_or, slice_get, Option, Some, None, refl, sym, ap, ◌∙◌, subst, eq-eqb, eqb-true, arith}
 use mathlib.Core.Bool.{true≢false}
 use Rattle.slot_history.specs.declared.shape.Shape.{Shape}
 use Rattle.slot_history.specs.declared.shape.TheConstants.{MOST_CLAIM}
 use Rattle.slot_history.specs.declared.act.Act.{Act}
 use Rattle.slot_history.specs.declared.act.Act.TheVariants.{Arrivals, Finished, SetTotal, NoteDone, AdmitGot, AdmitLost}
 use Rattle.slot_history.specs.declared.place.Place.{Place}
-use Rattle.slot_history.specs.declared.place.Held.{Held}
-use Rattle.slot_history.specs.declared.place.Place.TheVariants.{Free, Entered, Inside as At, Used, Owing, Holding}
+use Rattle.slot_history.specs.declared.place.Place.TheVariants.{Free, Entered, Inside as At, Used, Owing}
 use Rattle.slot_history.specs.Sets.{upd}
 use Rattle.slot_history.specs.States.{SlotState, Empty, Reserved, Open, Shut, Finishing, ObjectState, slot_of, id_of, owes, can_leave, is_open, is_shut, is_empty, is_inside, reservation, has_own_cell}
 use Rattle.slot_history.specs.Steps.{site, slot_after, moved, claimed, shut_by, held_on}

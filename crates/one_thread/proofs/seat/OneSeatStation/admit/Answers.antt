@@ -1,8 +1,4 @@
-use Rattle.std.proofs.Common.{◌≡◌, ℕ, ◌<◌, None}
 use Rattle.slot_station.specs.Tokens.{IsHolder}
-use Rattle.slot_history.specs.declared.shape.Shape.{Shape}
-use Rattle.slot_history.specs.declared.place.Held.{Held}
-use Rattle.slot_history.specs.declared.place.Place.TheVariants.{Holding}
 use Rattle.slot_history.specs.Calls.{Admitting}
 use Rattle.one_thread.proofs.Seated.{seat, may-make, token-old, admit-free, table-free, new-place, token-for, makes-free}
 use Rattle.slot_station.proofs.TokensKept.{admit-holds}

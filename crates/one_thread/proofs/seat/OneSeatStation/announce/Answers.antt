@@ -1,7 +1,6 @@
-use Rattle.std.proofs.Common.{◌≡◌, ℕ, ◌+◌, ◌<◌, Bool}
+use Rattle.std.proofs.Common.{◌+◌, ◌<◌}
 use Rattle.slot_station.specs.Tokens.{IsAnnouncer}
 use Rattle.slot_history.specs.declared.shape.Shape.{Shape}
-use Rattle.slot_history.specs.declared.place.Place.TheVariants.{Announcing}
 use Rattle.slot_history.specs.Calls.{AnnouncingNext}
 use Rattle.one_thread.proofs.Seated.{seat, may-make, shape-for, token-old, table-after, new-place, token-for, seat-makes, seat-done}
 use Rattle.slot_station.proofs.TokensKept.{tell-holds}

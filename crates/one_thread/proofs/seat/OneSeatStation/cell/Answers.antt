@@ -1,4 +1,4 @@
-use Rattle.std.proofs.Common.{◌+◌, ◌*◌, ◌<◌, length, refl, ap, ◌∙◌, arith}
+use Rattle.std.proofs.Common.{◌+◌, ◌*◌, ◌<◌, length, ap, ◌∙◌, arith}
 use Rattle.slot_history.specs.declared.shape.Shape.{Shape}
 use Rattle.one_thread.proofs.Seated.{seat}
 use Rattle.one_thread.proofs.SeatCells.{cell-index, seat-cell-says, seat-cell}

@@ -1,6 +1,4 @@
-use Rattle.std.proofs.Common.{◌≡◌, ℕ}
 use Rattle.slot_station.specs.Tokens.{ClaimGives}
-use Rattle.slot_history.specs.declared.place.Place.TheVariants.{Inside}
 use Rattle.slot_station.proofs.Follows.{range-cut, range-past}
 use Rattle.slot_history.specs.Calls.{Claiming}
 use Rattle.one_thread.proofs.Seated.{seat, may-make, claim-free, table-free, brought, makes-free}

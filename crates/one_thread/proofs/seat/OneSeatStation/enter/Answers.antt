@@ -1,6 +1,3 @@
-use Rattle.std.proofs.Common.{◌≡◌, ◌<◌}
-use Rattle.slot_history.specs.declared.shape.Shape.{Shape}
-use Rattle.slot_history.specs.declared.place.Place.TheVariants.{Free}
 use Rattle.slot_history.specs.Calls.{Entering}
 use Rattle.one_thread.proofs.Seated.{seat, may-make, table-after, seat-makes}
 use Rattle.one_thread.proofs.seat.OneSeatStation.enter.Goals as goal

@@ -1,9 +1,7 @@
-use Rattle.std.proofs.Common.{◌≡◌, ℕ, ap, ◌∙◌, subst}
+use Rattle.std.proofs.Common.{ap, ◌∙◌, subst}
 use Rattle.slot_history.specs.States.{held_at, next_id}
 use Rattle.slot_history.specs.Allowed.{IsReady}
 use Rattle.slot_station.specs.Tokens.{IsAnnouncer}
-use Rattle.slot_history.specs.declared.place.Held.{Held}
-use Rattle.slot_history.specs.declared.place.Place.TheVariants.{Holding}
 use Rattle.slot_history.specs.Calls.{Installing}
 use Rattle.one_thread.proofs.Seated.{seat, may-make, install-allows, table-after, brought, seat-makes}
 use Rattle.one_thread.proofs.seat.OneSeatStation.install.Goals as goal

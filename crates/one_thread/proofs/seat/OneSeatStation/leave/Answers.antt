@@ -1,6 +1,4 @@
-use Rattle.std.proofs.Common.{◌≡◌, true}
 use Rattle.slot_station.specs.Tokens.{LeaveGives}
-use Rattle.slot_history.specs.States.{can_leave}
 use Rattle.slot_station.proofs.Follows.{owes-task_set, coordinator-left}
 use Rattle.slot_history.specs.Calls.{Leaving}
 use Rattle.one_thread.proofs.Seated.{seat, may-make, leave-allows, table-after, brought, seat-makes}

@@ -1,5 +1,3 @@
-use Rattle.std.proofs.Common.{◌≡◌, ℕ}
-use Rattle.slot_history.specs.declared.place.Place.TheVariants.{Entered}
 use Rattle.slot_station.proofs.Follows.{sees-task_set}
 use Rattle.slot_history.specs.Calls.{Looking}
 use Rattle.one_thread.proofs.Seated.{seat, may-make, look-free, table-free, makes-free}

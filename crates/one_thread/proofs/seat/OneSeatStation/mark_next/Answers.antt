@@ -1,6 +1,5 @@
-use Rattle.std.proofs.Common.{◌≡◌, ℕ, ◌+◌, ◌<◌, ◌∙◌, subst, arith}
+use Rattle.std.proofs.Common.{◌∙◌, subst, arith}
 use Rattle.slot_station.specs.Tokens.{IsCoordinator}
-use Rattle.slot_history.specs.declared.shape.Shape.{Shape}
 use Rattle.slot_history.specs.declared.place.Place.TheVariants.{Asking}
 use Rattle.slot_station.specs.Places.{IsCounted}
 use Rattle.slot_history.specs.Calls.{Marking}

@@ -1,9 +1,6 @@
-use Rattle.std.proofs.Common.{◌≡◌, ℕ, ◌+◌, ◌≤◌, IsSome, sym, ap, ◌∙◌}
-use Rattle.slot_history.specs.declared.shape.TheConstants.{STAGES}
+use Rattle.std.proofs.Common.{sym, ap, ◌∙◌}
 use Rattle.slot_history.specs.States.{held_at}
 use Rattle.slot_station.specs.Tokens.{IsHolder}
-use Rattle.slot_history.specs.declared.place.Held.{Held}
-use Rattle.slot_history.specs.declared.place.Place.TheVariants.{Holding}
 use Rattle.slot_history.specs.Calls.{NotingDone}
 use Rattle.one_thread.proofs.Seated.{seat, may-make, token-old, table-after, new-place, token-for, seat-makes}
 use Rattle.slot_station.proofs.TokensKept.{note-holds}

@@ -1,6 +1,4 @@
-use Rattle.std.proofs.Common.{◌≡◌, ℕ}
 use Rattle.slot_station.specs.Tokens.{PayGives}
-use Rattle.slot_history.specs.declared.place.Place.TheVariants.{Owing}
 use Rattle.slot_history.specs.Calls.{Paying}
 use Rattle.one_thread.proofs.Seated.{seat, may-make, pay-free, table-free, brought, makes-free}
 use Rattle.one_thread.proofs.seat.OneSeatStation.pay.Goals as goal

@@ -1,8 +1,6 @@
-use Rattle.std.proofs.Common.{◌≡◌, ℕ, ◌<◌, ◌⊎◌, None, subst}
+use Rattle.std.proofs.Common.{◌<◌, subst}
 use Rattle.slot_history.specs.States.{held_at}
 use Rattle.std.proofs.Common.{⊎_elim, inl, inr}
-use Rattle.slot_history.specs.declared.place.Held.{Held}
-use Rattle.slot_history.specs.declared.place.Place.TheVariants.{Holding}
 use Rattle.slot_history.specs.Calls.{Releasing}
 use Rattle.one_thread.proofs.Seated.{seat, may-make, release-allows, table-after, seat-makes}
 use Rattle.one_thread.proofs.seat.OneSeatStation.release.Goals as goal

@@ -1,7 +1,4 @@
-use Rattle.std.proofs.Common.{◌≡◌, ◌<◌}
 use Rattle.slot_station.specs.Tokens.{ReserveGives}
-use Rattle.slot_history.specs.declared.shape.Shape.{Shape}
-use Rattle.slot_history.specs.declared.place.Place.TheVariants.{Free}
 use Rattle.slot_history.specs.Calls.{Reserving}
 use Rattle.one_thread.proofs.Seated.{seat, may-make, reserve-free, table-free, brought, makes-free}
 use Rattle.one_thread.proofs.seat.OneSeatStation.reserve.Goals as goal

@@ -1,7 +1,4 @@
-use Rattle.std.proofs.Common.{◌≡◌, ℕ, IsSome}
 use Rattle.slot_station.specs.Tokens.{IsHolder}
-use Rattle.slot_history.specs.declared.place.Held.{Held}
-use Rattle.slot_history.specs.declared.place.Place.TheVariants.{Holding}
 use Rattle.slot_history.specs.Calls.{SettingTotal}
 use Rattle.one_thread.proofs.Seated.{seat, may-make, token-old, table-after, new-place, token-for, seat-makes}
 use Rattle.slot_station.proofs.TokensKept.{total-holds}

@@ -1,6 +1,4 @@
-use Rattle.std.proofs.Common.{◌≡◌, ℕ}
 use Rattle.slot_station.specs.Tokens.{ShutGives}
-use Rattle.slot_history.specs.declared.place.Place.TheVariants.{Used}
 use Rattle.slot_history.specs.Calls.{Shutting}
 use Rattle.one_thread.proofs.Seated.{seat, may-make, shut-free, table-free, brought, makes-free}
 use Rattle.one_thread.proofs.seat.OneSeatStation.shut.Goals as goal

@@ -1,9 +1,6 @@
-use Rattle.std.proofs.Common.{◌≡◌, ℕ, ◌+◌, sym, ap, ◌∙◌}
 use Rattle.slot_station.specs.Tokens.{SweepGives}
-use Rattle.slot_history.specs.declared.shape.Shape.{Shape}
-use Rattle.slot_history.specs.declared.place.Place.TheVariants.{Asking}
 use Rattle.slot_history.specs.Calls.{Sweeping}
-use Rattle.one_thread.proofs.Seated.{seat, object-shape, may-make, sweep-free, table-free, brought, makes-free}
+use Rattle.one_thread.proofs.Seated.{seat, may-make, sweep-free, table-free, brought, makes-free}
 use Rattle.one_thread.proofs.seat.OneSeatStation.sweep.Goals as goal
 
 pub invariant_of-table : goal.invariant_of-table

@@ -1,4 +1,4 @@
-use Rattle.std.proofs.Common.{◌<◌, arith}
+use Rattle.std.proofs.Common.{arith}
 use Rattle.slot_history.specs.Calls.{Admitting}
 use Rattle.plain_slots.proofs.Calls.{admit-after}
 use Rattle.plain_slots.proofs.Following.{may-make, makes}

@@ -1,4 +1,4 @@
-use Rattle.std.proofs.Common.{◌≡◌, false, set, sym, ap, ◌∙◌}
+use Rattle.std.proofs.Common.{false, set, sym, ap, ◌∙◌}
 use Rattle.slot_history.specs.Calls.{Paying}
 use Rattle.slot_station.specs.Tokens.{PayGives}
 use Rattle.plain_slots.proofs.Calls.{debt-index}

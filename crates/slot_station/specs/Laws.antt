@@ -3,15 +3,15 @@ use Rattle.std.specs.Prelude.{◌≡◌, ◌≢◌, ◌↔◌, ℕ, ◌<◌, Lis
 use Rattle.slot_history.specs.declared.act.Act.{Act}
 use Rattle.slot_history.specs.declared.act.Act.TheVariants.{TakeReturn, TakeChange}
 use Rattle.slot_history.specs.declared.place.Place.TheVariants.{Inside}
-use Rattle.slot_history.specs.Steps.{moved, state_after}
-use Rattle.slot_history.specs.Calls.{Call, reply_of}
+use Rattle.slot_history.specs.Steps.{moved}
+use Rattle.slot_history.specs.Calls.{Call, call_of}
 use Rattle.slot_history.specs.Histories.{IsLegal, entry}
 use Rattle.slot_history.specs.Numbers.{named_id}
 use Rattle.slot_station.specs.declared.reply.Claim.{Claim}
 use Rattle.slot_station.specs.declared.reply.Leave.{Leave}
 use Rattle.slot_station.specs.declared.reply.Look.{Look}
 use Rattle.slot_station.specs.declared.log.Exchange.{Exchange}
-use Rattle.slot_station.specs.Cells.{Moment, Cell, CellOf, NoteSays, place_then, ranges_then, caller_then, CellsAllow, NotesAllow, after_call}
+use Rattle.slot_station.specs.Cells.{Moment, Cell, CellOf, NoteSays, place_then, ranges_then, Caller, caller_then, CellsAllow, NotesAllow, after_call}
 use Rattle.slot_station.specs.Exchanges.{IsExchange, own_slot, exchanged_cell, after_exchange, put_note, FitsKept, FitsFresh, FitsPut}
 use Rattle.slot_station.specs.Desks.{Seen, Makes, LeaderOwesNothing, own_place, own_ranges, own_total, totals_of}
 use Rattle.slot_station.specs.Replies.{look_act, claim_act, leave_act, SeesTaskSet, IsCutRange, LiesPast, OwesTaskSet, NamesSlots}
@@ -47,18 +47,14 @@ CellsGoOn {B = B} fits = (totals : ℕ → Option ℕ) (moment : Moment) (w : �
     → (cell : Cell B) → cell.worker < moment.shape.workers
     → CellOf fits moment cell → CellOf fits (after_call w a moment) cell
 
--- What a call's worker may ask by its notes before it knows the reply, it may ask whatever the
--- reply is; and what it may ask so, it may ask by the call.
+-- whether a worker's notes allow a call does not depend on its reply
 abbrev pub RepliesAllowed : Type 0
-RepliesAllowed = (totals : ℕ → Option ℕ) (moment : Moment) (w : ℕ) (call : Call)
-    → IsLegal moment.shape moment.history
-    → let state = state_after moment.shape moment.history in
-    CellsAllow totals (caller_then moment w) call
-    ↔ NotesAllow totals (caller_then moment w) (reply_of moment.shape state w call)
+RepliesAllowed = (totals : ℕ → Option ℕ) (caller : Caller) (call : Call) (a : Act)
+    → call_of a ≡ call → CellsAllow totals caller call ↔ NotesAllow totals caller a
 
 -- An exchange by a worker that has the cell keeps what is known of each cell. The worker finds
--- what its note says; a value that fits is as the new note says; and what is known of the other
--- cells, is known after it too. Values of the cell's worker meet `fits`.
+-- what its note says. If the value that it puts fits, the cell is as the new note says. What is
+-- known of the other cells stays. Values of the cell's worker meet `fits`.
 pub record ExchangesGoOn {B : Type 0} (fits : ℕ → List (ℕ × ℕ) → B → Type 0) : Type 0 where
   pub found : (moment : Moment) (exchange : Exchange) → IsExchange moment exchange
       → (value : Option B) → CellOf fits moment (exchanged_cell moment exchange value)

@@ -12,7 +12,7 @@ use crate::token::{Coordinator, Debt, Holder, Spent};
 use slot_history::place::Place;
 use slot_history::shape::{PARTS, STAGES, Shape};
 
-/// The place of the cell of a slot and a worker among all cells.
+/// The index of the cell of a slot and a worker among all cells.
 pub fn cell_index(shape: &Shape, slot: u32, worker: u32) -> usize
     ensures { result ≡ slot * shape.now.workers + worker }
 {
@@ -20,7 +20,7 @@ pub fn cell_index(shape: &Shape, slot: u32, worker: u32) -> usize
     (slot * u64::from(shape.workers) + u64::from(worker)) as usize
 }
 
-/// The place of a mask word among those of all workers.
+/// The index of a mask word among those of all workers.
 pub fn mask_index(worker: u32, part: u32) -> usize
     requires { (worker < MOST_WORKERS) × (part < PARTS) }
     ensures { result ≡ worker * PARTS + part }

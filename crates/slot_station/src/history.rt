@@ -53,13 +53,20 @@ impl<X: ShowsHistory> Play<X, LinkedList<Logged>> for ShowHistory {
     ghost then = { Shows X.history };
 }
 
-/// Where a history is kept that has to outlive the object that shows it. It is made with the object,
-/// so that the end takes no memory; at run time it is one word. Threads may share it.
+/// Where a history is kept that has to outlive the object that shows it. It is made with the
+/// object, so that the end takes no memory; at run time it is one word. Threads may share it.
 #[derive(Drop)]
 pub struct HistoryKeeper<X: ShowsHistory> {
     table: Table<X, LinkedList<Logged>, (), AnyWord, Global>,
-    ghost words: { 0 < table.shared.table_id.words },
-    ghost slots: { table.shared.table_id.slots ≡ 0 },
+}
+
+impl<X: ShowsHistory> Model for HistoryKeeper<X> {
+    ghost Value = { Unit {0} };
+
+    ghost view = { λ _. tt };
+
+    ghost invariant = { λ keeper. let id = keeper.table.shared.table_id in
+        (0 < id.words) × (id.slots ≡ 0) };
 }
 
 impl<X: ShowsHistory> HistoryKeeper<X> {

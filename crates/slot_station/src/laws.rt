@@ -17,15 +17,16 @@ pub fn cells_go_on<B: Fits>(subject: &B::Subject, worker: u32)
     ensures { CellsGoOn (B.fits subject.now worker) }
 {}
 
-/// What the notes allow of a call, they allow whatever its reply is.
+/// Whether a worker's notes allow a call does not depend on its reply.
 ///
 /// So a worker asks by its notes before the reply is known, and `cells_go_on` holds of the reply.
 pub fn replies_allowed()
     ensures { RepliesAllowed }
 {}
 
-/// An exchange by a worker that has the cell keeps what is known of every cell: the worker finds
-/// what its note says, what it puts is as the new note says, and the other cells are as before.
+/// An exchange by a worker that has the cell keeps what is known of every cell. The worker finds
+/// what its note says. If what it puts fits, the cell is as the new note says. What is known of the
+/// other cells stays.
 pub fn exchanges_go_on<B: Fits>(subject: &B::Subject, worker: u32)
     ensures { ExchangesGoOn (B.fits subject.now worker) }
 {}

@@ -111,9 +111,9 @@ pub trait Station<B: Fits> {
 
     /// Leaves the slot.
     ///
-    /// Owe exactly if the worker was marked at this slot, which whoever shut the task set never
-    /// is. If the worker was inside, its own cell has to be in the table, with a value that fits
-    /// its ranges.
+    /// Owe exactly if the worker was marked at this slot and has not paid since; whoever shut the
+    /// task set never is. If the worker was inside, its own cell has to be in the table, with a
+    /// value that fits its ranges.
     ///
     /// Allowed at Astray, Inside, Behind and Leading; see `docs/PROTOCOL.md`.
     fn leave<L: Ledger>(&mut self, steps: &mut Steps<L>) -> Leave

@@ -1,5 +1,5 @@
 -- A step that is a call is allowed by the extension law.
-use Rattle.std.proofs.Common.{◌≡◌, ℕ, List, ◌∷◌, Option, Some, slice_index, refl, sym, ap, ◌∙◌, subst}
+use Rattle.std.proofs.Common.{◌≡◌, ℕ, List, ◌∷◌, Option, Some, slice_index, refl, sym, ◌∙◌, subst}
 use Rattle.atomic_table.specs.Table as table
 use Rattle.atomic_table.specs.Table.{Me, Allows, keeps}
 use Rattle.slot_history.specs.declared.act.Act.{Act}

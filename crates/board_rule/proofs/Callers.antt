@@ -1,18 +1,17 @@
 -- What a call has after its step, whatever the call.
-use Rattle.std.proofs.Common.{◌≡◌, ℕ, ◌+◌, ◌<◌, Option, cond, eqb, false, ◌&&◌, ◌∷◌, Some, refl, sym, ap, ap₂, ◌∙◌, subst, eq-eqb, arith}
+use Rattle.std.proofs.Common.{◌≡◌, ℕ, ◌+◌, ◌<◌, Option, cond, false, ◌&&◌, Some, refl, sym, ap, ap₂, ◌∙◌, subst, eq-eqb, arith}
 use Rattle.std.proofs.Math.Logic.{∥∥₁_elim}
 use Rattle.std.proofs.Props.{props}
 use Rattle.slot_history.specs.declared.shape.Shape.{Shape}
 use Rattle.slot_history.specs.declared.shape.TheConstants.{MOST_SLOTS}
 use Rattle.slot_history.specs.declared.act.Act.{Act}
 use Rattle.slot_history.specs.declared.act.Act.TheVariants.{Announce}
-use Rattle.slot_history.specs.declared.act.Entry.{Entry}
 use Rattle.slot_history.specs.declared.place.Place.{Place}
 use Rattle.slot_history.specs.declared.place.Place.TheVariants.{Free, Asking, Announcing}
 use Rattle.slot_history.specs.Bounds.{IsShape}
 use Rattle.slot_history.specs.States.{held_at, slot_of}
 use Rattle.slot_history.specs.Steps.{moved}
-use Rattle.slot_history.specs.Histories.{entry, place_of}
+use Rattle.slot_history.specs.Histories.{place_of}
 use Rattle.slot_history.proofs.Own.{calls-go-on}
 use Rattle.slot_station.specs.declared.token.Announcer.{Announcer}
 use Rattle.slot_station.specs.Desks.{Makes, Owns, own_place}

@@ -1,18 +1,17 @@
 -- An exchange of a cell over a board: what its two loads owe, and what the pass is after them.
-use Rattle.std.proofs.Common.{◌≡◌, ◌≢◌, ℕ, ◌*◌, ◌<◌, Bool, true, List, ◌∷◌, cond, eqb, ◌&&◌, length, Option, Some, None, IfSome, refl, sym, ap, ap₂, ◌∙◌, subst, eq-eqb, ne_eqb, arith}
+use Rattle.std.proofs.Common.{◌≡◌, ℕ, ◌*◌, ◌<◌, Bool, true, List, ◌∷◌, cond, eqb, ◌&&◌, length, Option, Some, IfSome, refl, sym, ap, ap₂, ◌∙◌, subst, eq-eqb, ne_eqb, arith}
 use Rattle.std.specs.Prelude.{is_some, unwrap_or}
 use Rattle.std.proofs.Math.Bool.{and-false}
 use mathlib.Core.Option as std_option
 use Rattle.atomic_table.specs.Table as table
 use Rattle.atomic_table.specs.Table.{Me, Allows, step, rest}
-use Rattle.atomic_table.specs.Seated.{TableId}
 use Rattle.atomic_table.specs.declared.shared.Seat.{Seat}
 use Rattle.slot_history.specs.declared.shape.Shape.{Shape}
 use Rattle.slot_history.specs.declared.place.Place.{Place}
-use Rattle.slot_history.specs.States.{has_cell, slot_of}
+use Rattle.slot_history.specs.States.{has_cell}
 use Rattle.slot_history.specs.Histories.{IsLegal, place_of}
 use Rattle.slot_station.specs.declared.note.Note.{Note}
-use Rattle.slot_station.specs.Desks.{Desk, Seen, Exchanges, own_place}
+use Rattle.slot_station.specs.Desks.{Desk, Exchanges}
 use Rattle.slot_station.specs.Log.{note_in}
 use Rattle.board_rule.specs.declared.view.View.{View}
 use Rattle.board_rule.specs.declared.board.Board.{Board}

@@ -1,6 +1,6 @@
 -- The extension law: where the rule holds, a call that its worker's trail and notes allow keeps it, and the calling seat's
 -- trail is then the longest trail and this call.
-use Rattle.std.proofs.Common.{◌≡◌, ◌≢◌, ℕ, ◌+◌, ◌<◌, ◌⊎◌, Bool, true, cond, ltb, List, [], ◌∷◌, Option, Some, None, slice_index, refl, sym, ap, ap₂, ◌∙◌, subst, eq-eqb, ⊎_elim, arith}
+use Rattle.std.proofs.Common.{◌≡◌, ◌≢◌, ℕ, ◌+◌, ◌<◌, ◌⊎◌, Bool, true, cond, ltb, List, [], ◌∷◌, Option, Some, None, slice_index, refl, sym, ap, ◌∙◌, subst, eq-eqb, ⊎_elim, arith}
 use mathlib.Core.Option as std_option
 use mathlib.Core.Option.{some, some-ne-none}
 use mathlib.Core.Logic.{dite}
@@ -16,13 +16,12 @@ use Rattle.slot_history.specs.declared.place.Place.{Place}
 use Rattle.slot_history.specs.States.{ObjectState, has_own_cell, holds}
 use Rattle.slot_history.specs.Steps.{state_after}
 use Rattle.slot_history.specs.Histories.{IsLegal, Called, entry, own_calls, place_of}
-use Rattle.slot_history.specs.Calls.{Call, MayAt, call_of, reply_of}
+use Rattle.slot_history.specs.Calls.{Call, MayAt, call_of}
 use Rattle.slot_history.proofs.Beginnings.{begins-more, begins-self}
 use Rattle.slot_history.proofs.Own.{own-mine, own-other, place-other, found-place}
 use Rattle.slot_history.proofs.OneAnswer.{is-answered}
 use Rattle.slot_history.proofs.Subject.{subject-goes-on}
 use Rattle.slot_history.proofs.Table as places
-use Rattle.slot_station.specs.declared.note.Note.{Note}
 use Rattle.slot_station.specs.declared.note.Note.TheVariants as note
 use Rattle.slot_station.specs.Cells.{noted, caller_then, CellsAllow, NotesAllow}
 use Rattle.slot_station.specs.Log.{note_in, call}
@@ -34,7 +33,7 @@ use Rattle.slot_words.specs.Steps.{address_of, change_of, answer_of}
 use Rattle.slot_words.specs.Laws.{IsLawful}
 use Rattle.slot_words.proofs.Law.{law}
 use Rattle.board_rule.specs.declared.view.View.{View}
-use Rattle.board_rule.specs.Rule.{Terms, Knowledge, IsHeard, IsViewOf, IsKnown, CellIs, known_after, moment_of, total_over}
+use Rattle.board_rule.specs.Rule.{Terms, Knowledge, IsViewOf, IsKnown, CellIs, known_after, moment_of, total_over}
 use Rattle.board_rule.specs.Steps.{MayStep}
 use Rattle.board_rule.specs.Views.{times, number, place_in, note_of, grown}
 use Rattle.board_rule.proofs.Asked.{cells-same}

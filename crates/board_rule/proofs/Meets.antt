@@ -1,5 +1,5 @@
 -- How all seats are joined, and what the last one knows.
-use Rattle.std.proofs.Common.{◌≡◌, ℕ, zero, suc, ◌+◌, ◌<◌, List, [], ◌∷◌, ◌++◌, length, Option, Some, slice_index, slice_get, refl, sym, ap, ap₂, ◌∙◌, subst, inl, inr, ◌⊎◌, append_assoc, length-append, arith}
+use Rattle.std.proofs.Common.{◌≡◌, ℕ, zero, suc, ◌<◌, List, [], ◌∷◌, ◌++◌, length, Option, Some, slice_index, slice_get, refl, sym, ap, ap₂, ◌∙◌, subst, inl, inr, ◌⊎◌, append_assoc, length-append, arith}
 use mathlib.Core.Option.{some}
 use lib.ListN.{get_elem?}
 use Rattle.atomic_table.specs.Table.{Me, Joins, Final, Seen}
@@ -15,7 +15,7 @@ use Rattle.board_rule.specs.declared.board.Pass.{Pass}
 use Rattle.board_rule.specs.declared.view.View.{View}
 use Rattle.board_rule.specs.Ends.{HasJoined, IsGathered}
 use Rattle.board_rule.specs.Lives.{AreAll, AreDone, IsDone, IsJoined, Ended}
-use Rattle.board_rule.specs.Passes.{shape_of, subject_of}
+use Rattle.board_rule.specs.Passes.{shape_of}
 use Rattle.board_rule.specs.Rule.{Knowledge, IsViewOf, RunningRule, Terms, terms_of}
 use Rattle.board_rule.specs.Views.{times, number, joined, spent}
 use Rattle.board_rule.proofs.Lists.{headed, no-items, times-head, times-append}

@@ -29,7 +29,7 @@ use Rattle.slot_station.proofs.Lists.{pair-within}
 use Rattle.slot_words.specs.declared.address.Address.TheVariants.{Meeting}
 use Rattle.slot_words.proofs.Addresses.{stands-set}
 use Rattle.board_rule.specs.declared.view.View.{View}
-use Rattle.board_rule.specs.Cells.{HasAt, index_in, note_if, note_put, KeptIf, FreshIf, PutIf, SaysIf, Takes, Gives, taking, giving}
+use Rattle.board_rule.specs.Cells.{HasAt, index_in, note_if, note_put, PutIf, SaysIf, taking, giving}
 use Rattle.board_rule.specs.Rule.{Terms, Knowledge, IsViewOf, IsKnown, CellIs, RunningRule, cell_index}
 use Rattle.board_rule.specs.Views.{times, number, place_in, note_of, shown_by, shown_in, with_out, exchanged}
 use Rattle.board_rule.proofs.Cells.{IsSpot, spot, elsewhere, says, put}
@@ -59,7 +59,8 @@ has-busy d w u p (inl (mine, has)) e = true≢false (sym has ∙ ap has_cell e)
 has-busy d w u p (inr (none, (s, k, at, in_u))) e = let r = sym at ∙ e in absurd (cc)
 
 -- of a worker w, whose seat i has the view v
-module _ {B Sub : Type 0} (terms : Terms B Sub) (known : Knowledge) (st : table.State (Option B) (View Sub)) (ok : IsKnown terms known st) (i : ℕ) (v : View Sub)
+module _ {B Sub : Type 0} (terms : Terms B Sub) (known : Knowledge) (st : table.State (Option B) (View Sub)) (ok : IsKnown terms known st) (i : ℕ)
+    (v : View Sub)
     (at : get_elem? st.views i ≡ some v) (w : ℕ) (ws : List ℕ) (nums : v.numbers ≡ w ∷ ws) where
   abbrev d : Shape
   d = terms.shape
@@ -144,7 +145,8 @@ module _ {B Sub : Type 0} (terms : Terms B Sub) (known : Knowledge) (st : table.
       abbrev next : Knowledge
       next = record known { notes = N'; outs = outs' }
 
-      others-stay : (s c : ℕ) → c < d.workers → (s ≡ slot_of p → c ≢ u) → (x : std_option.Option (Option B)) → CellIs terms known s c x → CellIs terms next s c x
+      others-stay : (s c : ℕ) → c < d.workers → (s ≡ slot_of p → c ≢ u) → (x : std_option.Option (Option B)) → CellIs terms known s c x → CellIs terms
+          next s c x
       others-stay s c in_c ne std_option.none a =
           let o : IsOut s c = a in
           let other : o.0 ≢ w = λ e.
@@ -203,7 +205,12 @@ module _ {B Sub : Type 0} (terms : Terms B Sub) (known : Knowledge) (st : table.
 
     abbrev Taken : Option B → Knowledge → Type 0
     Taken y next = (get_elem? st.homes k ≡ some (some y)) × ((x : Sub) → v.subject ≡ Some x → SaysIf terms.fits (shown_in v x) u (note_of v u) y)
-        × IsKnown terms next (record { words = set st.words 0 (slice_index st.words 0); homes = set st.homes k std_option.none; views = set st.views i (with_out v u) })
+        × IsKnown terms next (record {
+          words = set st.words 0 (slice_index st.words 0);
+          homes = set st.homes k std_option.none;
+          views = set st.views i
+              (with_out v u);
+        })
 
     pub take : v.out ≡ None → length st.homes ≡ d.slots * d.workers → (y : Option B) × (next : Knowledge) × Taken y next
     take still len =

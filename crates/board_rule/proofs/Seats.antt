@@ -1,12 +1,11 @@
 -- Seats are split and joined.
-use Rattle.std.proofs.Common.{◌≡◌, ℕ, zero, suc, ◌+◌, ◌<◌, ◌≤◌, ◌⊎◌, Bool, true, false, cond, eqb, leb, List, [], ◌∷◌, ◌++◌, length, length-append, set, drop, Option, None, slice_index, refl, sym, ap, ◌∙◌, subst, inl, inr, ⊎_elim, le-leb, leb-true, arith}
+use Rattle.std.proofs.Common.{◌≡◌, ℕ, zero, suc, ◌+◌, ◌<◌, ◌≤◌, ◌⊎◌, Bool, true, false, cond, eqb, leb, List, [], ◌∷◌, ◌++◌, length, length-append, set, drop, None, slice_index, refl, sym, ap, ◌∙◌, subst, inl, inr, ⊎_elim, le-leb, leb-true, arith}
 use mathlib.Core.Option.{some, some-injective, some-ne-none}
 use mathlib.Core.Logic.{dite}
 use native.Mathlib.Decide.{ℕ_discrete, dec_le}
 use lib.ListN.{get_elem?}
 use Rattle.atomic_table.specs.Table.{Splits, Joins}
 use Rattle.atomic_table.proofs.Lists.{at_set, at_snoc}
-use Rattle.slot_history.specs.declared.shape.Shape.{Shape}
 use Rattle.slot_history.specs.declared.act.Entry.{Entry}
 use Rattle.slot_history.specs.declared.place.Place.TheVariants.{Free}
 use Rattle.slot_history.specs.Histories.{Begins, own_calls, place_of}
@@ -21,7 +20,8 @@ use Rattle.board_rule.proofs.Lists.{total-set, total-append, times-head, times-a
 
 -- ---- a seat is split
 
-module _ {B Sub : Type 0} (terms : Terms B Sub) (known : Knowledge) (v : View Sub) (w : ℕ) (ws : List ℕ) (nums : v.numbers ≡ w ∷ ws) (old : IsViewOf terms known v) where
+module _ {B Sub : Type 0} (terms : Terms B Sub) (known : Knowledge) (v : View Sub) (w : ℕ) (ws : List ℕ) (nums : v.numbers ≡ w ∷ ws)
+    (old : IsViewOf terms known v) where
   view-kept : IsViewOf terms known (kept_part v)
   view-kept =
       let e : first_of v.numbers ≡ w ∷ [] = ap first_of nums in record {

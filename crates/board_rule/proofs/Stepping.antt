@@ -1,5 +1,5 @@
 -- What a step that is a call owes, and what its seat is after it, of a board.
-use Rattle.std.proofs.Common.{◌≡◌, ℕ, ◌<◌, false, cond, length, List, ◌∷◌, Option, Some, None, slice_index, refl, sym, ap, ap₂, ◌∙◌, subst, eq-eqb}
+use Rattle.std.proofs.Common.{◌≡◌, ℕ, ◌<◌, false, cond, length, List, ◌∷◌, Option, Some, None, refl, sym, ap, ap₂, ◌∙◌, subst, eq-eqb}
 use Rattle.std.specs.Prelude.{is_some}
 use Rattle.std.proofs.Math.Logic.{∥∥₁_elim}
 use Rattle.std.proofs.Props.{props}
@@ -16,7 +16,7 @@ use Rattle.slot_history.specs.Histories.{IsLegal, IsOfTotals, Called, place_of}
 use Rattle.slot_history.specs.Calls.{Call, MayAt}
 use Rattle.slot_history.proofs.Own.{calls-go-on}
 use Rattle.slot_station.specs.Cells.{noted, CellsAllow}
-use Rattle.slot_station.specs.Desks.{Makes, own_place}
+use Rattle.slot_station.specs.Desks.{Makes}
 use Rattle.slot_station.specs.Log.{note_in}
 use Rattle.slot_words.specs.declared.address.Address.{Address}
 use Rattle.slot_words.specs.Addresses.{index, count_of_words}
@@ -28,10 +28,10 @@ use Rattle.slot_words.proofs.Numbers as numbers
 use Rattle.board_rule.specs.declared.board.Board.{Board}
 use Rattle.board_rule.specs.declared.board.Pass.{Pass}
 use Rattle.board_rule.specs.declared.view.View.{View}
-use Rattle.board_rule.specs.Passes.{shape_of, subject_of, seen_at, seen_of, IsSeatOf, IsPassOf, HasStepped}
+use Rattle.board_rule.specs.Passes.{shape_of, subject_of, seen_at, IsSeatOf, IsPassOf, HasStepped}
 use Rattle.board_rule.specs.Rule.{Terms, RunningRule, terms_of}
-use Rattle.board_rule.specs.Steps.{MayMake, MayStep, HasCalled, IsCall}
-use Rattle.board_rule.specs.Views.{number, place_in, note_of, shown_in, grown}
+use Rattle.board_rule.specs.Steps.{MayMake, MayStep, IsCall}
+use Rattle.board_rule.specs.Views.{number, place_in, shown_in, grown}
 use Rattle.board_rule.proofs.Allowed.{call-allowed}
 use Rattle.board_rule.proofs.Lists.{no-items, headed}
 
@@ -111,7 +111,8 @@ module _ {B Sub : Type 0} (board : Board B Sub) (w : ℕ) (p : Place) (seat : Se
 
   -- ---- the seat after it, which knows and holds `new`
 
-  module _ (total : Sub → ℕ → Option ℕ) (c : Call) (n : ℕ) (s : table.Step (Option B)) (new : Me (Option B) (View Sub)) (told : IsCall total c s seat.me n new) where
+  module _ (total : Sub → ℕ → Option ℕ) (c : Call) (n : ℕ) (s : table.Step (Option B)) (new : Me (Option B) (View Sub))
+      (told : IsCall total c s seat.me n new) where
     abbrev a : Act
     a = answer_of c p n
 
@@ -163,7 +164,8 @@ module _ {B Sub : Type 0} (board : Board B Sub) (w : ℕ) (p : Place) (seat : Se
 -- ---- a pass after its step, whose place is still to be moved
 
 module _ {B Sub : Type 0} (board : Board B Sub) (old new : Pass B Sub) where
-  pub stepped : (total : Sub → ℕ → Option ℕ) (ours : IsPassOf board old) (c : Call) (n : ℕ) (s : table.Step (Option B)) (told : IsCall total c s old.seat.me n new.seat.me)
+  pub stepped : (total : Sub → ℕ → Option ℕ) (ours : IsPassOf board old) (c : Call) (n : ℕ) (s : table.Step (Option B))
+      (told : IsCall total c s old.seat.me n new.seat.me)
       → new.seat.table_id ≡ old.seat.table_id → new.worker ≡ old.worker → new.place ≡ old.place → HasStepped board (answer_of c old.place n) old new
   stepped total ours c n s told id worker place = record {
     worker = worker;

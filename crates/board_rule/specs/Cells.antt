@@ -1,5 +1,5 @@
 -- A cell is taken out of the table and given back.
-use Rattle.std.specs.Prelude.{◌≡◌, ◌⊎◌, ℕ, ◌<◌, Bool, true, false, List, [], ◌∷◌, Option, Some, None, unwrap_or}
+use Rattle.std.specs.Prelude.{◌≡◌, ◌⊎◌, ℕ, ◌<◌, Bool, true, false, List, [], ◌∷◌, Option, Some, unwrap_or}
 use Rattle.atomic_table.specs.Table.{Step, Me, rest}
 use Rattle.slot_history.specs.declared.shape.Shape.{Shape}
 use Rattle.slot_history.specs.declared.place.Held.{Held}
@@ -34,7 +34,8 @@ note_put inside [] = Loose
 note_put inside (x ∷ xs) = note_if inside x.1
 
 -- of the station x, whose worker is inside, or else holds, and the cell of u
-module _ {B O Sub : Type 0} (fits : Sub → ℕ → ℕ → List (ℕ × ℕ) → B → Type 0) (x : Seen O Sub) (u : ℕ) where
+module _ {B O Sub : Type 0} (fits : Sub → ℕ → ℕ → List (ℕ × ℕ) → B → Type 0)
+    (x : Seen O Sub) (u : ℕ) where
   -- what a kept value fits
   abbrev pub KeptIf : Bool → B → Type 0
   KeptIf true = OwnFits fits x

@@ -15,7 +15,8 @@ use Rattle.board_rule.specs.Rule.{Knowledge, IsKnown, Terms, known_after, terms_
 use Rattle.board_rule.specs.Steps.{MayStep}
 use Rattle.board_rule.specs.Views.{number, place_in, grown}
 
-module _ {B Sub : Type 0} (terms : Terms B Sub) (known : Knowledge) (table : State (Option B) (View Sub)) where
+module _ {B Sub : Type 0} (terms : Terms B Sub) (known : Knowledge)
+    (table : State (Option B) (View Sub)) where
   -- After a step of the seat i, with the view v, that is the call c: the trail of the seat is the
   -- longest trail and this call, and what is known then is so of the table.
   abbrev pub GoesOn : ℕ → View Sub → Call → Type 0

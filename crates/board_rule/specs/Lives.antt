@@ -1,16 +1,13 @@
 -- How a board begins and ends.
-use Rattle.std.specs.Prelude.{◌≡◌, ℕ, ◌<◌, List, [], length, Option, Some, slice_get}
+use Rattle.std.specs.Prelude.{◌≡◌, ℕ, ◌<◌, List, [], Option, Some, slice_get}
 use Rattle.atomic_table.specs.declared.shared.Seat.{Seat}
-use Rattle.slot_history.specs.declared.shape.Shape.{Shape}
 use Rattle.slot_history.specs.declared.act.Entry.{Entry}
 use Rattle.slot_history.specs.declared.place.Place.TheVariants.{Free}
-use Rattle.slot_history.specs.Steps.{state_after}
-use Rattle.slot_history.specs.Histories.{IsLegal, IsOfTotals, Begins, own_calls}
+use Rattle.slot_history.specs.Histories.{Begins, own_calls}
 use Rattle.slot_words.specs.Laws.{AreWordsOf}
 use Rattle.board_rule.specs.declared.board.Board.{Board}
 use Rattle.board_rule.specs.declared.board.Pass.{Pass}
 use Rattle.board_rule.specs.declared.view.View.{View}
-use Rattle.board_rule.specs.declared.view.Heard.{Heard}
 use Rattle.board_rule.specs.Passes.{IsPassOf, shape_of, subject_of}
 use Rattle.board_rule.specs.Views.{fresh_view}
 

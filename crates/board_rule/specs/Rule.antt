@@ -104,7 +104,8 @@ module _ {B Sub : Type 0} (terms : Terms B Sub) (known : Knowledge) where
         ≡ cond (ltb w terms.shape.workers) 1 0
     pub views : (i : ℕ) (v : View Sub) → get_elem? table.views i ≡ some v → IsViewOf v
     pub cells : (s u : ℕ) → s < terms.shape.slots → u < terms.shape.workers
-        → (x : std_option.Option (Option B)) → get_elem? table.homes (cell_index terms.shape s u) ≡ some x
+        → (x : std_option.Option (Option B))
+        → get_elem? table.homes (cell_index terms.shape s u) ≡ some x
         → CellIs s u x
     pub idle : (w : ℕ) → own_calls w known.trail ≡ []
         → (known.outs w ≡ None) × ((u : ℕ) → known.notes w u ≡ Loose)

@@ -1,5 +1,5 @@
 -- What a seat's view gives, and what steps make of it.
-use Rattle.std.specs.Prelude.{ℕ, ◌+◌, cond, eqb, leb, zero, suc, length, drop, List, [], ◌∷◌, ◌++◌, Option, Some, None, slice_index}
+use Rattle.std.specs.Prelude.{ℕ, ◌+◌, cond, eqb, leb, zero, suc, length, drop, List, [], ◌∷◌, ◌++◌, Some, None, slice_index}
 use Rattle.slot_history.specs.declared.shape.Shape.{Shape}
 use Rattle.slot_history.specs.declared.act.Act.{Act}
 use Rattle.slot_history.specs.declared.act.Entry.{Entry}
@@ -88,7 +88,8 @@ module _ {Sub : Type 0} where
   kept_part v = record v { numbers = first_of v.numbers; heard = [] }
 
   abbrev pub dealt_part : View Sub → View Sub
-  dealt_part v = record v { numbers = drop 1 v.numbers; trail = []; own = []; out = None; heard = [] }
+  dealt_part v =
+      record v { numbers = drop 1 v.numbers; trail = []; own = []; out = None; heard = [] }
 
   -- what a seat comes with when it is joined
   abbrev pub heard_of : View Sub → Heard

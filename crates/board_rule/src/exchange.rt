@@ -51,7 +51,8 @@ pub fn exchange_cell<B: Fits>(
     requires fits { let x = seen_of board.now pass.old in
         IfSome new (PutIf B.fits x cell (has_cell pass.old.place)) }
     ensures pass { IsPassOf board.now pass.new }
-    ensures says { let x = seen_of board.now pass.old in SaysIf B.fits x cell (x.notes cell) result }
+    ensures says { let x = seen_of board.now pass.old in
+        SaysIf B.fits x cell (x.notes cell) result }
     ensures put { Exchanges cell (note_if (has_cell pass.old.place) new)
         (seen_of board.now pass.old) (seen_of board.now pass.new) }
 {

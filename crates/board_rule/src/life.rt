@@ -2,7 +2,7 @@
 ghost use Rattle.std.specs.Prelude.{◌≡◌, Err, IfOk, IsOkUnless, MatchOption, length, vec_len};
 ghost use Rattle.std.specs.Slots.{slots_items, slots_len, IsFull};
 ghost use Rattle.slot_history.specs.Bounds.{IsShape};
-ghost use Rattle.slot_station.specs.Shapes.{refusal_of};
+ghost use Rattle.slot_station.specs.Shapes.{refusal_of, shape_with};
 ghost use Rattle.slot_station.specs.declared.reply.MakeRefusal.TheVariants.{OutOfMemory};
 ghost use Rattle.board_rule.specs.Ends.{IsGathered};
 ghost use Rattle.board_rule.specs.Lives.{AreAll, AreDone, AreFresh, IsJoined, IsUndealt};
@@ -39,7 +39,7 @@ impl<B: Fits> Board<B> {
         ensures refused { MatchOption (refusal_of slots workers queries)
             (IsOkUnless result OutOfMemory) (λ e. result ≡ Err e) }
         ensures shape { IfOk result (λ made.
-            passes.shape_of made.0 ≡ record { workers = workers; slots = slots; queries = queries }) }
+            passes.shape_of made.0 ≡ shape_with slots workers queries) }
         ensures subject { IfOk result (λ made. passes.subject_of made.0 ≡ subject.value) }
         ensures passes { IfOk result (λ made. (vec_len made.1 ≡ workers)
             × AreFresh made.0 made.1.items) }

@@ -39,7 +39,8 @@ IsTable-made names count made heading few widths = record {
   few = omega (arith, length-each_below count made);
 }
 
-pub table_t-loads : (state count : ℕ) → IsHeading (table_t state count).names → count ≤ MAX_ROWS → LoadsTable (table_text (table_t state count)) (table_t state count)
+pub table_t-loads : (state count : ℕ) → IsHeading (table_t state count).names → count ≤ MAX_ROWS → LoadsTable (table_text (table_t state count))
+    (table_t state count)
 table_t-loads state count heading few =
     let Fits : ℤ → Type 0 = FitsSigned w64 in
     let names = (table_t state count).names in
@@ -59,7 +60,8 @@ table_t-loads state count heading few =
 fits-row : (row count : ℕ) → row < count → count ≤ MAX_ROWS → FitsSigned w64 (pos row)
 fits-row row count before few = omega (arith, ints)
 
-pub table_u-loads : (state count : ℕ) → IsHeading (table_u state count).names → count ≤ MAX_ROWS → LoadsTable (table_text (table_u state count)) (table_u state count)
+pub table_u-loads : (state count : ℕ) → IsHeading (table_u state count).names → count ≤ MAX_ROWS → LoadsTable (table_text (table_u state count))
+    (table_u state count)
 table_u-loads state count heading few =
     let Fits : ℤ → Type 0 = FitsSigned w64 in
     let names = (table_u state count).names in

@@ -33,16 +33,20 @@ compare_exchange-found-requires-clause-change g c n =
     ap₂ (λ x y. exchanged x y n) there (c.marked-asks.ensures.word ∙ ap₂ marked there c.id_at.ensures)
 
 pub place_after-pass-requires : goal.place_after-pass-requires
-place_after-pass-requires g c = counted c.args.board.now c.args.pass.now c.compare_exchange-found.new.pass c.requires.pass c.compare_exchange-found.ensures.stepped
+place_after-pass-requires g c = counted c.args.board.now c.args.pass.now c.compare_exchange-found.new.pass c.requires.pass
+    c.compare_exchange-found.ensures.stepped
 
 pub returns-clause-pass : goal.returns-clause-pass
 returns-clause-pass g c = placed c.args.board.now c.args.pass.now c.compare_exchange-found.new.pass c.requires.pass c.compare_exchange-found.ensures.stepped
-    (c.act.ensures ∙ c.mark_read-mark.ensures ∙ ap (λ s. mark_answer s c.compare_exchange-found.result) c.slot_at-slot.ensures) c.place_after-pass.result c.place_after-pass.ensures
+    (c.act.ensures ∙ c.mark_read-mark.ensures ∙ ap (λ s. mark_answer s c.compare_exchange-found.result) c.slot_at-slot.ensures) c.place_after-pass.result
+    c.place_after-pass.ensures
 
 pub returns-clause-made : goal.returns-clause-made
 returns-clause-made g c =
     let b = c.args.board.now in
-    subst (λ a. Makes g.B.Fits.total a (seen_of b c.args.pass.now) (seen_of b c.compare_exchange-found.new.pass)) (ap (λ s. mark_answer s c.compare_exchange-found.result) (sym c.slot_at-slot.ensures) ∙ sym c.mark_read-mark.ensures) c.compare_exchange-found.ensures.made
+    subst (λ a. Makes g.B.Fits.total a (seen_of b c.args.pass.now) (seen_of b c.compare_exchange-found.new.pass))
+    (ap (λ s. mark_answer s c.compare_exchange-found.result) (sym c.slot_at-slot.ensures) ∙ sym c.mark_read-mark.ensures)
+    c.compare_exchange-found.ensures.made
 
 pub count-requires : goal.count-requires
 count-requires g c =

@@ -13,7 +13,8 @@ pub fetch_decrement-found-requires-clause-on : goal.fetch_decrement-found-requir
 fetch_decrement-found-requires-clause-on g c = ap CounterOf c.slot_at.ensures
 
 pub place_after-pass-requires : goal.place_after-pass-requires
-place_after-pass-requires g c = counted c.args.board.now c.args.pass.now c.fetch_decrement-found.new.pass c.requires.pass c.fetch_decrement-found.ensures.stepped
+place_after-pass-requires g c = counted c.args.board.now c.args.pass.now c.fetch_decrement-found.new.pass c.requires.pass
+    c.fetch_decrement-found.ensures.stepped
 
 pub returns-clause-pass : goal.returns-clause-pass
 returns-clause-pass g c = placed c.args.board.now c.args.pass.now c.fetch_decrement-found.new.pass c.requires.pass c.fetch_decrement-found.ensures.stepped
@@ -22,7 +23,8 @@ returns-clause-pass g c = placed c.args.board.now c.args.pass.now c.fetch_decrem
 pub returns-clause-made : goal.returns-clause-made
 returns-clause-made g c =
     let b = c.args.board.now in
-    subst (λ a. Makes g.B.Fits.total a (seen_of b c.args.pass.now) (seen_of b c.fetch_decrement-found.new.pass)) (sym c.pay_read-pay.ensures.act) c.fetch_decrement-found.ensures.made
+    subst (λ a. Makes g.B.Fits.total a (seen_of b c.args.pass.now) (seen_of b c.fetch_decrement-found.new.pass)) (sym c.pay_read-pay.ensures.act)
+    c.fetch_decrement-found.ensures.made
 
 pub returns-clause-holder : goal.returns-clause-holder
 returns-clause-holder g c = brings c.args.board.now c.args.pass.now c.fetch_decrement-found.new.pass c.requires.pass c.fetch_decrement-found.ensures.stepped

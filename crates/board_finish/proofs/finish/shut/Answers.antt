@@ -24,7 +24,8 @@ returns-clause-pass g c = placed c.args.board.now c.args.pass.now c.fetch_or-fou
 pub returns-clause-made : goal.returns-clause-made
 returns-clause-made g c =
     let b = c.args.board.now in
-    subst (λ a. Makes g.B.Fits.total a (seen_of b c.args.pass.now) (seen_of b c.fetch_or-found.new.pass)) (sym c.shut_read-shut.ensures.act) c.fetch_or-found.ensures.made
+    subst (λ a. Makes g.B.Fits.total a (seen_of b c.args.pass.now) (seen_of b c.fetch_or-found.new.pass)) (sym c.shut_read-shut.ensures.act)
+    c.fetch_or-found.ensures.made
 
 pub returns-clause-first : goal.returns-clause-first
 returns-clause-first g c =

@@ -27,12 +27,14 @@ place_after-pass-requires g c = counted c.args.board.now c.args.pass.now c.fetch
 
 pub returns-clause-pass : goal.returns-clause-pass
 returns-clause-pass g c = placed c.args.board.now c.args.pass.now c.fetch_add-found.new.pass c.requires.pass c.fetch_add-found.ensures.stepped
-    (c.act.ensures ∙ c.sweep_read-sweep.ensures.act ∙ ap (λ m. sweep_answer m c.fetch_add-found.result) c.marked_at-marks.ensures) c.place_after-pass.result c.place_after-pass.ensures
+    (c.act.ensures ∙ c.sweep_read-sweep.ensures.act ∙ ap (λ m. sweep_answer m c.fetch_add-found.result) c.marked_at-marks.ensures)
+    c.place_after-pass.result c.place_after-pass.ensures
 
 pub returns-clause-made : goal.returns-clause-made
 returns-clause-made g c =
     let b = c.args.board.now in
-    subst (λ a. Makes g.B.Fits.total a (seen_of b c.args.pass.now) (seen_of b c.fetch_add-found.new.pass)) (ap (λ m. sweep_answer m c.fetch_add-found.result) (sym c.marked_at-marks.ensures) ∙ sym c.sweep_read-sweep.ensures.act) c.fetch_add-found.ensures.made
+    subst (λ a. Makes g.B.Fits.total a (seen_of b c.args.pass.now) (seen_of b c.fetch_add-found.new.pass))
+    (ap (λ m. sweep_answer m c.fetch_add-found.result) (sym c.marked_at-marks.ensures) ∙ sym c.sweep_read-sweep.ensures.act) c.fetch_add-found.ensures.made
 
 pub returns-clause-holder : goal.returns-clause-holder
 returns-clause-holder g c = brings c.args.board.now c.args.pass.now c.fetch_add-found.new.pass c.requires.pass c.fetch_add-found.ensures.stepped

@@ -19,16 +19,19 @@ pub admit_read-admit-requires : goal.admit_read-admit-requires
 admit_read-admit-requires g c = subst (λ q. IsSmall (admit_answer q c.compare_exchange-found.result)) c.from-due.ensures c.compare_exchange-found.ensures.small
 
 pub place_after-pass-requires : goal.place_after-pass-requires
-place_after-pass-requires g c = counted c.args.board.now c.args.pass.now c.compare_exchange-found.new.pass c.requires.pass c.compare_exchange-found.ensures.stepped
+place_after-pass-requires g c = counted c.args.board.now c.args.pass.now c.compare_exchange-found.new.pass c.requires.pass
+    c.compare_exchange-found.ensures.stepped
 
 pub returns-clause-pass : goal.returns-clause-pass
 returns-clause-pass g c = placed c.args.board.now c.args.pass.now c.compare_exchange-found.new.pass c.requires.pass c.compare_exchange-found.ensures.stepped
-    (c.act.ensures ∙ c.admit_read-admit.ensures ∙ ap (λ q. admit_answer q c.compare_exchange-found.result) (sym c.from-due.ensures)) c.place_after-pass.result c.place_after-pass.ensures
+    (c.act.ensures ∙ c.admit_read-admit.ensures ∙ ap (λ q. admit_answer q c.compare_exchange-found.result) (sym c.from-due.ensures))
+    c.place_after-pass.result c.place_after-pass.ensures
 
 pub returns-clause-made : goal.returns-clause-made
 returns-clause-made g c =
     let b = c.args.board.now in
-    subst (λ a. Makes g.B.Fits.total a (seen_of b c.args.pass.now) (seen_of b c.compare_exchange-found.new.pass)) (ap (λ q. admit_answer q c.compare_exchange-found.result) c.from-due.ensures ∙ sym c.admit_read-admit.ensures) c.compare_exchange-found.ensures.made
+    subst (λ a. Makes g.B.Fits.total a (seen_of b c.args.pass.now) (seen_of b c.compare_exchange-found.new.pass))
+    (ap (λ q. admit_answer q c.compare_exchange-found.result) c.from-due.ensures ∙ sym c.admit_read-admit.ensures) c.compare_exchange-found.ensures.made
 
 pub returns-clause-holder : goal.returns-clause-holder
 returns-clause-holder g c =

@@ -14,7 +14,15 @@ pub fetch_add-requires-clause-call : goal.fetch_add-requires-clause-call
 fetch_add-requires-clause-call g c =
     let at = c.requires.holder.place in
     subst (λ k. MayMake g.B.Fits.total (seen_of c.args.board.now c.args.pass.now) (NotingDone k)) (sym c.from.ensures) (record {
-      place = (c.args._holder.now.slot, _, at, c.requires.query, subst (λ p. (held_at p).noted ≡ 0) at c.requires.once, c.requires.number.0, c.requires.number.1);
+      place = (
+        c.args._holder.now.slot,
+        _,
+        at,
+        c.requires.query,
+        subst (λ p. (held_at p).noted ≡ 0) at c.requires.once,
+        c.requires.number.0,
+        c.requires.number.1,
+      );
       cells = tt;
     })
 

@@ -10,7 +10,8 @@ pub compare_exchange-found-requires-clause-call : goal.compare_exchange-found-re
 compare_exchange-found-requires-clause-call g c = record { place = (c.requires.place, c.requires.slot); cells = tt }
 
 pub place_after-pass-requires : goal.place_after-pass-requires
-place_after-pass-requires g c = counted c.args.board.now c.args.pass.now c.compare_exchange-found.new.pass c.requires.pass c.compare_exchange-found.ensures.stepped
+place_after-pass-requires g c = counted c.args.board.now c.args.pass.now c.compare_exchange-found.new.pass c.requires.pass
+    c.compare_exchange-found.ensures.stepped
 
 pub returns-clause-pass : goal.returns-clause-pass
 returns-clause-pass g c = placed c.args.board.now c.args.pass.now c.compare_exchange-found.new.pass c.requires.pass c.compare_exchange-found.ensures.stepped
@@ -19,7 +20,8 @@ returns-clause-pass g c = placed c.args.board.now c.args.pass.now c.compare_exch
 pub returns-clause-made : goal.returns-clause-made
 returns-clause-made g c =
     let b = c.args.board.now in
-    subst (λ a. Makes g.B.Fits.total a (seen_of b c.args.pass.now) (seen_of b c.compare_exchange-found.new.pass)) (sym c.reserve_read-reserve.ensures.act) c.compare_exchange-found.ensures.made
+    subst (λ a. Makes g.B.Fits.total a (seen_of b c.args.pass.now) (seen_of b c.compare_exchange-found.new.pass)) (sym c.reserve_read-reserve.ensures.act)
+    c.compare_exchange-found.ensures.made
 
 pub returns-clause-holder : goal.returns-clause-holder
 returns-clause-holder g c =

@@ -1,4 +1,4 @@
-use Rattle.std.proofs.Common.{◌≡◌, ◌<◌, length, arith}
+use Rattle.std.proofs.Common.{◌≡◌, length, arith}
 use Rattle.std.specs.Slots.{slots_items, slots_counts}
 use Rattle.board_rule.proofs.Copies.{copied-more, same-lists}
 use Rattle.board_rule.proofs.life.final_words.Goals as goal

@@ -10,7 +10,8 @@ compare_exchange-requires g c =
     let b = c.args.board.now in
     let p = c.args.pass.now in
     owes b p.worker p.place p.seat c.requires.pass g.B.Fits.total g.B.Fits.fits g.K.Asked.call c.requires.call c.args.address c.requires.on c.index-word.result
-    c.index-word.ensures (exchanged c.args.old c.args.new) c.requires.change (λ n. n) (λ n. refl) (step b.table.shared.table_id.slots c.index-word.result c.args.old c.args.new none)
+    c.index-word.ensures (exchanged c.args.old c.args.new) c.requires.change (λ n. n) (λ n. refl)
+    (step b.table.shared.table_id.slots c.index-word.result c.args.old c.args.new none)
 
 pub returns-clause-small : goal.returns-clause-small
 returns-clause-small g c =
@@ -22,7 +23,8 @@ returns-clause-small g c =
 pub returns-clause-stepped : goal.returns-clause-stepped
 returns-clause-stepped g c =
     let b = c.args.board.now in
-    stepped b c.args.pass.now _ g.B.Fits.total c.requires.pass g.K.Asked.call c.compare_exchange.result (step b.table.shared.table_id.slots c.index-word.result c.args.old c.args.new none)
+    stepped b c.args.pass.now _ g.B.Fits.total c.requires.pass g.K.Asked.call c.compare_exchange.result
+    (step b.table.shared.table_id.slots c.index-word.result c.args.old c.args.new none)
     c.compare_exchange.ensures.2 c.compare_exchange.ensures.0 refl refl
 
 pub returns-clause-made : goal.returns-clause-made
@@ -30,4 +32,5 @@ returns-clause-made g c =
     let b = c.args.board.now in
     let p = c.args.pass.now in
     made b p.worker p.place p.seat c.requires.pass g.B.Fits.total g.K.Asked.call c.compare_exchange.result
-    (step b.table.shared.table_id.slots c.index-word.result c.args.old c.args.new none) c.compare_exchange.new.seat.me c.compare_exchange.ensures.2 c.compare_exchange.new.seat refl
+    (step b.table.shared.table_id.slots c.index-word.result c.args.old c.args.new none) c.compare_exchange.new.seat.me c.compare_exchange.ensures.2
+    c.compare_exchange.new.seat refl

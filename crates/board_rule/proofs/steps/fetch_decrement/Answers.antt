@@ -22,7 +22,8 @@ returns-clause-small g c =
 pub returns-clause-stepped : goal.returns-clause-stepped
 returns-clause-stepped g c =
     let b = c.args.board.now in
-    stepped b c.args.pass.now _ g.B.Fits.total c.requires.pass g.K.Asked.call c.fetch_sub.result (step b.table.shared.table_id.slots c.index-word.result 1 0 none)
+    stepped b c.args.pass.now _ g.B.Fits.total c.requires.pass g.K.Asked.call c.fetch_sub.result
+    (step b.table.shared.table_id.slots c.index-word.result 1 0 none)
     c.fetch_sub.ensures.2 c.fetch_sub.ensures.0 refl refl
 
 pub returns-clause-made : goal.returns-clause-made

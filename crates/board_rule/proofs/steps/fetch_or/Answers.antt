@@ -9,7 +9,8 @@ fetch_or-requires g c =
     let b = c.args.board.now in
     let p = c.args.pass.now in
     owes b p.worker p.place p.seat c.requires.pass g.B.Fits.total g.B.Fits.fits g.K.Asked.call c.requires.call c.args.address c.requires.on c.index-word.result
-    c.index-word.ensures (λ n. bit_or n c.args.bits) c.requires.change (λ n. n) (λ n. refl) (step b.table.shared.table_id.slots c.index-word.result c.args.bits 0 none)
+    c.index-word.ensures (λ n. bit_or n c.args.bits) c.requires.change (λ n. n) (λ n. refl)
+    (step b.table.shared.table_id.slots c.index-word.result c.args.bits 0 none)
 
 pub returns-clause-small : goal.returns-clause-small
 returns-clause-small g c =
@@ -21,7 +22,8 @@ returns-clause-small g c =
 pub returns-clause-stepped : goal.returns-clause-stepped
 returns-clause-stepped g c =
     let b = c.args.board.now in
-    stepped b c.args.pass.now _ g.B.Fits.total c.requires.pass g.K.Asked.call c.fetch_or.result (step b.table.shared.table_id.slots c.index-word.result c.args.bits 0 none)
+    stepped b c.args.pass.now _ g.B.Fits.total c.requires.pass g.K.Asked.call c.fetch_or.result
+    (step b.table.shared.table_id.slots c.index-word.result c.args.bits 0 none)
     c.fetch_or.ensures.2 c.fetch_or.ensures.0 refl refl
 
 pub returns-clause-made : goal.returns-clause-made

@@ -9,12 +9,14 @@ store-requires g c =
     let b = c.args.board.now in
     let p = c.args.pass.now in
     owes b p.worker p.place p.seat c.requires.pass g.B.Fits.total g.B.Fits.fits g.K.Asked.call c.requires.call c.args.address c.requires.on c.index-word.result
-    c.index-word.ensures (λ n. c.args.new) c.requires.change (λ n. c.args.new) (c.requires.reads_nothing c.args.new) (step b.table.shared.table_id.slots c.index-word.result c.args.new 0 none)
+    c.index-word.ensures (λ n. c.args.new) c.requires.change (λ n. c.args.new) (c.requires.reads_nothing c.args.new)
+    (step b.table.shared.table_id.slots c.index-word.result c.args.new 0 none)
 
 pub returns-clause-stepped : goal.returns-clause-stepped
 returns-clause-stepped g c =
     let b = c.args.board.now in
-    stepped b c.args.pass.now _ g.B.Fits.total c.requires.pass g.K.Asked.call c.args.new (step b.table.shared.table_id.slots c.index-word.result c.args.new 0 none)
+    stepped b c.args.pass.now _ g.B.Fits.total c.requires.pass g.K.Asked.call c.args.new
+    (step b.table.shared.table_id.slots c.index-word.result c.args.new 0 none)
     c.store.ensures.2 c.store.ensures.0 refl refl
 
 pub returns-clause-made : goal.returns-clause-made

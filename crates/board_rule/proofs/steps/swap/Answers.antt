@@ -21,7 +21,8 @@ returns-clause-small g c =
 pub returns-clause-stepped : goal.returns-clause-stepped
 returns-clause-stepped g c =
     let b = c.args.board.now in
-    stepped b c.args.pass.now _ g.B.Fits.total c.requires.pass g.K.Asked.call c.swap.result (step b.table.shared.table_id.slots c.index-word.result c.args.new 0 none)
+    stepped b c.args.pass.now _ g.B.Fits.total c.requires.pass g.K.Asked.call c.swap.result
+    (step b.table.shared.table_id.slots c.index-word.result c.args.new 0 none)
     c.swap.ensures.2 c.swap.ensures.0 refl refl
 
 pub returns-clause-made : goal.returns-clause-made

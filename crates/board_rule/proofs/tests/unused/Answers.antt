@@ -1,4 +1,4 @@
-use Rattle.std.proofs.Common.{◌≡◌, length, sym, ap, ◌∙◌, arith}
+use Rattle.std.proofs.Common.{◌≡◌, length, ap, arith}
 use Rattle.board_rule.specs.Passes.{shape_of}
 use Rattle.board_rule.proofs.Deals.{fresh-all, fresh-done}
 use Rattle.board_rule.proofs.tests.unused.Goals as goal

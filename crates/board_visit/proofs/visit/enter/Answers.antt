@@ -11,7 +11,8 @@ use Rattle.board_visit.proofs.visit.enter.Goals as goal
 pub store-requires-clause-call : goal.store-requires-clause-call
 store-requires-clause-call g c =
     let b = c.args.board.now in
-    subst (λ s. MayMake g.B.Fits.total (seen_of b c.args.pass.now) (Entering s)) (sym (slot-read b c.args.s c.at_word.result c.requires.slot c.at_word.ensures.slot))
+    subst (λ s. MayMake g.B.Fits.total (seen_of b c.args.pass.now) (Entering s))
+    (sym (slot-read b c.args.s c.at_word.result c.requires.slot c.at_word.ensures.slot))
     (record { place = (c.requires.place, c.requires.slot); cells = tt })
 
 pub store-requires-clause-change : goal.store-requires-clause-change

@@ -19,7 +19,8 @@ returns-clause-pass g c = placed c.args.board.now c.args.pass.now c.swap-found.n
 pub returns-clause-made : goal.returns-clause-made
 returns-clause-made g c =
     let b = c.args.board.now in
-    subst (λ a. Makes g.B.Fits.total a (seen_of b c.args.pass.now) (seen_of b c.swap-found.new.pass)) (sym c.leave_read-leave.ensures.act) c.swap-found.ensures.made
+    subst (λ a. Makes g.B.Fits.total a (seen_of b c.args.pass.now) (seen_of b c.swap-found.new.pass)) (sym c.leave_read-leave.ensures.act)
+    c.swap-found.ensures.made
 
 pub returns-clause-task_set : goal.returns-clause-task_set
 returns-clause-task_set g c = owes-task_set c.leave_read-leave.result (returns-clause-made g c)

@@ -91,7 +91,8 @@ is_made c =
     (ap values_of c.in_ok-columns.ensures.items
     ∙ ap (λ keys. keys ∷ c.loop.groups.items ∷ c.loop.values.items ∷ []) (c.loop.invariant.keys ∙ ap (λ n. each_below n (key state)) all)
     ∙ ap (λ groups. each_below rows (key state) ∷ groups ∷ c.loop.values.items ∷ []) (c.loop.invariant.groups ∙ ap (λ n. each_below n (group state)) all)
-    ∙ ap (λ values. each_below rows (key state) ∷ each_below rows (group state) ∷ values ∷ []) (c.loop.invariant.values ∙ ap (λ n. each_below n (value state)) all))
+    ∙ ap (λ values. each_below rows (key state) ∷ each_below rows (group state) ∷ values ∷ [])
+    (c.loop.invariant.values ∙ ap (λ n. each_below n (value state)) all))
 
 pub returns-clause-table : goal.returns-clause-table
 returns-clause-table c =

@@ -29,17 +29,20 @@ fn agg(rt: &(impl Abort + AllocGlobal), func: Func) -> Result<Agg, Fail> {
     Ok(Agg { func, column })
 }
 
-// A table with these two columns.
+// A table with these columns.
 fn table(
     rt: &(impl Abort + AllocGlobal),
     named: &str,
-    columns: [&str; 2],
-    rows: &[[i64; 2]],
+    columns: &[&str],
+    rows: &[&[i64]],
 ) -> Result<NamedTable, Fail> {
-    let names = vec![in rt.alloc(); name(rt, columns[0])?, name(rt, columns[1])?]?;
+    let mut names = Vec::new(rt.alloc());
+    for column in columns {
+        names.push(name(rt, column)?)?;
+    }
     let mut table = Table::new(rt.alloc(), names).expect(rt, "a table");
     for row in rows {
-        assert!(rt; table.cols() == 2);
+        assert!(rt; table.cols() as usize == row.len());
         table.push_row(row).expect(rt, "a row");
     }
     Ok(NamedTable {
@@ -47,6 +50,51 @@ fn table(
         file: Text::of(String::from_str(rt.alloc(), "a file")?),
         table,
     })
+}
+
+// An aggregate of a column of the first join's table.
+fn joined_agg(rt: &(impl Abort + AllocGlobal), func: Func, text: &str) -> Result<Agg, Fail> {
+    let column = Some(joined_column(rt, text)?);
+    Ok(Agg { func, column })
+}
+
+fn joined_column(rt: &(impl Abort + AllocGlobal), text: &str) -> Result<NameRef, Fail> {
+    Ok(NameRef {
+        side: 1,
+        name: name(rt, text)?,
+    })
+}
+
+// A join of `u` on the column `k` of `t` and of `u`.
+fn join(rt: &(impl Abort + AllocGlobal)) -> Result<Join, Fail> {
+    Ok(Join {
+        table: name(rt, "u")?,
+        left: column(rt, "k")?,
+        right: name(rt, "k")?,
+        filters: ListOf::of(Vec::new(rt.alloc())),
+    })
+}
+
+// The answer to a query of `t`.
+fn answer_over(
+    rt: &(impl Abort + AllocGlobal),
+    tables: &[NamedTable],
+    filters: Vec<Filter>,
+    joins: Vec<Join>,
+    output: Output,
+) -> Result<Answer, Fail> {
+    let query = Query {
+        after: 0,
+        weight: 10,
+        cost: 100,
+        scan: name(rt, "t")?,
+        filters: ListOf::of(filters),
+        joins: ListOf::of(joins),
+        output,
+    };
+    assert!(rt; query.in_bounds());
+    let checked = check(rt.alloc(), &query, tables).expect(rt, "all names are there");
+    Ok(plain_answer(rt.alloc(), &checked, tables)?)
 }
 
 // The answer to a query of `t` with this filter.
@@ -62,20 +110,10 @@ fn answer(
         op,
         value,
     };
-    let query = Query {
-        after: 0,
-        weight: 10,
-        cost: 100,
-        scan: name(rt, "t")?,
-        filters: ListOf::of(vec![in rt.alloc(); filter]?),
-        joins: ListOf::of(Vec::new(rt.alloc())),
-        output,
-    };
-    assert!(rt; query.in_bounds());
-    let rows = [[2, 5], [1, 20], [1, 10], [1, 10]];
-    let tables = vec![in rt.alloc(); table(rt, "t", ["k", "v"], &rows)?]?;
-    let checked = check(rt.alloc(), &query, tables.as_slice()).expect(rt, "all names are there");
-    Ok(plain_answer(rt.alloc(), &checked, tables.as_slice())?)
+    let rows: [&[i64]; 4] = [&[2, 5], &[1, 20], &[1, 10], &[1, 10]];
+    let tables = vec![in rt.alloc(); table(rt, "t", &["k", "v"], &rows)?]?;
+    let filters = vec![in rt.alloc(); filter]?;
+    answer_over(rt, tables.as_slice(), filters, Vec::new(rt.alloc()), output)
 }
 
 #[test]
@@ -136,37 +174,36 @@ fn folds_totals(rt: HostRuntime) -> Result<(), Fail> {
 #[test]
 fn joins_tables(rt: HostRuntime) -> Result<(), Fail> {
     let alloc = rt.alloc();
-    let t = table(&rt, "t", ["k", "v"], &[[1, 10], [1, 20], [2, 5]])?;
-    let u = table(&rt, "u", ["k", "w"], &[[1, 7], [2, 8]])?;
+    let t = table(&rt, "t", &["k", "v"], &[&[1, 10], &[1, 20], &[2, 5]])?;
+    let u = table(&rt, "u", &["k", "w"], &[&[1, 7], &[2, 8]])?;
     let tables = vec![in alloc; t, u]?;
-    let join = Join {
-        table: name(&rt, "u")?,
-        left: column(&rt, "k")?,
-        right: name(&rt, "k")?,
-        filters: ListOf::of(Vec::new(alloc)),
-    };
-    let sum = Agg {
-        func: Func::Sum,
-        column: Some(NameRef {
-            side: 1,
-            name: name(&rt, "w")?,
-        }),
-    };
-    let query = Query {
-        after: 0,
-        weight: 10,
-        cost: 100,
-        scan: name(&rt, "t")?,
-        filters: ListOf::of(Vec::new(alloc)),
-        joins: ListOf::of(vec![in alloc; join]?),
-        output: Output::Totals(ListOf::of(vec![in alloc; agg(&rt, Func::Count)?, sum]?)),
-    };
-    assert!(rt; query.in_bounds());
-    let checked = check(alloc, &query, tables.as_slice()).expect(&rt, "all names are there");
-    let Answer::Totals(totals) = plain_answer(alloc, &checked, tables.as_slice())? else {
+    let joins = vec![in alloc; join(&rt)?]?;
+    let aggs = vec![in alloc; agg(&rt, Func::Count)?, joined_agg(&rt, Func::Sum, "w")?]?;
+    let output = Output::Totals(ListOf::of(aggs));
+    let answer = answer_over(&rt, tables.as_slice(), Vec::new(alloc), joins, output)?;
+    let Answer::Totals(totals) = answer else {
         return Err("totals".into());
     };
     let expected = matches!(totals.as_slice(), [AggValue::Count(3), AggValue::Sum(22)]);
+    assert!(rt; expected);
+    Ok(())
+}
+
+// Each of three rows joins each of three.
+#[test]
+fn joins_rows_of_equal_keys(rt: HostRuntime) -> Result<(), Fail> {
+    let alloc = rt.alloc();
+    let t = table(&rt, "t", &["k", "v"], &[&[1, 10], &[1, 20], &[1, 30]])?;
+    let u = table(&rt, "u", &["k", "w"], &[&[1, 5], &[1, 6], &[1, 7]])?;
+    let tables = vec![in alloc; t, u]?;
+    let joins = vec![in alloc; join(&rt)?]?;
+    let aggs = vec![in alloc; agg(&rt, Func::Count)?, joined_agg(&rt, Func::Sum, "w")?]?;
+    let output = Output::Totals(ListOf::of(aggs));
+    let answer = answer_over(&rt, tables.as_slice(), Vec::new(alloc), joins, output)?;
+    let Answer::Totals(totals) = answer else {
+        return Err("totals".into());
+    };
+    let expected = matches!(totals.as_slice(), [AggValue::Count(9), AggValue::Sum(54)]);
     assert!(rt; expected);
     Ok(())
 }
@@ -198,5 +235,66 @@ fn folds_groups(rt: HostRuntime) -> Result<(), Fail> {
         [AggValue::Count(1), AggValue::Sum(5)]
     );
     assert!(rt; of_two);
+    Ok(())
+}
+
+#[test]
+fn folds_groups_by_two_columns(rt: HostRuntime) -> Result<(), Fail> {
+    let alloc = rt.alloc();
+    let rows: [&[i64]; 4] = [&[1, 2, 7], &[1, 1, 5], &[0, 9, 4], &[1, 1, 3]];
+    let tables = vec![in alloc; table(&rt, "t", &["k", "g", "v"], &rows)?]?;
+    let output = Output::Groups {
+        by: ListOf::of(vec![in alloc; column(&rt, "k")?, column(&rt, "g")?]?),
+        aggs: ListOf::of(vec![in alloc; agg(&rt, Func::Min)?, agg(&rt, Func::Max)?]?),
+    };
+    let tables = tables.as_slice();
+    let answer = answer_over(&rt, tables, Vec::new(alloc), Vec::new(alloc), output)?;
+    let Answer::Groups(groups) = answer else {
+        return Err("groups".into());
+    };
+    let expected: [([i64; 2], i64, i64); 3] = [([0, 9], 4, 4), ([1, 1], 3, 5), ([1, 2], 7, 7)];
+    assert_eq!(rt; groups.as_slice().len(), 3);
+    for (group, (key, least, greatest)) in groups.as_slice().iter().zip(expected.iter()) {
+        assert_eq!(rt; group.key.as_slice(), key.as_slice());
+        let [AggValue::Least(Some(min)), AggValue::Greatest(Some(max))] = group.values.as_slice()
+        else {
+            return Err("a least and a greatest value".into());
+        };
+        assert_eq!(rt; *min, *least);
+        assert_eq!(rt; *max, *greatest);
+    }
+    Ok(())
+}
+
+#[test]
+fn folds_groups_of_joined_rows(rt: HostRuntime) -> Result<(), Fail> {
+    let alloc = rt.alloc();
+    let t = table(
+        &rt,
+        "t",
+        &["k", "v"],
+        &[&[1, 10], &[2, 5], &[1, 20], &[3, 1]],
+    )?;
+    let u = table(&rt, "u", &["k", "w"], &[&[1, 9], &[2, 8], &[1, 7]])?;
+    let tables = vec![in alloc; t, u]?;
+    let joins = vec![in alloc; join(&rt)?]?;
+    let output = Output::Groups {
+        by: ListOf::of(vec![in alloc; joined_column(&rt, "w")?]?),
+        aggs: ListOf::of(vec![in alloc; agg(&rt, Func::Count)?, agg(&rt, Func::Sum)?]?),
+    };
+    let answer = answer_over(&rt, tables.as_slice(), Vec::new(alloc), joins, output)?;
+    let Answer::Groups(groups) = answer else {
+        return Err("groups".into());
+    };
+    let expected: [(i64, u64, i128); 3] = [(7, 2, 30), (8, 1, 5), (9, 2, 30)];
+    assert_eq!(rt; groups.as_slice().len(), 3);
+    for (group, (key, count, sum)) in groups.as_slice().iter().zip(expected.iter()) {
+        assert_eq!(rt; group.key.as_slice(), [*key].as_slice());
+        let [AggValue::Count(rows), AggValue::Sum(total)] = group.values.as_slice() else {
+            return Err("a count and a sum".into());
+        };
+        assert_eq!(rt; *rows, *count);
+        assert_eq!(rt; *total, *sum);
+    }
     Ok(())
 }

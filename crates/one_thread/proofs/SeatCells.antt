@@ -17,7 +17,7 @@ use Rattle.slot_station.specs.Cells.{has_cell, kept_note, fresh_note}
 use Rattle.slot_station.specs.Desks.{Desk, own_place, OwnFits, NextFits, OwnCellSays, CellSays}
 use Rattle.slot_station.specs.Log.{calls_of}
 use Rattle.one_thread.specs.Stories.{Story, place_in}
-use Rattle.one_thread.specs.Tables.{IsTableKept}
+use Rattle.one_thread.specs.Tables.{IsTableKept, table_of}
 use Rattle.one_thread.specs.Seats.{desk_over, shown_by}
 use Rattle.slot_station.specs.Tokens.{IsHolder}
 use Rattle.one_thread.proofs.TableCells.{own-cell-says, table-own-cell, cell-says, table-cell}
@@ -46,7 +46,7 @@ module _ {B Sub : Type 0} {b : Ghosts B Sub} (seat : Seat b) (legal : IsLegal se
   desk = record { worker = w; shape = o.shape; subject = seat.subject }
 
   abbrev IsTable : Story → List (Option B) → Type 0
-  IsTable y = IsTableKept b.queries b.total b.fits y.shape seat.subject y.log
+  IsTable y = IsTableKept b (table_of y seat.subject)
 
   -- the object after an exchange of the cell of v
   abbrev longer : ℕ → Note → Story
@@ -81,14 +81,14 @@ module _ {B Sub : Type 0} {b : Ghosts B Sub} (seat : Seat b) (legal : IsLegal se
         → CellSays b.fits (shown_by own now) v r
     seat-cell-says {r = r} read =
         to-seat seat (λ D l. CellSays b.fits (shown_by D l) v r)
-        (cell-says b.queries b.total b.fits o.shape seat.subject o.log cells w (own-below seat) legal seat.kept x.slot held holds v in-workers r
+        (cell-says b o seat.subject cells w (own-below seat) legal seat.kept x.slot held holds v in-workers r
         (element x.slot v i in-slots in-workers at r read))
 
     pub seat-cell : {new dest : Option B} → dest ≡ new → {n : Note} → n ≡ fresh_note new → IfSome new (NextFits b.fits (shown_by own now) v)
         → {o' : Story} → o' ≡ longer v n → IsTable o' (set cells i dest)
     seat-cell {new = new} {dest = dest} puts {n = n} notes fit {o' = o'} grows =
         let f = to-object seat (λ D l. IfSome new (NextFits b.fits (shown_by D l) v)) fit in
-        let p = table-cell b.queries b.total b.fits o.shape seat.subject o.log cells w (own-below seat) legal seat.kept x.slot held holds
+        let p = table-cell b o seat.subject cells w (own-below seat) legal seat.kept x.slot held holds
         v in-workers new n notes f in
         subst (λ y. IsTable y (set cells i dest)) (sym grows)
         (subst (λ j. IsTable (longer v n) (set cells j dest)) (sym at)
@@ -111,14 +111,14 @@ module _ {B Sub : Type 0} {b : Ghosts B Sub} (seat : Seat b) (legal : IsLegal se
     pub seat-own_says : {r : Option B} → r ≡ get_or cells i r → OwnCellSays b.fits (shown_by own now) r
     seat-own_says {r = r} read =
         to-seat seat (λ D l. OwnCellSays b.fits (shown_by D l) r)
-        (own-cell-says b.queries b.total b.fits o.shape seat.subject o.log cells w (own-below seat) legal seat.kept own-has r
+        (own-cell-says b o seat.subject cells w (own-below seat) legal seat.kept own-has r
         (element (slot_of (place_in o w)) w i own-slots (own-below seat) at r read))
 
     pub seat-own : {new dest : Option B} → dest ≡ new → {n : Note} → n ≡ kept_note new → IfSome new (OwnFits b.fits (shown_by own now))
         → {o' : Story} → o' ≡ longer w n → IsTable o' (set cells i dest)
     seat-own {new = new} {dest = dest} puts {n = n} notes fit {o' = o'} grows =
         let f = to-object seat (λ D l. IfSome new (OwnFits b.fits (shown_by D l))) fit in
-        let p = table-own-cell b.queries b.total b.fits o.shape seat.subject o.log cells w (own-below seat) legal seat.kept
+        let p = table-own-cell b o seat.subject cells w (own-below seat) legal seat.kept
         own-has new n notes f in
         subst (λ y. IsTable y (set cells i dest)) (sym grows)
         (subst (λ j. IsTable (longer w n) (set cells j dest)) (sym at)

@@ -45,7 +45,7 @@ use Rattle.slot_station.specs.Cells.{has_cell, noted}
 use Rattle.slot_station.specs.Replies.{look_act, leave_act, claim_act, shut_act, mark_act, sweep_act, pay_act, reserve_act, admit_act}
 use Rattle.slot_station.specs.Desks.{Desk, Seen, own_place, own_holding, AllNoted, KeptOwn, Makes}
 use Rattle.slot_station.specs.Log.{calls_of, note_in, call}
-use Rattle.one_thread.specs.Tables.{TableStory, IsTableKept}
+use Rattle.one_thread.specs.Tables.{TableStory, IsTableKept, table_of}
 use Rattle.one_thread.specs.Stories.{Story, MayMake, MakesCall, place_in, state_in}
 use Rattle.slot_station.specs.Tokens.{IsAnnouncer, IsDone, last_opened}
 use Rattle.slot_station.proofs.TokensKept.{announcer-opened}
@@ -124,13 +124,12 @@ pub record Seat {B Sub : Type 0} (b : Ghosts B Sub) : Type 0 where
   pub below : worker < now.shape.workers
   pub same_shape : now.shape ≡ start.shape
   pub same_subject : now.subject ≡ start.subject
-  pub view : record { shape = object.shape; subject = subject; log = object.log } ≡ now
-  pub kept : IsTableKept b.queries b.total b.fits object.shape subject object.log cells
+  pub view : table_of object subject ≡ now
+  pub kept : IsTableKept b (table_of object subject) cells
 
 -- of a seat over any object
 abbrev pub seat : {B O Sub : Type 0} {b : Ghosts B Sub} {k : core.Ghosts O} (s : OneSeat B O Sub b k) (t : Inside B O Sub)
-    → record { shape = (k.story t.object).shape; subject = t.subject.value; log = (k.story t.object).log } ≡ s.table.now
-    → IsTableKept b.queries b.total b.fits (k.story t.object).shape t.subject.value (k.story t.object).log t.cells.items → Seat b
+    → table_of (k.story t.object) t.subject.value ≡ s.table.now → IsTableKept b (table_of (k.story t.object) t.subject.value) t.cells.items → Seat b
 seat {k = k} s t view kept = record {
   worker = s.worker;
   start = s.start.value;
@@ -267,12 +266,12 @@ module _ {B Sub : Type 0} {b : Ghosts B Sub} (x : Seat b) where
 
   module _ {a : Act} {new : Story} (m : MakesCall object worker a new) where
     -- the table after a call that its worker's notes allow
-    pub table-after : Allows a → IsTableKept b.queries b.total b.fits new.shape subject new.log x.cells
+    pub table-after : Allows a → IsTableKept b (table_of new subject) x.cells
     table-after allow =
-        let P : Story → Type 0 = λ y. IsTableKept b.queries b.total b.fits y.shape subject y.log x.cells in
+        let P : Story → Type 0 = λ y. IsTableKept b (table_of y subject) x.cells in
         let legal : IsLegal object.shape (calls_of (call worker a ∷ object.log)) = subst
         (λ (y : Story). IsLegal y.shape (calls_of y.log)) m.story m.legal in
-        subst P (sym m.story) (table-call b.queries b.total b.fits object.shape subject object.log x.cells worker a legal allow x.kept)
+        subst P (sym m.story) (table-call b object.shape subject object.log x.cells worker a legal allow x.kept)
 
     -- where the worker is after the call
     pub new-place : place_in new worker ≡ moved object.shape a (place_in object worker)
@@ -313,7 +312,7 @@ module _ {B Sub : Type 0} {b : Ghosts B Sub} (x : Seat b) where
     free : IsFree a → Allows a
     free f = f (b.total subject) caller
 
-    pub table-free : IsFree a → IsTableKept b.queries b.total b.fits new.shape subject new.log x.cells
+    pub table-free : IsFree a → IsTableKept b (table_of new subject) x.cells
     table-free f = table-after (free f)
 
     pub makes-free : {O : Type 0} {o : O} → IsFree a → Makes b.total a (seen_by o desk now.log) (seen_by o desk new.log)

@@ -29,7 +29,9 @@ use Rattle.slot_history.specs.States.{finalised_id}
 use Rattle.slot_station.specs.Log.{calls_of, note_in}
 use Rattle.slot_station.specs.Desks.{Seen, own_place, OwnFits, NextFits, FinalisedFits, OwnCellSays, CellSays}
 use Rattle.slot_station.specs.Cells.{FitsClaims}
-use Rattle.one_thread.specs.Tables.{IsTableKept}
+use Rattle.slot_station.specs.declared.station.Fits.{Ghosts}
+use Rattle.one_thread.specs.Stories.{Story}
+use Rattle.one_thread.specs.Tables.{IsTableKept, table_of}
 use Rattle.one_thread.specs.Seats.{trail_in, shown_by}
 use Rattle.slot_station.proofs.Lists.{get-set_same, get-set_other, pair-within}
 use Rattle.one_thread.proofs.Trails.{place-trail, ranges-trail, ranges-finalised}
@@ -52,9 +54,21 @@ module _ (w c : ℕ) (n : Note) (l : List Logged) where
   note-of_else u v other = ap (λ b. cond (eqb u w && b) n (note_in l u v)) (ne_eqb v c other) ∙ ap (λ a. cond a n (note_in l u v)) (and-false (eqb u w))
 
 -- the seat of the worker w, over a table with this log and these cells
-module _ {B Sub : Type 0} (queries : Sub → ℕ) (total : Sub → ℕ → Option ℕ) (fits : Sub → ℕ → ℕ → List (ℕ × ℕ) → B → Type 0) (d : Shape) (subject : Sub)
-    (log : List Logged) (cells : List (Option B)) (w : ℕ)
-    (low : w < d.workers) (legal : IsLegal d (calls_of log)) (ok : IsTableKept queries total fits d subject log cells) where
+module _ {B Sub : Type 0} (b : Ghosts B Sub) (object : Story) (subject : Sub) (cells : List (Option B)) (w : ℕ)
+    (low : w < object.shape.workers) (legal : IsLegal object.shape (calls_of object.log)) (ok : IsTableKept b (table_of object subject) cells) where
+  abbrev d : Shape
+  d = object.shape
+
+  abbrev log : List Logged
+  log = object.log
+
+  abbrev fits : Sub → ℕ → ℕ → List (ℕ × ℕ) → B → Type 0
+  fits = b.fits
+
+  -- the table after an exchange of the cell of c, with these cells
+  abbrev IsKept : ℕ → Note → List (Option B) → Type 0
+  IsKept c n after = IsTableKept b (table_of (record object { log = longer w c n object.log }) subject) after
+
   abbrev h : List Entry
   h = calls_of log
 
@@ -75,7 +89,7 @@ module _ {B Sub : Type 0} (queries : Sub → ℕ) (total : Sub → ℕ → Optio
   -- the worker has cells of the slot s alone, and exchanges that of c there
   exchanged : (s c : ℕ) (n : Note) → c < d.workers → ((t : ℕ) → t ≢ s → has_own_cell (S.places w) t ≡ false)
       → ((t : ℕ) (k : Held) → IsHeldBy w k (S.slots t) → t ≡ s)
-      → (new : Option B) → Cell (longer w c n log) s c new → IsTableKept queries total fits d subject (longer w c n log) (set cells (s * d.workers + c) new)
+      → (new : Option B) → Cell (longer w c n log) s c new → IsKept c n (set cells (s * d.workers + c) new)
   exchanged s c n in_c out one new mine =
       let after : List Logged = longer w c n log in record {
         queries_are = ok.queries_are;
@@ -117,7 +131,7 @@ module _ {B Sub : Type 0} (queries : Sub → ℕ) (total : Sub → ℕ → Optio
     own-cell-says x at = transport (own-is log x) (ok.cells_are (slot_of p) w x (has-within d p has-cell ((within d h legal).places w)) low at)
 
     pub table-own-cell : (new : Option B) (n : Note) → n ≡ kept_note new → IfSome new (OwnFits fits shown)
-        → IsTableKept queries total fits d subject (Exchanged (record { worker = w; cell = w; note = n }) ∷ log) (set cells (slot_of p * d.workers + w) new)
+        → IsKept w n (set cells (slot_of p * d.workers + w) new)
     table-own-cell new n is fit = exchanged (slot_of p) w n low (inside-only d h w low legal has-cell) (inside-holds d h w low legal has-cell) new
         (transport (sym (own-is (longer w w n log) new))
         (subst (λ m. NoteSays (OwnFits fits shown) (λ b. ⊥) m new) (sym (note-exchanged w w n log ∙ is))
@@ -151,7 +165,7 @@ module _ {B Sub : Type 0} (queries : Sub → ℕ) (total : Sub → ℕ → Optio
         (ok.cells_are s v x (subst (IsPlaceWithin d) place-is ((within d h legal).places w)) in_v at))
 
     pub table-cell : (new : Option B) (n : Note) → n ≡ fresh_note new → IfSome new (NextFits fits shown v)
-        → IsTableKept queries total fits d subject (Exchanged (record { worker = w; cell = v; note = n }) ∷ log) (set cells (s * d.workers + v) new)
+        → IsKept v n (set cells (s * d.workers + v) new)
     table-cell new n is fit = exchanged s v n in_v
         (λ t other. ap (λ q. has_own_cell q t) place-is)
         (λ t j other. let r : Holding t j ≡ Holding s k = sym (holder-place d S (table d h legal) t w j other) ∙ place-is in cc)

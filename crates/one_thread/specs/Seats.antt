@@ -24,16 +24,16 @@ trail_in w (e ∷ es) = cond (eqb w e.worker) (e ∷ es) (trail_in w es)
 
 -- what a seat with this origin and desk shows of itself, over a table with this log
 abbrev pub seen_by : {O Sub : Type 0} → O → Desk Sub → List Logged → Seen O Sub
-seen_by o desk l = record {
-  origin = o;
+seen_by origin desk log = record {
+  origin = origin;
   desk = desk;
-  trail = trail_in desk.worker (calls_of l);
-  notes = note_in l desk.worker;
+  trail = trail_in desk.worker (calls_of log);
+  notes = note_in log desk.worker;
 }
 
 -- and what it shows but for its origin
 abbrev pub shown_by : {Sub : Type 0} → Desk Sub → List Logged → Seen (Unit {0}) Sub
-shown_by desk l = seen_by tt desk l
+shown_by desk log = seen_by tt desk log
 
 -- the table was `start`, and since then only w has made steps on it
 pub record IsSince {Sub : Type 0} (start now : TableStory Sub) (w : ℕ) : Type 0 where

@@ -17,7 +17,7 @@ pub record Story : Type 0 where
 
 -- the state that this log leaves, of an object of this shape
 abbrev pub state_in : Shape → List Logged → ObjectState
-state_in d l = state_after d (calls_of l)
+state_in shape log = state_after shape (calls_of log)
 
 -- where a worker is
 abbrev pub place_in : Story → ℕ → Place

@@ -85,11 +85,11 @@ impl<B: Fits, O: SlotObject> OneSeat<'_, B, O> {
 impl<'a, B: Fits, O: SlotObject> Station<B> for OneSeat<'a, B, O> {
     ghost Origin = { SeatOrigin B.Subject };
 
-    ghost seen = { λ s. seen_by (record {
-      name = s.table.ghost_name;
-      start = s.start.value;
-      worker = s.worker;
-    }) (desk_over s.start.value s.worker) s.table.now.log };
+    ghost seen = { λ seat. seen_by (record {
+      name = seat.table.ghost_name;
+      start = seat.start.value;
+      worker = seat.worker;
+    }) (desk_over seat.start.value seat.worker) seat.table.now.log };
 
     fn worker(&self) -> u32 {
         self.worker
@@ -311,9 +311,9 @@ impl<'a, B: Fits, O: SlotObject> Station<B> for OneSeat<'a, B, O> {
         old
     }
 
-    ghost sound = { λ s. record {
-      shape_is = s.limits;
-      below = subst (λ d. s.worker < d.workers) s.shape s.below;
-      queries_are = s.queries;
+    ghost sound = { λ seat. record {
+      shape_is = seat.limits;
+      below = subst (λ d. seat.worker < d.workers) seat.shape seat.below;
+      queries_are = seat.queries;
     } };
 }

@@ -25,20 +25,22 @@ pub struct OneTable<B: Fits, O: SlotObject> {
 }
 
 impl<B: Fits, O: SlotObject> Model for OneTable<B, O> {
-    ghost use Rattle.one_thread.specs.Tables.{TableStory, IsTableKept};
+    ghost use Rattle.one_thread.specs.Tables.{TableStory, IsTableKept, table_of};
 
     ghost Value = { TableStory B.Subject };
 
-    ghost view = { λ t. record { shape = (O.story t.object).shape; subject = t.subject.value; log = (O.story t.object).log } };
+    ghost view = { λ t. table_of (O.story t.object) t.subject.value };
 
-    ghost invariant = { λ t. IsTableKept B.queries B.total B.fits (O.story t.object).shape t.subject.value (O.story t.object).log t.cells.items };
+    ghost invariant = { λ t.
+        IsTableKept B.Fits (table_of (O.story t.object) t.subject.value) t.cells.items };
 }
 
 impl<B: Fits, O: SlotObject> OneTable<B, O> {
     /// A table whose slots are empty, whose cells hold None, and with no notices. `subject` is what
     /// it serves, for contracts alone, and `queries` the number of the subject's queries. BadSlots
     /// is the answer exactly outside 1 to 128 slots, else BadWorkers exactly outside 1 to 64
-    /// workers, else BadQueries exactly past 4,096 queries.
+    /// workers, else BadQueries exactly past 4,096 queries. Else OutOfMemory is the answer where
+    /// memory for the cells or the object runs out.
     pub fn make(
         alloc: Global,
         slots: u32,

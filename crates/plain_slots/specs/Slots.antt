@@ -15,14 +15,18 @@ use Rattle.plain_slots.specs.declared.slot.Slot.TheVariants.{Empty, Reserved, Op
 
 -- of a cursor that may be past the total: what is left to claim begins at the lesser of the two
 abbrev pub work_of : state.TaskSet → Work
-work_of t = record { id = t.id; total = t.total; next = min t.total t.cursor }
+work_of task = record {
+  id = task.id;
+  total = task.total;
+  next = min task.total task.cursor;
+}
 
 -- what is kept of a slot in this state
 abbrev pub shown : state.SlotState → Slot
 shown state.Empty = Empty
 shown (state.Reserved w held) = Reserved
-shown (state.Open t) = Open (work_of t)
-shown (state.Shut t end) = Shut (work_of t) end.swept
+shown (state.Open task) = Open (work_of task)
+shown (state.Shut task end) = Shut (work_of task) end.swept
 shown (state.Finishing id w held) = Finishing id
 
 -- it holds of every state of which this is kept
@@ -31,26 +35,26 @@ OfEach slot P = (x : state.SlotState) → shown x ≡ slot → P x
 
 -- the slot has a task set that may be claimed from
 abbrev pub has_work : Slot → Bool
-has_work (Open t) = true
-has_work (Shut t swept) = true
+has_work (Open work) = true
+has_work (Shut work swept) = true
 has_work _ = false
 
 abbrev pub swept_slot : Slot → Slot
-swept_slot (Shut t swept) = Shut t true
+swept_slot (Shut work swept) = Shut work true
 swept_slot slot = slot
 
 abbrev pub look_of : Slot → Look
 look_of Empty = look.Vacant
 look_of Reserved = look.Vacant
-look_of (Open t) = look.Open t.id
-look_of (Shut t swept) = look.Invalid
+look_of (Open work) = look.Open work.id
+look_of (Shut work swept) = look.Invalid
 look_of (Finishing id) = look.Invalid
 
 -- what a claim of n tuples answers of the task set of a slot
 abbrev pub ClaimFrom : state.SlotState → ℕ → Option (ℕ × ℕ) → Type 0
 ClaimFrom x n None = (state.task_of x).total ≤ (state.task_of x).cursor
-ClaimFrom x n (Some r) = let t = state.task_of x in
-    (r.0 ≡ t.cursor) × (r.0 < t.total) × (r.1 ≡ min t.total (r.0 + n))
+ClaimFrom x n (Some r) = let task = state.task_of x in
+    (r.0 ≡ task.cursor) × (r.0 < task.total) × (r.1 ≡ min task.total (r.0 + n))
 
 -- a payment is the last where so many other workers have to pay, if the slot was swept
 abbrev pub is_last : ℕ → state.SlotState → Bool

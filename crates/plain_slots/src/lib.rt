@@ -35,10 +35,13 @@ pub mod table;
 
 pub use object::PlainObject;
 pub use one_thread::{OneSeat, OneTable, SlotObject, seat};
+pub use slot_history::act::{Act, Entry};
+pub use slot_history::place::{Held, Place};
+pub use slot_history::shape::Shape;
 pub use slot_history::{act, laws, place, shape};
 pub use slot_station::{
-    Admit, Announcer, Claim, Coordinator, Debt, Fits, History, Holder, Leave, Look, MakeRefusal,
-    Mark, Memo, Note, Pay, Reserve, Shut, Spent, Station, StepWork, Steps, Sweep, ghost_list, log,
-    note, reply, run_uncounted, station, steps, token,
+    Admit, Announcer, Claim, Coordinator, Debt, Fits, History, HistoryKeeper, Holder, Leave, Look,
+    MakeRefusal, Mark, Memo, Note, Pay, Reserve, ShowsHistory, Shut, Spent, Station, StepWork,
+    Steps, Sweep, ghost_list, log, note, reply, run_uncounted, station, steps, token,
 };
 pub use table::{PlainSeat, PlainTable};

@@ -12,7 +12,8 @@ use Rattle.plan_ast.specs.Answer.{aggregate}
 use Rattle.plan_ast.specs.declared.queries.Func.{Func}
 use Rattle.plan_ast.specs.declared.queries.Func.TheVariants.{Count, Sum, Min, Max}
 use Rattle.plan_ast.specs.declared.answers.AggValue.TheVariants as agg_value
-use Rattle.build_sides.specs.Columns.{merged, option_both}
+use Rattle.plan_ast.specs.Aggregates.{merged}
+use Rattle.build_sides.specs.Columns.{wrapped_agg_sum}
 use borrow.Author.Differences.{up, down, fits_in, fits_out}
 
 -- a fold may begin anywhere
@@ -20,7 +21,8 @@ fold_from : {A : Type 0} (f : A → A → A) → ((a b c : A) → f (f a b) c �
 fold_from f assoc a b [] = refl
 fold_from f assoc a b (x ∷ xs) = ap (λ z. fold f z xs) (assoc a b x) ∙ fold_from f assoc a (f b x) xs
 
-reduce-append : {A : Type 0} (f : A → A → A) → ((a b c : A) → f (f a b) c ≡ f a (f b c)) → (xs ys : List A) → option_both f (reduce f xs) (reduce f ys) ≡ reduce f (xs ++ ys)
+reduce-append : {A : Type 0} (f : A → A → A) → ((a b c : A) → f (f a b) c ≡ f a (f b c)) → (xs ys : List A)
+    → merged f (reduce f xs) (reduce f ys) ≡ reduce f (xs ++ ys)
 reduce-append f assoc [] ys = refl
 reduce-append f assoc (x ∷ xs) [] = ap (λ l. Some (fold f x l)) (sym (append-nil xs))
 reduce-append f assoc (x ∷ xs) (y ∷ ys) = ap (λ z. Some z) (sym (fold-append f x xs (y ∷ ys) ∙ fold_from f assoc (fold f x xs) y ys))
@@ -57,7 +59,7 @@ sum_fits xs fit few =
 
 -- two totals together are the total of both lists
 pub merged-aggregates : (func : Func) (xs ys : List ℤ) → All (FitsSigned w64) xs → All (FitsSigned w64) ys → length xs + length ys ≤ 2 ^ 60
-    → merged (aggregate func xs) (aggregate func ys) ≡ aggregate func (xs ++ ys)
+    → wrapped_agg_sum (aggregate func xs) (aggregate func ys) ≡ aggregate func (xs ++ ys)
 merged-aggregates Count xs ys fit_xs fit_ys few = ap (λ n. agg_value.Count n) (omega (arith, length-append xs ys))
 merged-aggregates Sum xs ys fit_xs fit_ys few =
     let fits : FitsSigned w128 (fold ◌+ℤ◌ (pos 0) (xs ++ ys)) =

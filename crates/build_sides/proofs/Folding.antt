@@ -10,7 +10,7 @@ use Rattle.plan_ast.specs.Answer.{aggregate}
 use Rattle.plan_ast.specs.declared.queries.Func.{Func}
 use Rattle.plan_ast.specs.declared.answers.AggValue.{AggValue}
 use Rattle.build_sides.specs.Chains.{key_at, no_key}
-use Rattle.build_sides.specs.Columns.{merged, put, with_total}
+use Rattle.build_sides.specs.Columns.{wrapped_agg_sum, put, with_total}
 use Rattle.build_sides.specs.FoldedRows.{FoldedRow, value_in, rows_with, total_of}
 use Rattle.build_sides.specs.GroupSides.{AreGroups, FitsRow, Folds, column_of, total_in}
 use Rattle.build_sides.specs.GroupTotals.{Totals, GroupTotals, nothing_of}
@@ -71,7 +71,8 @@ values_fit place rows fit =
     All-map (FitsSigned w64) (λ row. value_in row place) rows (All-weaker FitsRow (λ row. FitsSigned w64 (value_in row place)) (λ row h. h place) rows fit)
 
 total_of-more : (func : Func) (place : ℕ) (key : Key) (rows more : List FoldedRow) → AllOf key more → All FitsRow rows → All FitsRow more
-    → length (rows_with key rows) + length more ≤ 2 ^ 60 → merged (total_of func place key rows) (aggregate func (values_at place more)) ≡ total_of func place key (rows ++ more)
+    → length (rows_with key rows) + length more ≤ 2 ^ 60
+    → wrapped_agg_sum (total_of func place key rows) (aggregate func (values_at place more)) ≡ total_of func place key (rows ++ more)
 total_of-more func place key rows more all fit_rows fit_more few =
     let self : same_key key key ≡ true = elim (same_key_tells key key) [ inl (is, _) ↦ is | inr (_, differ) ↦ absurd (differ refl) ] in
     let old = rows_with key rows in
@@ -93,33 +94,34 @@ module _ (keys : List Key) (key : Key) (n : ℕ) (column : Totals) (total : AggV
     (all : AllOf key more) (is : total ≡ aggregate column.func (values_at place more))
     (fit_rows : All FitsRow rows) (fit_more : All FitsRow more) (few : length (rows_with key rows) + length more ≤ 2 ^ 60) where
   known_column : n < length keys → key_at keys n ≡ key
-      → (k : Key) → item_at (nothing_of column) keys (put merged column.values n total) k ≡ total_of column.func place k (rows ++ more)
+      → (k : Key) → item_at (nothing_of column) keys (put wrapped_agg_sum column.values n total) k ≡ total_of column.func place k (rows ++ more)
   known_column lt at k =
       let old = slice_index_or column.values n total in
       let here : old ≡ total_of column.func place key rows =
       get_or_default column.values n total (nothing_of column) (omega arith)
       ∙ sym (item_at-number (nothing_of column) keys column.values key n distinct lt at) ∙ holds key in
-      let sum : merged old total ≡ total_of column.func place key (rows ++ more) =
-      ap (λ z. merged z total) here ∙ ap (merged (total_of column.func place key rows)) is
+      let sum : wrapped_agg_sum old total ≡ total_of column.func place key (rows ++ more) =
+      ap (λ z. wrapped_agg_sum z total) here ∙ ap (wrapped_agg_sum (total_of column.func place key rows)) is
       ∙ total_of-more column.func place key rows more all fit_rows fit_more few in
-      ap (λ l. item_at (nothing_of column) keys l k) (put_known merged column.values n total (omega arith))
-      ∙ item_at-set (nothing_of column) keys column.values n (merged old total) k distinct same lt
-      ∙ ap (λ x. cond (same_key x k) (merged old total) (item_at (nothing_of column) keys column.values k)) at
+      ap (λ l. item_at (nothing_of column) keys l k) (put_known wrapped_agg_sum column.values n total (omega arith))
+      ∙ item_at-set (nothing_of column) keys column.values n (wrapped_agg_sum old total) k distinct same lt
+      ∙ ap (λ x. cond (same_key x k) (wrapped_agg_sum old total) (item_at (nothing_of column) keys column.values k)) at
       ∙ elim (same_key_tells key k) [
         | inl (fits, e) ↦ rw fits (sum ∙ ap (λ x. total_of column.func place x (rows ++ more)) e)
         | inr (other, _) ↦ rw other (holds k ∙ total_of-other column.func place key k rows more other all)
       ]
 
   new_column : n ≡ length keys → IsAbsent keys key → rows_with key rows ≡ []
-      → (k : Key) → item_at (nothing_of column) (keys ++ key ∷ []) (put merged column.values n total) k ≡ total_of column.func place k (rows ++ more)
+      → (k : Key) → item_at (nothing_of column) (keys ++ key ∷ []) (put wrapped_agg_sum column.values n total) k ≡ total_of column.func place k (rows ++ more)
   new_column at absent none k =
       let self : same_key key key ≡ true = elim (same_key_tells key key) [ inl (fits, _) ↦ fits | inr (_, differ) ↦ absurd (differ refl) ] in
       let these : rows_with key (rows ++ more) ≡ more =
       rows_with-append key rows more ∙ ap (λ l. l ++ rows_with key more) none ∙ rows_with-this key key more self all in
-      ap (λ l. item_at (nothing_of column) (keys ++ key ∷ []) l k) (put_next merged column.values n total (omega arith))
+      ap (λ l. item_at (nothing_of column) (keys ++ key ∷ []) l k) (put_next wrapped_agg_sum column.values n total (omega arith))
       ∙ item_at-more (nothing_of column) keys column.values key total k same absent
       ∙ elim (same_key_tells key k) [
-        | inl (fits, e) ↦ rw fits (is ∙ ap (λ l. aggregate column.func (values_at place l)) (sym these) ∙ ap (λ x. total_of column.func place x (rows ++ more)) e)
+        | inl (fits, e) ↦ rw fits (is ∙ ap (λ l. aggregate column.func (values_at place l)) (sym these)
+            ∙ ap (λ x. total_of column.func place x (rows ++ more)) e)
         | inr (other, _) ↦ rw other (holds k ∙ total_of-other column.func place key k rows more other all)
       ]
 
@@ -145,7 +147,7 @@ groups_more old new key n total groups h =
         same = λ a lt.
             let within : a < length old.columns = omega (arith, h.count) in
             let same = groups.same a within in
-            rw (h.each a within, put_known merged (column_of old a).values n (total a) (omega arith), h.numbers.known known) (length-set _ _ _ ∙ same);
+            rw (h.each a within, put_known wrapped_agg_sum (column_of old a).values n (total a) (omega arith), h.numbers.known known) (length-set _ _ _ ∙ same);
       }
       | inr next ↦
           let added = h.numbers.added next in
@@ -154,7 +156,7 @@ groups_more old new key n total groups h =
             same = λ a lt.
                 let within : a < length old.columns = omega (arith, h.count) in
                 let same = groups.same a within in
-                rw (h.each a within, put_next merged (column_of old a).values n (total a) (omega arith), added.1)
+                rw (h.each a within, put_next wrapped_agg_sum (column_of old a).values n (total a) (omega arith), added.1)
                 (omega (arith, length-append (column_of old a).values (total a ∷ []), length-append old.keys (key ∷ [])));
           }
     ]
@@ -204,7 +206,8 @@ module _ (old new : GroupTotals) (key : Key) (n : ℕ) (total : ℕ → AggValue
     absent = λ k absent.
         elim (same_key_tells key k) [
           | inl (_, e) ↦ absurd (absent n (number_within old.keys new.keys key n h.numbers) (h.numbers.is ∙ e))
-          | inr (other, _) ↦ rows_with-append k rows more ∙ ap (λ l. l ++ rows_with k more) (folds.absent k (absent_before k absent)) ∙ rows_with-other key k more other all
+          | inr (other, _) ↦ rows_with-append k rows more ∙ ap (λ l. l ++ rows_with k more) (folds.absent k (absent_before k absent))
+              ∙ rows_with-other key k more other all
         ];
     present = λ k none.
         let none_before : rows_with k rows ≡ [] = (nil_parts (rows_with k rows) (rows_with k more) (sym (rows_with-append k rows more) ∙ none)).0 in

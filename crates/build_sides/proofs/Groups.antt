@@ -55,7 +55,8 @@ pub folds_row : (old new : GroupTotals) (key : Key) (n : ℕ) (values : List ℤ
     → FitsRow (record { key = key; values = values }) → length rows < 2 ^ 60 → length (rows_with key rows) ≤ length rows → Folds rows old
     → Folds (rows ++ record { key = key; values = values } ∷ []) new
 folds_row old new key n values rows groups puts fits few bound folds =
-    folds_more old new key n (λ a. aggregate (column_of old a).func (slice_index_or values a (pos 0) ∷ [])) rows (record { key = key; values = values } ∷ []) groups puts
+    folds_more old new key n (λ a. aggregate (column_of old a).func (slice_index_or values a (pos 0) ∷ [])) rows
+    (record { key = key; values = values } ∷ []) groups puts
     (λ a lt. refl) (All-one (λ row. row.key ≡ key) (record { key = key; values = values }) refl) (omega arith)
     (All-one FitsRow (record { key = key; values = values }) fits) (omega arith) folds
 

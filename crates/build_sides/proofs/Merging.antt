@@ -1,5 +1,5 @@
 -- The groups of a part, gathered key by key.
-use Rattle.std.proofs.Common.{◌≡◌, ℕ, zero, suc, ◌+◌, ◌<◌, cond, Bool, true, false, List, [], ◌∷◌, ◌++◌, length, take, map, refl, sym, ap, ◌∙◌, append_assoc, inl, inr, arith, add-one}
+use Rattle.std.proofs.Common.{◌≡◌, ◌⊎◌, ℕ, zero, suc, ◌+◌, ◌<◌, cond, Bool, true, false, List, [], ◌∷◌, ◌++◌, length, take, map, refl, sym, ap, ◌∙◌, append_assoc, inl, inr, arith, add-one}
 use Rattle.plan_ast.specs.Answer.{aggregate}
 use Rattle.std.proofs.Math.Seq.{take-suc}
 use Rattle.std.proofs.lemmas.Bool.{true≢false}
@@ -22,7 +22,8 @@ abbrev pub is_there : List Key → Key → Bool
 is_there [] k = false
 is_there (key ∷ keys) k = cond (same_key key k) true (is_there keys k)
 
-pub gathered-append : (part : ℕ) (keys more : List Key) (rows : List FoldedRow) → gathered part (keys ++ more) rows ≡ gathered part keys rows ++ gathered part more rows
+pub gathered-append : (part : ℕ) (keys more : List Key) (rows : List FoldedRow)
+    → gathered part (keys ++ more) rows ≡ gathered part keys rows ++ gathered part more rows
 gathered-append part [] more rows = refl
 gathered-append part (key ∷ keys) more rows =
     ap (λ l. cond (is_in_part part key) (rows_with key rows) [] ++ l) (gathered-append part keys more rows)
@@ -97,7 +98,8 @@ first_this part key k rows fits e = by (is_in_part part key) ∙ ap (λ x. cond 
     by false = refl
 
 gathered-cons : (part : ℕ) (key : Key) (keys : List Key) (k : Key) (rows : List FoldedRow) (first : List FoldedRow)
-    → rows_with k (cond (is_in_part part key) (rows_with key rows) []) ≡ first → rows_with k (gathered part (key ∷ keys) rows) ≡ first ++ rows_with k (gathered part keys rows)
+    → rows_with k (cond (is_in_part part key) (rows_with key rows) []) ≡ first
+    → rows_with k (gathered part (key ∷ keys) rows) ≡ first ++ rows_with k (gathered part keys rows)
 gathered-cons part key keys k rows first is =
     filter-append (λ row. same_key row.key k) (cond (is_in_part part key) (rows_with key rows) []) (gathered part keys rows)
     ∙ ap (λ l. l ++ rows_with k (gathered part keys rows)) is
@@ -138,6 +140,16 @@ part_gathered part keys rows distinct absent k = by (is_there keys k) refl
     by true there = gathered_there part keys k rows distinct there ∙ sym (with_of_part part k rows)
     by false none = gathered_absent part keys k rows none
         ∙ sym (with_of_part part k rows ∙ nothing (is_in_part part k) (absent k (is_absent keys k none)))
+
+-- of each key all rows of the part were gathered, or none
+pub gathered_some : (part : ℕ) (keys : List Key) (rows : List FoldedRow) (k : Key) → AreDistinct keys
+    → (rows_with k (gathered part keys rows) ≡ []) ⊎ (rows_with k (gathered part keys rows) ≡ rows_with k (rows_in part rows))
+gathered_some part keys rows k distinct = by (is_there keys k) refl
+  where
+    by : (b : Bool) → is_there keys k ≡ b
+        → (rows_with k (gathered part keys rows) ≡ []) ⊎ (rows_with k (gathered part keys rows) ≡ rows_with k (rows_in part rows))
+    by true there = inr (gathered_there part keys k rows distinct there ∙ sym (with_of_part part k rows))
+    by false none = inl (gathered_absent part keys k rows none)
 
 -- one key more
 pub gathered_more : (part : ℕ) (keys : List Key) (n : ℕ) (rows others : List FoldedRow) → n < length keys

@@ -37,7 +37,8 @@ an_item : {A : Type 0} (xs : List A) (n : ℕ) → n < length xs → A
 an_item [] n lt = absurd (omega arith)
 an_item (x ∷ xs) n lt = x
 
-pub column_at : (items : List Column) (a : ℕ) (d : Column) → a < length items → slice_index_or (map totals_of items) a no_totals ≡ totals_of (slice_index_or items a d)
+pub column_at : (items : List Column) (a : ℕ) (d : Column) → a < length items
+    → slice_index_or (map totals_of items) a no_totals ≡ totals_of (slice_index_or items a d)
 column_at items a d lt = get_or-map totals_of items a d no_totals lt
 
 -- a group's values were folded
@@ -58,7 +59,8 @@ puts_values keys keys' key n columns middle new values numbers is count each =
     })
 
 -- another side's totals were added
-pub puts_totals : (keys keys' others_keys : List Key) (key : Key) (n from : ℕ) (columns : List Totals) (middle new others : List Column) → Numbers keys keys' key n
+pub puts_totals : (keys keys' others_keys : List Key) (key : Key) (n from : ℕ) (columns : List Totals) (middle new others : List Column)
+    → Numbers keys keys' key n
     → map totals_of middle ≡ columns → length new ≡ length middle → length others ≡ length middle
     → ((a : ℕ) (d : Column) → a < length middle → AddsTotal n from (slice_index_or others a d) (slice_index_or middle a d) (slice_index_or new a d))
     → PutsGroup (record { keys = keys; columns = columns }) (record { keys = keys'; columns = map totals_of new }) key n
@@ -71,13 +73,15 @@ puts_totals keys keys' others_keys key n from columns middle new others numbers 
           let within : a < length middle = omega (arith, length-map middle totals_of) in
           let d = an_item middle a within in
           column_at new a d (omega arith) ∙ (each a d within).is
-          ∙ ap (λ (c : Totals). with_total c n (slice_index_or (values_of (slice_index_or others a d)) from (nothing_of (totals_of (slice_index_or others a d)))))
+          ∙ ap (λ (c : Totals). with_total c n
+          (slice_index_or (values_of (slice_index_or others a d)) from (nothing_of (totals_of (slice_index_or others a d)))))
           (sym (column_at middle a d within))
           ∙ ap (λ (c : Totals). with_total (slice_index_or (map totals_of middle) a no_totals) n (slice_index_or c.values from (nothing_of c)))
           (sym (column_at others a d (omega arith)));
     })
 
-same_funcs : (xs ys : List Totals) → length xs ≡ length ys → ((a : ℕ) → a < length ys → (slice_index_or xs a no_totals).func ≡ (slice_index_or ys a no_totals).func)
+same_funcs : (xs ys : List Totals) → length xs ≡ length ys
+    → ((a : ℕ) → a < length ys → (slice_index_or xs a no_totals).func ≡ (slice_index_or ys a no_totals).func)
     → map (λ (c : Totals). c.func) xs ≡ map (λ (c : Totals). c.func) ys
 same_funcs [] [] count each = refl
 same_funcs [] (y ∷ ys) count each = absurd (omega arith)
@@ -104,7 +108,8 @@ same_count xs ys same = sym (length-map xs totals_of) ∙ ap length same ∙ len
 pub func_same : (xs ys : List Column) (i : ℕ) (x y : Column) → map func_of xs ≡ map func_of ys → i < length xs → i < length ys
     → x ≡ slice_index_or xs i x → y ≡ slice_index_or ys i y → func_of x ≡ func_of y
 func_same xs ys i x y same lt lt' at at' =
-    ap func_of at ∙ sym (get_or-map func_of xs i x Count lt) ∙ ap (λ l. slice_index_or l i Count) same ∙ get_or-map func_of ys i y Count lt' ∙ sym (ap func_of at')
+    ap func_of at ∙ sym (get_or-map func_of xs i x Count lt) ∙ ap (λ l. slice_index_or l i Count) same ∙ get_or-map func_of ys i y Count lt'
+    ∙ sym (ap func_of at')
 
 pub map-func : (xs : List Column) → map (λ (c : Totals). c.func) (map totals_of xs) ≡ map func_of xs
 map-func [] = refl

@@ -1,6 +1,7 @@
 -- The totals of one aggregate as the code keeps them, by the number of the group. Sums wrap.
-use Rattle.std.specs.Prelude.{◌≡◌, ℕ, ℤ, ◌+◌, ◌+ℤ◌, ◌%◌, ◌^◌, ◌<◌, ◌≤◌, nat_lt, List, [], ◌∷◌, ◌++◌, Option, Some, None, map, length, slice_set, slice_index_or, vec_len, vec_capacity, if◌then◌else◌}
-use Rattle.std.specs.Int.{w128, int_wrap, int_min, int_max}
+use Rattle.std.specs.Prelude.{◌≡◌, ℕ, ℤ, ◌+◌, ◌+ℤ◌, ◌%◌, ◌^◌, ◌<◌, ◌≤◌, nat_lt, List, [], ◌∷◌, ◌++◌, Some, map, length, slice_set, slice_index_or, vec_len, vec_capacity, if◌then◌else◌}
+use Rattle.std.specs.Int.{w128, int_wrap}
+use Rattle.plan_ast.specs.Aggregates.{agg_sum}
 use Rattle.plan_ast.specs.Answer.{aggregate}
 use Rattle.plan_ast.specs.declared.queries.Func.{Func}
 use Rattle.plan_ast.specs.declared.queries.Func.TheVariants as func
@@ -23,18 +24,16 @@ count_sum a b = (a + b) % 2 ^ 64
 abbrev pub wrapped_sum : ℤ → ℤ → ℤ
 wrapped_sum a b = int_wrap w128 (a +ℤ b)
 
-abbrev pub option_both : {A : Type 0} → (A → A → A) → Option A → Option A → Option A
-option_both both None b = b
-option_both both (Some a) None = Some a
-option_both both (Some a) (Some b) = Some (both a b)
+-- a total as its type keeps it: a count in 64 bits, a sum in 128
+abbrev pub wrapped : AggValue → AggValue
+wrapped (agg_value.Count count) = agg_value.Count (count % 2 ^ 64)
+wrapped (agg_value.Sum sum) = agg_value.Sum (int_wrap w128 sum)
+wrapped (agg_value.Least least) = agg_value.Least least
+wrapped (agg_value.Greatest greatest) = agg_value.Greatest greatest
 
 -- two totals of one aggregate together
-abbrev pub merged : AggValue → AggValue → AggValue
-merged (agg_value.Count a) (agg_value.Count b) = agg_value.Count (count_sum a b)
-merged (agg_value.Sum a) (agg_value.Sum b) = agg_value.Sum (wrapped_sum a b)
-merged (agg_value.Least a) (agg_value.Least b) = agg_value.Least (option_both int_min a b)
-merged (agg_value.Greatest a) (agg_value.Greatest b) = agg_value.Greatest (option_both int_max a b)
-merged a _ = a
+abbrev pub wrapped_agg_sum : AggValue → AggValue → AggValue
+wrapped_agg_sum a b = wrapped (agg_sum a b)
 
 abbrev pub func_of : Column → Func
 func_of (Count counts) = func.Count
@@ -65,7 +64,7 @@ HasRoomFor number column = length (values_of column) ≤ number → HasRoom colu
 -- a total for the group with this number
 abbrev pub with_total : Totals → ℕ → AggValue → Totals
 with_total column number total =
-    record { func = column.func; values = put merged column.values number total }
+    record { func = column.func; values = put wrapped_agg_sum column.values number total }
 
 -- a value was folded into the total of the group with this number
 abbrev pub FoldsValue : ℕ → ℤ → Column → Column → Type 0

@@ -11,7 +11,7 @@ pub record FoldedRow : Type 0 where
   pub key : Key
   pub values : List ℤ
 
--- the key of one or two values
+-- the key of one or two values: that of one value is the pair of it and 0
 abbrev pub group_key_of : List ℤ → Key
 group_key_of values = record {
   first = slice_index_or values 0 (pos 0);

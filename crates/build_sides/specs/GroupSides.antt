@@ -1,5 +1,5 @@
 -- A group side as a map from keys to totals, and the rows that it folds.
-use Rattle.std.specs.Prelude.{◌≡◌, ℕ, pos, ◌<◌, Bool, List, [], All, map, length, filter, slice_index_or}
+use Rattle.std.specs.Prelude.{◌≡◌, ◌⊎◌, ℕ, pos, ◌<◌, Bool, List, [], ◌++◌, All, map, length, filter, slice_index_or}
 use Rattle.std.specs.Int.{w64, int_rem_euclid}
 use Rattle.std.specs.Int.RustNames.{FitsSigned}
 use Rattle.std.specs.Ordering.{int_eq}
@@ -45,6 +45,13 @@ pub record Folds (rows : List FoldedRow) (side : GroupTotals) : Type 0 where
   pub absent : (key : Key) → IsAbsent side.keys key → rows_with key rows ≡ []
   pub present : (key : Key) → rows_with key rows ≡ [] → IsAbsent side.keys key
   pub fit : All FitsRow rows
+
+-- a side folds these rows and, of each key, either all of some other rows or none
+pub record FoldsSomeKeys (rows others : List FoldedRow) (side : GroupTotals) : Type 0 where
+  pub taken : List FoldedRow
+  pub each : (key : Key)
+      → (rows_with key taken ≡ []) ⊎ (rows_with key taken ≡ rows_with key others)
+  pub folds : Folds (rows ++ taken) side
 
 -- whether a key is of this part: the Euclidean remainder of its first value by 16
 abbrev pub is_in_part : ℕ → Key → Bool

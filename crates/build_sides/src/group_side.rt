@@ -2,10 +2,11 @@
 ghost use Rattle.std.specs.Prelude.{◌≡◌, ℕ, ℤ, pos, ◌+◌, ◌^◌, ◌<◌, ◌≤◌, ◌++◌, ◌∷◌, [], All, List, map, length, slice_index_or, IfOk, OnOk, OnErr, if◌then◌else◌};
 ghost use Rattle.std.specs.Int.{w64};
 ghost use Rattle.std.specs.Int.RustNames.{FitsSigned};
+ghost use Rattle.plan_ast.specs.Bounds.{IsWithin};
 ghost use Rattle.build_sides.specs.Chains.{key_at};
 ghost use Rattle.build_sides.specs.Columns.{AddsTotal, FoldsValue, HasRoom, HasRoomFor, func_of, totals_of, values_of};
 ghost use Rattle.build_sides.specs.FoldedRows.{FoldedRow, group_key_of, row_of, rows_with, total_of};
-ghost use Rattle.build_sides.specs.GroupSides.{AreGroups, Folds, column_of, funcs_of, is_in_part, rows_in, total_at};
+ghost use Rattle.build_sides.specs.GroupSides.{AreGroups, Folds, FoldsSomeKeys, column_of, funcs_of, is_in_part, rows_in, total_at};
 ghost use Rattle.build_sides.specs.Numbered.{AreDistinct, Numbers};
 ghost use Rattle.build_sides.specs.declared.columns.Column.{Column};
 
@@ -75,7 +76,7 @@ fn number_with_room(
         return Ok(number as usize);
     }
     make_room(columns)?;
-    Ok(keys.number_of(key)? as usize)
+    Ok(keys.add(key)? as usize)
 }
 
 // Folds a value for each aggregate into the totals of a group, or begins the next group with them.
@@ -112,8 +113,8 @@ fn add_totals(columns: &mut Vec<Column>, number: usize, others: &[Column], from:
 /// The group side of a query: for each key, the totals of the rows with this key.
 ///
 /// A key belongs to one of 16 parts: the Euclidean remainder of its first value by 16. Contracts
-/// see the rows that the side folds (`Folds`). It has exactly their keys, and for each key what each
-/// aggregate makes of their values. Sums are exact for up to 2^60 rows.
+/// see the rows that the side folds (`Folds`). It has exactly their keys, and for each key what
+/// each aggregate makes of their values. Sums are exact for up to 2^60 rows.
 #[derive(Debug, Drop)]
 pub struct GroupSide {
     keys: KeyTable,
@@ -148,9 +149,9 @@ impl GroupSide {
     /// Folds a row: its key of one or two values, and a value for each aggregate, which is 0 where
     /// the aggregate counts. All keys of a side have the same number of values.
     ///
-    /// The side is unchanged if memory runs out.
+    /// The side is unchanged if memory runs out. A new group beyond 2^30 is out of memory too.
     pub fn fold_row(&mut self, key: &[i64], values: &[i64]) -> Result<(), AllocError>
-        requires some { 1 ≤ length key.now }
+        requires some { IsWithin 1 2 (length key.now) }
         requires same { length values.now ≡ length self.old.columns }
         ensures funcs { funcs_of self.new ≡ funcs_of self.old }
         ensures folds { OnOk result ((rows : List FoldedRow) → length rows < 2 ^ 60
@@ -172,6 +173,7 @@ impl GroupSide {
             length (rows_with key rows) + length (rows_with key others) ≤ 2 ^ 60
             → Folds rows self.old → Folds others other.now
             → Folds (rows ++ (if is_in_part part key then rows_with key others else [])) self.new) }
+        ensures err { OnErr result (self.new ≡ self.old) }
     {
         let key = other.keys.key(from);
         if !is_of_part(part, key) {
@@ -184,7 +186,7 @@ impl GroupSide {
 
     /// Adds the groups of one part of another side, key by key.
     ///
-    /// If memory runs out, this side has some of the other's groups: drop it.
+    /// If memory runs out, this side has taken some of these groups: drop it.
     pub fn merge_part(&mut self, part: u32, other: &GroupSide) -> Result<(), AllocError>
         requires part { part < 16 }
         requires same { funcs_of self.old ≡ funcs_of other.now }
@@ -192,6 +194,9 @@ impl GroupSide {
         ensures folds { OnOk result ((rows others : List FoldedRow)
             → length rows + length others ≤ 2 ^ 60 → Folds rows self.old → Folds others other.now
             → Folds (rows ++ rows_in part others) self.new) }
+        ensures err { OnErr result ((rows others : List FoldedRow)
+            → length rows + length others ≤ 2 ^ 60 → Folds rows self.old → Folds others other.now
+            → FoldsSomeKeys rows (rows_in part others) self.new) }
     {
         for number in 0..other.keys.len() {
             self.add_group(part, other, number)?;

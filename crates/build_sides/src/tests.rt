@@ -6,8 +6,8 @@ use std::test::Fail;
 // How many keys the crowded sides have.
 const CROWD: u32 = 20_000;
 
-// One of many keys that a new table puts into one bucket, however many buckets it has: the hash of a
-// key is its product with an odd number, folded to half its width.
+// One of many keys that a new table puts into one bucket, however many buckets it has: the hash of
+// a key is its product with an odd number, folded to half its width.
 fn crowded(number: u32) -> i64 {
     let product = u64::from(number) << 32u32 | u64::from(number);
     product.wrapping_mul(0xf1de_83e1_9937_733d).cast_signed()

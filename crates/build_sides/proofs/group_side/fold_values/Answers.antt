@@ -15,7 +15,8 @@ loop-place-preserved c =
     let fits : FitsSigned w64 (slice_index_or c.args.values.now c.loop-place.place (pos 0)) = search rules in
     record {
       count = length-set now i c.fold.new.self ∙ c.loop-place.invariant.count;
-      done = done_more (λ k d a b. FoldsValue c.args.number (slice_index_or values k (pos 0)) a b) columns now i c.index_mut.result.now c.fold.new.self (omega arith)
+      done = done_more (λ k d a b. FoldsValue c.args.number (slice_index_or values k (pos 0)) a b) columns now i c.index_mut.result.now c.fold.new.self
+          (omega arith)
           c.loop-place.invariant.done c.loop-place.invariant.rest c.index_mut.ensures.value
           (λ d. rw (to_z-of_z w64 (slice_index_or values i (pos 0)) fits) at c.fold.ensures);
       rest = rest_less columns now i c.fold.new.self c.loop-place.invariant.rest;

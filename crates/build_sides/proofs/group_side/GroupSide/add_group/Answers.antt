@@ -34,7 +34,8 @@ invariant_of-self-2 c =
     let count : length others ≡ length c.number_with_room.new.columns.items =
     totals_count c.number_with_room.new.columns.items c.self.inside.columns.items others c.in_ok-number.ensures.same
     (rw (← c.self.view_is, ← c.other.view_is) at c.requires.same) in
-    groups_more (record { keys = c.self.inside.keys; columns = old }) (record { keys = c.number_with_room.new.keys; columns = map totals_of c.add_totals.new.columns.items })
+    groups_more (record { keys = c.self.inside.keys; columns = old })
+    (record { keys = c.number_with_room.new.keys; columns = map totals_of c.add_totals.new.columns.items })
     key n (λ a. total_at (record { keys = c.other.inside.keys; columns = map totals_of others }) a c.args.from) c.self.invariant
     (puts_totals c.self.inside.keys c.number_with_room.new.keys c.other.inside.keys key n c.args.from old c.number_with_room.new.columns.items
     c.add_totals.new.columns.items others (rw c.key-key.ensures at c.in_ok-number.ensures.numbers) c.in_ok-number.ensures.same c.add_totals.ensures.count
@@ -50,7 +51,8 @@ returns-clause-funcs c =
     totals_count c.number_with_room.new.columns.items c.self.inside.columns.items others c.in_ok-number.ensures.same
     (rw (← c.self.view_is, ← c.other.view_is) at c.requires.same) in
     rw (← c.self.view_is) (
-    funcs_stay (record { keys = c.self.inside.keys; columns = old }) (record { keys = c.number_with_room.new.keys; columns = map totals_of c.add_totals.new.columns.items })
+    funcs_stay (record { keys = c.self.inside.keys; columns = old })
+    (record { keys = c.number_with_room.new.keys; columns = map totals_of c.add_totals.new.columns.items })
     key n (λ a. total_at (record { keys = c.other.inside.keys; columns = map totals_of others }) a c.args.from)
     (puts_totals c.self.inside.keys c.number_with_room.new.keys c.other.inside.keys key n c.args.from old c.number_with_room.new.columns.items
     c.add_totals.new.columns.items others (rw c.key-key.ensures at c.in_ok-number.ensures.numbers) c.in_ok-number.ensures.same c.add_totals.ensures.count
@@ -71,7 +73,8 @@ returns-clause-folds c =
     let same : map (λ (x : Totals). x.func) old ≡ map (λ (x : Totals). x.func) (map totals_of others) =
     rw (← c.self.view_is, ← c.other.view_is) at c.requires.same in
     rw (← c.self.view_is, ← c.other.view_is) (λ rows more few folds of_other. rw part (
-    folds_group (record { keys = c.self.inside.keys; columns = old }) (record { keys = c.number_with_room.new.keys; columns = map totals_of c.add_totals.new.columns.items })
+    folds_group (record { keys = c.self.inside.keys; columns = old })
+    (record { keys = c.number_with_room.new.keys; columns = map totals_of c.add_totals.new.columns.items })
     (record { keys = c.other.inside.keys; columns = map totals_of others }) n c.args.from rows more c.self.invariant c.other.invariant lt same
     (puts_totals c.self.inside.keys c.number_with_room.new.keys c.other.inside.keys key n c.args.from old c.number_with_room.new.columns.items
     c.add_totals.new.columns.items others (rw c.key-key.ensures at c.in_ok-number.ensures.numbers) c.in_ok-number.ensures.same c.add_totals.ensures.count

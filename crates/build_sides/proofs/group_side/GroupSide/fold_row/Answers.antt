@@ -16,7 +16,8 @@ invariant_of-self-2 c =
     let old = map totals_of c.self.inside.columns.items in
     let key = c.group_key.result in
     let n = c.in_ok-number.number in
-    groups_more (record { keys = c.self.inside.keys; columns = old }) (record { keys = c.number_with_room.new.keys; columns = map totals_of c.fold_values.new.columns.items })
+    groups_more (record { keys = c.self.inside.keys; columns = old })
+    (record { keys = c.number_with_room.new.keys; columns = map totals_of c.fold_values.new.columns.items })
     key n (λ a. aggregate (slice_index_or old a no_totals).func (slice_index_or c.args.values.now a (pos 0) ∷ [])) c.self.invariant
     (puts_values c.self.inside.keys c.number_with_room.new.keys key n old c.number_with_room.new.columns.items c.fold_values.new.columns.items c.args.values.now
     c.in_ok-number.ensures.numbers c.in_ok-number.ensures.same c.fold_values.ensures.count c.fold_values.ensures.each)
@@ -27,7 +28,8 @@ returns-clause-funcs c =
     let key = c.group_key.result in
     let n = c.in_ok-number.number in
     rw (← c.self.view_is) (
-    funcs_stay (record { keys = c.self.inside.keys; columns = old }) (record { keys = c.number_with_room.new.keys; columns = map totals_of c.fold_values.new.columns.items })
+    funcs_stay (record { keys = c.self.inside.keys; columns = old })
+    (record { keys = c.number_with_room.new.keys; columns = map totals_of c.fold_values.new.columns.items })
     key n (λ a. aggregate (slice_index_or old a no_totals).func (slice_index_or c.args.values.now a (pos 0) ∷ []))
     (puts_values c.self.inside.keys c.number_with_room.new.keys key n old c.number_with_room.new.columns.items c.fold_values.new.columns.items c.args.values.now
     c.in_ok-number.ensures.numbers c.in_ok-number.ensures.same c.fold_values.ensures.count c.fold_values.ensures.each))
@@ -38,7 +40,8 @@ returns-clause-folds c =
     let key = group_key_of c.args.key.now in
     let n = c.in_ok-number.number in
     rw (← c.self.view_is) (λ rows few folds.
-    folds_row (record { keys = c.self.inside.keys; columns = old }) (record { keys = c.number_with_room.new.keys; columns = map totals_of c.fold_values.new.columns.items })
+    folds_row (record { keys = c.self.inside.keys; columns = old })
+    (record { keys = c.number_with_room.new.keys; columns = map totals_of c.fold_values.new.columns.items })
     key n c.args.values.now rows c.self.invariant
     (puts_values c.self.inside.keys c.number_with_room.new.keys key n old c.number_with_room.new.columns.items c.fold_values.new.columns.items c.args.values.now
     (rw c.group_key.ensures at c.in_ok-number.ensures.numbers) c.in_ok-number.ensures.same c.fold_values.ensures.count c.fold_values.ensures.each)

@@ -1,13 +1,17 @@
 // Worked rows, and keys that all fall into one bucket.
+ghost use Rattle.std.specs.Prelude.{◌≡◌, ◌∷◌, [], IfOk};
+ghost use Rattle.build_sides.specs.GroupSides.{funcs_of};
 
 use super::*;
+use plan_ast::{AggValue, Func};
+use std::process::Abort;
 use std::test::Fail;
 
 // How many keys the crowded sides have.
 const CROWD: u32 = 20_000;
 
-// One of many keys that a new table puts into one bucket, however many buckets it has: the hash of
-// a key is its product with an odd number, folded to half its width.
+// One of many keys that a new table puts into one bucket, however many buckets it has: a key's hash
+// is its product with an odd number, folded to half its width.
 fn crowded(number: u32) -> i64 {
     let product = u64::from(number) << 32u32 | u64::from(number);
     product.wrapping_mul(0xf1de_83e1_9937_733d).cast_signed()
@@ -53,5 +57,106 @@ fn finds_the_rows_of_crowded_keys(rt: HostRuntime) -> Result<(), Fail> {
         assert!(rt; side.matches(crowded(row)) == [row].as_slice(), "at {row}");
     }
     assert!(rt; side.matches(crowded(CROWD)).is_empty());
+    Ok(())
+}
+
+// A side that counts, sums, and takes the least value and the greatest one.
+fn groups(rt: &(impl Abort + AllocGlobal)) -> Result<GroupSide, Fail>
+    ensures { IfOk result (λ side. funcs_of side
+        ≡ Func.Count ∷ Func.Sum ∷ Func.Min ∷ Func.Max ∷ []) }
+{
+    let aggs = vec![in rt.alloc(); Func::Count, Func::Sum, Func::Min, Func::Max]?;
+    Ok(GroupSide::new(rt.alloc(), aggs)?)
+}
+
+// Folds a row of this key, with one value for all aggregates.
+fn fold(
+    rt: &(impl Abort + AllocGlobal),
+    side: &mut GroupSide,
+    key: &[i64],
+    value: i64,
+) -> Result<(), Fail>
+    ensures { funcs_of side.new ≡ funcs_of side.old }
+{
+    assert!(rt; 1 <= key.len());
+    assert!(rt; key.len() <= 2);
+    assert!(rt; side.aggregates() == 4);
+    side.fold_row(key, &[0, value, value, value])?;
+    Ok(())
+}
+
+// A total as a number, none if it is of nothing.
+fn value_of(total: AggValue) -> Option<i128> {
+    match total {
+        AggValue::Count(count) => Some(i128::from(count)),
+        AggValue::Sum(sum) => Some(sum),
+        AggValue::Least(Some(value)) | AggValue::Greatest(Some(value)) => Some(i128::from(value)),
+        _ => None,
+    }
+}
+
+// A group's total that the aggregate at this place makes.
+fn total(
+    rt: &(impl Abort + AllocGlobal),
+    side: &GroupSide,
+    number: usize,
+    place: usize,
+) -> Option<i128> {
+    assert!(rt; number < side.len());
+    assert!(rt; place < side.aggregates());
+    value_of(side.total(number, place))
+}
+
+// Whether a group has these totals: its count, its sum, its least value and its greatest one.
+fn has(
+    rt: &(impl Abort + AllocGlobal),
+    side: &GroupSide,
+    number: usize,
+    totals: (i128, i128, i128, i128),
+) -> bool {
+    let (count, sum, least, greatest) = totals;
+    total(rt, side, number, 0) == Some(count)
+        && total(rt, side, number, 1) == Some(sum)
+        && total(rt, side, number, 2) == Some(least)
+        && total(rt, side, number, 3) == Some(greatest)
+}
+
+#[test]
+fn totals_by_their_key(rt: HostRuntime) -> Result<(), Fail> {
+    let mut side = groups(&rt)?;
+    fold(&rt, &mut side, &[1], 10)?;
+    fold(&rt, &mut side, &[-1], i64::MIN)?;
+    fold(&rt, &mut side, &[1], 20)?;
+    fold(&rt, &mut side, &[-1], i64::MIN)?;
+    assert!(rt; side.len() == 2);
+    assert!(rt; has(&rt, &side, 0, (2, 30, 10, 20)));
+    let least = i128::from(i64::MIN);
+    assert!(rt; has(&rt, &side, 1, (2, 2 * least, least, least)));
+    Ok(())
+}
+
+#[test]
+fn keys_of_two_values_differ_in_either(rt: HostRuntime) -> Result<(), Fail> {
+    let mut side = groups(&rt)?;
+    fold(&rt, &mut side, &[1, 2], 10)?;
+    fold(&rt, &mut side, &[2, 1], 20)?;
+    fold(&rt, &mut side, &[1, 1], 30)?;
+    fold(&rt, &mut side, &[1, 2], 40)?;
+    assert!(rt; side.len() == 3);
+    assert!(rt; has(&rt, &side, 0, (2, 50, 10, 40)));
+    Ok(())
+}
+
+#[test]
+fn merges_the_groups_of_a_part(rt: HostRuntime) -> Result<(), Fail> {
+    let mut one = groups(&rt)?;
+    fold(&rt, &mut one, &[17], 10)?;
+    fold(&rt, &mut one, &[2], 5)?;
+    let mut other = groups(&rt)?;
+    fold(&rt, &mut other, &[17], -20)?;
+    one.merge_part(2, &other)?;
+    assert!(rt; has(&rt, &one, 0, (1, 10, 10, 10)));
+    one.merge_part(1, &other)?;
+    assert!(rt; has(&rt, &one, 0, (2, -10, -20, 10)));
     Ok(())
 }

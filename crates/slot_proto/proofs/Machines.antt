@@ -1,20 +1,17 @@
 -- One step of the machine of words, whatever the call.
-use Rattle.std.proofs.Common.{◌≡◌, ℕ, ◌<◌, List, [], ◌∷◌, length, get_or, replicate, Some, slice_get, slice_index, slice_set, refl, sym, ap, ap₂, ◌∙◌, subst, length-set, arith}
+use Rattle.std.proofs.Common.{◌≡◌, ℕ, ◌<◌, List, [], ◌∷◌, length, get_or, replicate, Some, slice_get, slice_index, slice_set, refl, sym, ap, ap₂, ◌∙◌, subst, arith}
 use Rattle.std.proofs.lemmas.List.{length-replicate}
 use Rattle.std.proofs.lemmas.Option.{get_or_from_slice_get, slice_get-get_or}
-use mathlib.Core.Logic.{dite}
-use native.Mathlib.Decide.{ℕ_discrete}
 use Rattle.slot_history.specs.declared.shape.Shape.{Shape}
 use Rattle.slot_history.specs.declared.act.Act.{Act}
 use Rattle.slot_history.specs.declared.place.Place.{Place}
 use Rattle.slot_history.specs.declared.place.Place.TheVariants.{Free}
-use Rattle.slot_history.specs.Sets.{upd}
 use Rattle.slot_history.specs.States.{ObjectState}
 use Rattle.slot_history.specs.Steps.{moved}
 use Rattle.slot_history.specs.Bounds.{IsShape, IsPlaceWithin}
 use Rattle.slot_history.specs.Histories.{IsLegal, entry}
 use Rattle.slot_history.specs.Calls.{Call}
-use Rattle.slot_history.proofs.Sets.{upd-same, upd-else}
+use Rattle.slot_history.proofs.Sets.{upd-same}
 use Rattle.slot_history.proofs.Within.{within}
 use Rattle.slot_station.specs.declared.log.Logged.{Logged}
 use Rattle.slot_station.specs.Log.{calls_of, call}
@@ -22,7 +19,7 @@ use Rattle.one_thread.specs.Stories.{Story, MayMake, MakesCall, state_in, place_
 use Rattle.one_thread.proofs.Places.{places-set}
 use Rattle.slot_station.specs.Places.{IsCounted}
 use Rattle.slot_station.proofs.PlaceCounts as counts
-use Rattle.slot_station.proofs.Lists.{get-replicate, get-set_same, get-set_other}
+use Rattle.slot_station.proofs.Lists.{get-replicate}
 use Rattle.slot_words.specs.declared.address.Address.{Address}
 use Rattle.slot_words.specs.Addresses.{index}
 use Rattle.slot_words.specs.Steps.{address_of, change_of, answer_of}

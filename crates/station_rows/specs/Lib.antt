@@ -1,1 +1,2 @@
+-- What the contracts of worked rows cite: the totals of the task sets that they play.
 pub mod Played

@@ -1,4 +1,4 @@
-//! A form of the slot object: it makes a table and seats a worker at it.
+//! A form of the slot object: it makes a table, and each call of a worker at it.
 use crate::player::call;
 use crate::worker_calls::{Hand, Piece, Sets};
 use one_thread::object::SlotObject;
@@ -8,6 +8,7 @@ use slot_history::act::Act;
 use slot_proto::machine::Machine;
 use slot_station::reply::MakeRefusal;
 use slot_station::steps::Steps;
+use slot_words::address::{Address, index};
 use std::alloc::Global;
 use std::process::Abort;
 use std::snapshot::Snapshot;
@@ -59,7 +60,7 @@ impl ShowsCounter for PlainObject {
 impl ShowsCounter for Machine {
     fn counter(&self, rt: &impl Abort, slot: u32) -> Option<u64> {
         let words = self.words();
-        let at = 5 + 3 * slot as usize;
+        let at = index(&self.shape(), Address::CounterOf(slot));
         assert!(rt; at < words.len());
         Some(words[at])
     }

@@ -1,5 +1,4 @@
-use Rattle.std.proofs.Common.{◌≡◌, inr, refl, sym, ap, ◌∙◌, subst, false, IfSome}
-use Rattle.slot_history.specs.declared.place.Place.TheVariants.{Holding}
+use Rattle.std.proofs.Common.{◌≡◌, inr, sym, ap, ◌∙◌, subst, false, IfSome}
 use Rattle.slot_history.specs.States.{has_cell}
 use Rattle.slot_station.specs.Cells.{NoteSays}
 use Rattle.slot_station.specs.Desks.{Exchanges}

@@ -1,6 +1,5 @@
-use Rattle.std.proofs.Common.{◌≡◌, ◌<◌, sym, ap, ap₂, ◌∙◌, subst, arith}
+use Rattle.std.proofs.Common.{sym, ap, ap₂, ◌∙◌, subst, arith}
 use Rattle.slot_history.specs.declared.place.Place.TheVariants.{Asking}
-use Rattle.slot_history.specs.States.{slot_of, id_at}
 use Rattle.slot_station.specs.Desks.{Makes}
 use Rattle.slot_station.specs.Places.{IsCounted}
 use Rattle.slot_station.specs.Tokens.{IsCoordinator}

@@ -1,8 +1,8 @@
-use Rattle.std.proofs.Common.{◌≡◌, refl, sym, ap, ap₂, ◌∙◌, subst}
+use Rattle.std.proofs.Common.{sym, ap, ap₂, ◌∙◌, subst}
 use Rattle.slot_station.specs.Desks.{Makes}
-use Rattle.board_rule.specs.Passes.{seen_of, shape_of}
+use Rattle.board_rule.specs.Passes.{seen_of}
 use Rattle.board_rule.specs.Steps.{MayMake}
-use Rattle.board_rule.proofs.Callers.{counted, placed, brings, new-place, token-of, told-done}
+use Rattle.board_rule.proofs.Callers.{counted, placed, brings}
 use Rattle.slot_history.specs.declared.act.Act.TheVariants.{Install}
 use Rattle.slot_history.specs.Allowed.{IsReady}
 use Rattle.slot_history.specs.Calls.{Installing}

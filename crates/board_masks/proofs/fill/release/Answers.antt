@@ -1,8 +1,5 @@
-use Rattle.std.proofs.Common.{◌≡◌, ◌<◌, ⊎_elim, inl, inr, refl, sym, ap, ◌∙◌, subst}
-use Rattle.slot_station.specs.Desks.{Makes}
-use Rattle.board_rule.specs.Passes.{seen_of, shape_of}
-use Rattle.board_rule.specs.Steps.{MayMake}
-use Rattle.board_rule.proofs.Callers.{counted, placed, brings, new-place, token-of, told-done}
+use Rattle.std.proofs.Common.{◌<◌, ⊎_elim, inl, inr, refl, ap, subst}
+use Rattle.board_rule.proofs.Callers.{counted, placed}
 use Rattle.slot_history.specs.States.{held_at}
 use Rattle.slot_words.specs.declared.address.Address.TheVariants.{StateOf}
 use Rattle.board_masks.proofs.fill.release.Goals as goal

@@ -1,8 +1,7 @@
-use Rattle.std.proofs.Common.{refl, sym, ap, ◌∙◌, subst}
+use Rattle.std.proofs.Common.{sym, ◌∙◌, subst}
 use Rattle.slot_station.specs.Desks.{Makes}
 use Rattle.board_rule.specs.Passes.{seen_of, shape_of}
-use Rattle.board_rule.specs.Steps.{MayMake}
-use Rattle.board_rule.proofs.Callers.{counted, placed, brings, new-place, token-of, told-done}
+use Rattle.board_rule.proofs.Callers.{counted, placed, brings}
 use Rattle.slot_station.specs.Tokens.{ReserveGives}
 use Rattle.board_masks.proofs.fill.reserve.Goals as goal
 

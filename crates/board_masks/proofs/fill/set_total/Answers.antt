@@ -1,8 +1,8 @@
-use Rattle.std.proofs.Common.{◌≡◌, ◌≤◌, refl, sym, ap, ◌∙◌, subst}
+use Rattle.std.proofs.Common.{sym, ap, ◌∙◌, subst}
 use Rattle.slot_station.specs.Desks.{Makes}
 use Rattle.board_rule.specs.Passes.{seen_of, shape_of}
 use Rattle.board_rule.specs.Steps.{MayMake}
-use Rattle.board_rule.proofs.Callers.{counted, placed, brings, new-place, token-of, told-done}
+use Rattle.board_rule.proofs.Callers.{counted, placed, new-place, token-of}
 use Rattle.slot_history.specs.declared.act.Act.TheVariants.{SetTotal}
 use Rattle.slot_history.specs.Calls.{SettingTotal}
 use Rattle.slot_station.specs.Tokens.{IsHolder}

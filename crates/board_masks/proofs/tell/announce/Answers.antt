@@ -1,8 +1,6 @@
-use Rattle.std.proofs.Common.{◌≡◌, ◌<◌, ◌+◌, refl, sym, ap, ◌∙◌, subst, bit_or}
-use Rattle.slot_station.specs.Desks.{Makes}
-use Rattle.board_rule.specs.Passes.{seen_of, shape_of}
-use Rattle.board_rule.specs.Steps.{MayMake}
-use Rattle.board_rule.proofs.Callers.{counted, placed, brings, new-place, token-of, told-done}
+use Rattle.std.proofs.Common.{◌+◌, refl, ap, bit_or}
+use Rattle.board_rule.specs.Passes.{shape_of}
+use Rattle.board_rule.proofs.Callers.{counted, placed, new-place, token-of, told-done}
 use Rattle.slot_station.specs.Tokens.{IsAnnouncer}
 use Rattle.slot_station.proofs.TokensKept.{tell-holds}
 use Rattle.slot_history.specs.Allowed.{bit_of}

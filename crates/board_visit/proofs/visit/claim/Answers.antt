@@ -1,8 +1,7 @@
-use Rattle.std.proofs.Common.{◌≤◌, refl, sym, ap, ◌∙◌, subst}
+use Rattle.std.proofs.Common.{sym, ap, ◌∙◌, subst}
 use Rattle.slot_history.specs.Calls.{Claiming}
 use Rattle.slot_station.specs.Desks.{Makes}
 use Rattle.slot_station.specs.Tokens.{ClaimGives}
-use Rattle.slot_station.specs.Replies.{claim_act}
 use Rattle.slot_station.proofs.Follows.{range-cut, range-past}
 use Rattle.slot_words.specs.Steps.{claim_answer}
 use Rattle.slot_words.specs.declared.address.Address.TheVariants.{CursorOf}

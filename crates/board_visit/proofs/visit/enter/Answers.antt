@@ -1,8 +1,8 @@
-use Rattle.std.proofs.Common.{◌≡◌, ◌<◌, refl, sym, ap, ◌∙◌, subst, arith}
+use Rattle.std.proofs.Common.{sym, ap, ◌∙◌, subst}
 use Rattle.slot_history.specs.declared.act.Act.TheVariants.{Enter}
 use Rattle.slot_history.specs.Calls.{Entering}
 use Rattle.slot_station.specs.Desks.{Makes}
-use Rattle.slot_words.specs.Encodings.{at_word, slot_in}
+use Rattle.slot_words.specs.Encodings.{at_word}
 use Rattle.board_rule.specs.Passes.{seen_of}
 use Rattle.board_rule.specs.Steps.{MayMake}
 use Rattle.board_rule.proofs.Callers.{counted, placed, slot-read}

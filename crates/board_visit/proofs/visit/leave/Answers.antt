@@ -1,4 +1,4 @@
-use Rattle.std.proofs.Common.{refl, sym, ap, ◌∙◌, subst}
+use Rattle.std.proofs.Common.{sym, ◌∙◌, subst}
 use Rattle.slot_station.specs.Desks.{Makes}
 use Rattle.slot_station.specs.Tokens.{LeaveGives}
 use Rattle.slot_station.proofs.Follows.{owes-task_set, coordinator-left}

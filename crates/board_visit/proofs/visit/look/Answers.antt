@@ -1,4 +1,4 @@
-use Rattle.std.proofs.Common.{refl, sym, ap, ◌∙◌, subst}
+use Rattle.std.proofs.Common.{sym, ap, ◌∙◌, subst}
 use Rattle.slot_station.specs.Desks.{Makes}
 use Rattle.slot_station.proofs.Follows.{sees-task_set}
 use Rattle.slot_words.specs.declared.address.Address.TheVariants.{StateOf}

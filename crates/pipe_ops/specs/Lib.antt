@@ -2,3 +2,4 @@ pub mod Folding
 pub mod Grouping
 pub mod Joining
 pub mod Placed
+pub mod Taking

@@ -10,6 +10,7 @@
 mod aggregates;
 mod groups;
 mod joins;
+mod outputs;
 mod plain;
 mod rows;
 

@@ -15,7 +15,8 @@ pub length-values_of : (columns : List (Vec ℤ)) → length (values_of columns)
 length-values_of columns = length-map columns (λ values. values.items)
 
 -- the values of a column
-pub get_or-values_of : (columns : List (Vec ℤ)) (column : ℕ) (d : Vec ℤ) → column < length columns → get_or (values_of columns) column [] ≡ (get_or columns column d).items
+pub get_or-values_of : (columns : List (Vec ℤ)) (column : ℕ) (d : Vec ℤ) → column < length columns → get_or (values_of columns) column [] ≡
+    (get_or columns column d).items
 get_or-values_of columns column d h = get_or-map (λ values. values.items) columns column d [] h
 
 -- a column with the same values leaves all values as they were
@@ -34,16 +35,19 @@ length-rows_stored fields = length-rows_across (values_of fields.columns.items) 
 pub IsTable-from_stored : (fields : Inside) → IsStored fields → IsTable (table_stored fields)
 IsTable-from_stored fields stored = record {
   heading = stored.heading;
-  widths = widths-rows_across (values_of fields.columns.items) fields.row_count (length fields.names.items) (length-values_of fields.columns.items ∙ stored.columns);
+  widths = widths-rows_across (values_of fields.columns.items) fields.row_count (length fields.names.items)
+      (length-values_of fields.columns.items ∙ stored.columns);
   few = omega (arith, stored.few, length-rows_stored fields);
 }
 
 -- each column has one value a row
-pub height_stored : (fields : Inside) → IsStored fields → (column : ℕ) → column < length fields.columns.items → length (get_or (values_of fields.columns.items) column []) ≡ fields.row_count
+pub height_stored : (fields : Inside) → IsStored fields → (column : ℕ) → column < length fields.columns.items → length
+    (get_or (values_of fields.columns.items) column []) ≡ fields.row_count
 height_stored fields stored column h = stored.heights column [] (omega (arith, length-values_of fields.columns.items))
 
 -- a column of the table is the column that is stored
-pub column_of-stored : (fields : Inside) → IsStored fields → (column : ℕ) → column < length fields.columns.items → column_of (table_stored fields) column ≡ get_or (values_of fields.columns.items) column []
+pub column_of-stored : (fields : Inside) → IsStored fields → (column : ℕ) → column < length fields.columns.items → column_of (table_stored fields)
+    column ≡ get_or (values_of fields.columns.items) column []
 column_of-stored fields stored column h =
     let height = height_stored fields stored column h in
     column-rows_across (values_of fields.columns.items) column fields.row_count (omega (arith, length-values_of fields.columns.items)) (omega arith)
@@ -54,7 +58,8 @@ abbrev pub pushed : Inside → Vec (Vec ℤ) → Inside
 pushed fields columns = record { names = fields.names; columns = columns; row_count = fields.row_count + 1 }
 
 -- they are a table's again
-pub IsStored-pushed : (fields : Inside) (columns : Vec (Vec ℤ)) (row : List ℤ) → IsStored fields → IsExtended (values_of fields.columns.items) (values_of columns.items) row → fields.row_count ≢ MAX_ROWS
+pub IsStored-pushed : (fields : Inside) (columns : Vec (Vec ℤ)) (row : List ℤ) → IsStored fields → IsExtended (values_of fields.columns.items)
+    (values_of columns.items) row → fields.row_count ≢ MAX_ROWS
     → IsStored (pushed fields columns)
 IsStored-pushed fields columns row stored e room = record {
   heading = stored.heading;
@@ -66,7 +71,8 @@ IsStored-pushed fields columns row stored e room = record {
 }
 
 -- and that table has one more row
-pub table_stored-pushed : (fields : Inside) (columns : Vec (Vec ℤ)) (row : List ℤ) → IsStored fields → IsExtended (values_of fields.columns.items) (values_of columns.items) row
+pub table_stored-pushed : (fields : Inside) (columns : Vec (Vec ℤ)) (row : List ℤ) → IsStored fields → IsExtended (values_of fields.columns.items)
+    (values_of columns.items) row
     → length row ≡ length fields.names.items → table_stored (pushed fields columns) ≡ with_row (table_stored fields) row
 table_stored-pushed fields columns row stored e width =
     ap (λ rows. record { names = fields.names.items; rows = rows }) (

@@ -3,7 +3,8 @@ use Rattle.std.specs.Prelude.{ℕ, ◌≡◌, ◌<◌, ◌≤◌, List, length}
 use Rattle.col_table.specs.NamedRows.{IsHeading, IsFirstTwice}
 use Rattle.col_table.specs.declared.table.TheConstants.{MAX_COLUMNS}
 use Rattle.col_table.specs.declared.table.ShapeRefusal.{ShapeRefusal}
-use Rattle.col_table.specs.declared.table.ShapeRefusal.TheVariants.{NoColumns, TooManyColumns, TwiceNamed, OutOfMemory}
+use Rattle.col_table.specs.declared.table.ShapeRefusal.TheVariants.{NoColumns, TooManyColumns}
+use Rattle.col_table.specs.declared.table.ShapeRefusal.TheVariants.{TwiceNamed, OutOfMemory}
 
 -- why names can't head a table: the first cause, in the order of the cases
 abbrev pub RefusesHeading : List (List ℕ) → ShapeRefusal → Type 0

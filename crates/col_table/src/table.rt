@@ -1,7 +1,9 @@
 // Tables of integers, stored column by column.
-ghost use Rattle.std.specs.Prelude.{◌≡◌, ◌<◌, ◌≤◌, ◌↔◌, [], All, Contains, IfErr, IfOk, IsErrOf, MatchOption, OnErr, OnOk, Some, length, slice_get};
+ghost use Rattle.std.specs.Prelude.{◌≡◌, ◌<◌, ◌≤◌, ◌↔◌, [], All, Contains, IfErr, IfOk, IsErrOf};
+ghost use Rattle.std.specs.Prelude.{MatchOption, OnErr, OnOk, Some, length, slice_get};
 ghost use Rattle.col_table.specs.Columns.{HasRoom, IsExtended, rows_across, values_of};
-ghost use Rattle.col_table.specs.NamedRows.{AllDiffer, IsFirstTwice, IsHeading, IsTable, column_of, no_rows, value_at, with_row};
+ghost use Rattle.col_table.specs.NamedRows.{AllDiffer, IsFirstTwice, IsHeading, IsTable, column_of};
+ghost use Rattle.col_table.specs.NamedRows.{no_rows, value_at, with_row};
 ghost use Rattle.col_table.specs.Refusals.{RefusesHeading, RefusesNames};
 
 use crate::name::{ColumnName, MAX_NAME_BYTES};
@@ -113,8 +115,8 @@ impl Table {
 
     /// The table with these names and these columns. Each column has one value for each row.
     ///
-    /// The refusals are those of `new` but `OutOfMemory`, since the call doesn't allocate. A refusal
-    /// drops the names and the columns.
+    /// The refusals are those of `new` but `OutOfMemory`, since the call doesn't allocate. A
+    /// refusal drops the names and the columns.
     pub fn from_columns(
         names: Vec<ColumnName>,
         columns: Vec<Vec<i64>>,

@@ -1,9 +1,11 @@
 -- The size of the next morsel, by the pace of those before it.
-use Rattle.std.specs.Prelude.{ℕ, List, ◌+◌, ◌-◌, ◌*◌, ◌/◌, ◌^◌, ◌≤◌, min, max, fold, nat_lt, nat_le, if◌then◌else◌}
+use Rattle.std.specs.Prelude.{ℕ, List, ◌+◌, ◌-◌, ◌*◌, ◌/◌, ◌^◌, ◌≤◌, min, max, fold, nat_lt, nat_le}
+use Rattle.std.specs.Prelude.{if◌then◌else◌}
 use Rattle.std.specs.Int.{div_ceil}
 use Rattle.morsel_size.specs.declared.Pace.{Pace}
 use Rattle.morsel_size.specs.declared.Pace.TheVariants.{Startup, Measured}
-use Rattle.morsel_size.specs.declared.TheConstants.{FIRST_SIZE, LARGEST_SIZE, STARTUP_NS, PARTS_PER_NS, DEFAULT_TIME, SHUTDOWN_TIME}
+use Rattle.morsel_size.specs.declared.TheConstants.{FIRST_SIZE, LARGEST_SIZE, STARTUP_NS}
+use Rattle.morsel_size.specs.declared.TheConstants.{PARTS_PER_NS, DEFAULT_TIME, SHUTDOWN_TIME}
 
 -- what contracts see of a `Sizer`: how many workers share the task set, and the pace so far
 pub record Sizing : Type 0 where
@@ -14,7 +16,8 @@ pub record Sizing : Type 0 where
 abbrev pub time_per_tuple : ℕ → ℕ → ℕ
 time_per_tuple tuples ns = div_ceil (ns * PARTS_PER_NS) tuples
 
--- an estimate that takes in the latest time per tuple: four fifths of it, and a fifth of the estimate before
+-- an estimate that takes in the latest time per tuple: four fifths of it, and a fifth of the
+-- estimate before
 abbrev pub blend_of : ℕ → ℕ → ℕ
 blend_of latest estimate = max 1 ((4 * latest + estimate) / 5)
 
@@ -41,7 +44,8 @@ abbrev pub measured_size : ℕ → ℕ → ℕ → ℕ
 measured_size workers estimate rest =
     if nat_le (workers * default_size estimate) rest
     then default_size estimate
-    else min (default_size estimate) (max 1 (max (SHUTDOWN_TIME / estimate) (div_ceil rest workers)))
+    else min (default_size estimate)
+    (max 1 (max (SHUTDOWN_TIME / estimate) (div_ceil rest workers)))
 
 -- the size of the next morsel where so many tuples rest
 abbrev pub size_at : ℕ → Pace → ℕ → ℕ

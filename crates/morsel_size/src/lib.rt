@@ -1,14 +1,15 @@
 //! The sizes of morsels: how many tuples of a task set a worker takes at once.
 //!
-//! A `Sizer` belongs to one worker and one task set. In startup nothing is known of the pace, and the
-//! sizes double from 16 tuples until a morsel takes a millisecond. Then an estimate of the time per
-//! tuple sets the default size, which aims at 2,000,000 nanoseconds a morsel. Near the end of the task
-//! set, in shutdown, the workers share the tuples that rest, so that they end at about the same time.
-//! All this is after the idea of Wagner, Kohn and Neumann, "Self-Tuning Query Scheduling for Analytical
-//! Workloads" (SIGMOD 2021); the phases and the numbers are this project's own.
+//! A `Sizer` belongs to one worker and one task set. In startup nothing is known of the pace, and
+//! the sizes double from 16 tuples until a morsel takes a millisecond. Then an estimate of the time
+//! per tuple sets the default size, which aims at 2,000,000 nanoseconds a morsel. Near the end of
+//! the task set, in shutdown, the workers share the tuples that rest, so that they end at about the
+//! same time. All this is after the idea of Wagner, Kohn and Neumann, "Self-Tuning Query Scheduling
+//! for Analytical Workloads" (SIGMOD 2021); the phases and the numbers are this project's own.
 //!
-//! The layer stands on no other. The one fact for the layer above: `next` is `size_of` of the morsels
-//! taken so far, the tuples of the task set, the end of the last range and the number of workers.
+//! The layer stands on no other. The one fact for the layer above: `next` is `size_of` of the
+//! morsels taken so far, the tuples of the task set, the end of the last range and the number of
+//! workers.
 //!
 //! An example, which is proved beside the tests: a morsel of 10,000 tuples in a millisecond ends
 //! startup, and from then on a morsel is to have the 20,000 tuples that take two.
@@ -25,7 +26,8 @@
 #![tactic(auto)]
 
 ghost use Rattle.std.specs.Prelude.{◌≡◌, ℕ, List, [], ◌∷◌, ◌++◌, ◌-◌, ◌^◌, ◌<◌, ◌≤◌};
-ghost use Rattle.morsel_size.specs.Sizing.{Sizing, IsInRange, time_per_tuple, blend_of, pace_after, pace_of, default_size, measured_size, size_at, size_of};
+ghost use Rattle.morsel_size.specs.Sizing.{Sizing, IsInRange, time_per_tuple, blend_of, pace_after};
+ghost use Rattle.morsel_size.specs.Sizing.{pace_of, default_size, measured_size, size_at, size_of};
 
 use std::marker::Model;
 
@@ -95,9 +97,9 @@ impl Sizer {
         }
     }
 
-    /// How many tuples to take next of a task set of `total` tuples, where the worker's last range of it
-    /// ended at `last_end` (0 before the first): 1 to 65,536. Startup heeds neither the workers nor the
-    /// rest; whoever claims cuts the range to what is left.
+    /// How many tuples to take next of a task set of `total` tuples, where the worker's last range
+    /// of it ended at `last_end` (0 before the first): 1 to 65,536. Startup heeds neither the
+    /// workers nor the rest; whoever claims cuts the range to what is left.
     pub fn next(&self, total: u32, last_end: u32) -> u32
         requires { last_end ≤ total }
         ensures size { result ≡ size_at self.now.workers self.now.pace (total - last_end) }
@@ -112,8 +114,9 @@ impl Sizer {
         }
     }
 
-    /// Takes note of a morsel of `tuples` tuples that took `ns` nanoseconds. The first that takes a millisecond
-    /// or more ends startup with its time per tuple as the estimate; each later one is blended into it.
+    /// Takes note of a morsel of `tuples` tuples that took `ns` nanoseconds. The first that takes a
+    /// millisecond or more ends startup with its time per tuple as the estimate; each later one is
+    /// blended into it.
     pub fn took(&mut self, tuples: u32, ns: u64)
         requires some_tuples { 0 < tuples }
         requires some_time { 0 < ns }

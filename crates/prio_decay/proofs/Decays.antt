@@ -1,4 +1,31 @@
-use Rattle.std.proofs.Common.{◌≡◌, ℕ, ◌+◌, ◌-◌, ◌*◌, ◌/◌, ◌^◌, ◌<◌, ◌≤◌, suc, zero, max, min, List, [], ◌∷◌, sum, fold, refl, sym, ap, subst, ◌∙◌, ⊎_elim, add-zero, arith}
+use Rattle.std.proofs.Common.{
+  ◌≡◌,
+  ℕ,
+  ◌+◌,
+  ◌-◌,
+  ◌*◌,
+  ◌/◌,
+  ◌^◌,
+  ◌<◌,
+  ◌≤◌,
+  suc,
+  zero,
+  max,
+  min,
+  List,
+  [],
+  ◌∷◌,
+  sum,
+  fold,
+  refl,
+  sym,
+  ap,
+  subst,
+  ◌∙◌,
+  ⊎_elim,
+  add-zero,
+  arith,
+}
 use Rattle.std.proofs.Math.Nat.{div-lt_iff_lt-mul, mul-lt-mul_of_pos_left}
 use Rattle.std.proofs.lemmas.Bool.Decides.{nat_tests}
 use Rattle.std.proofs.lemmas.Bool.{cases_lt}
@@ -37,7 +64,8 @@ priority_after-falls p u (suc k) =
     let before = priority_after-falls p u k in
     let bounds = priority_after-bounds p u (p.hold + k) in
     let falls = fraction_below (priority_after p (p.hold + k)) p.num p.den (omega arith) u.decays in
-    let step : priority_after p (p.hold + suc k) ≡ max 100 (priority_after p (p.hold + k) * p.num / p.den) = ap (priority_after p) (omega arith) ∙ priority_after-next p (p.hold + k) (omega arith) in
+    let step : priority_after p (p.hold + suc k) ≡ max 100 (priority_after p (p.hold + k) * p.num / p.den) = ap (priority_after p) (omega arith) ∙
+    priority_after-next p (p.hold + k) (omega arith) in
     omega (arith, before, bounds, falls, step)
 
 -- so it is 100 from 10,000 quanta after the hold on
@@ -94,12 +122,14 @@ priority_of-spent d total u h = ⊎_elim at_the_end in_full (cases_lt (2 ^ 64 - 
     in_full small = let same : d.spent ≡ total = omega arith in ap (λ t. priority_after d.params (t / 2000000)) same
 
     at_the_end : 2 ^ 64 - 1 < total → priority_of d ≡ priority_after d.params (total / 2000000)
-    at_the_end large = priority_after-late d.params u (d.spent / 2000000) (omega (arith, u.ends)) ∙ sym (priority_after-late d.params u (total / 2000000) (omega (arith, u.ends)))
+    at_the_end large = priority_after-late d.params u (d.spent / 2000000) (omega (arith, u.ends)) ∙ sym
+        (priority_after-late d.params u (total / 2000000) (omega (arith, u.ends)))
 
 -- the times spent one after another count as their sum
 pub HasSpent-fold : (times : List ℕ) (d : Spending) (total : ℕ) → HasSpent d total → HasSpent (fold after_spending d times) (total + sum times)
 HasSpent-fold [] d total h = omega arith
-HasSpent-fold (x ∷ times) d total h = subst (λ t. HasSpent (fold after_spending d (x ∷ times)) t) (omega (arith, sum_by-cons (λ t. t) x times)) (HasSpent-fold times (after_spending d x) (total + x) (omega arith))
+HasSpent-fold (x ∷ times) d total h = subst (λ t. HasSpent (fold after_spending d (x ∷ times)) t) (omega (arith, sum_by-cons (λ t. t) x times))
+    (HasSpent-fold times (after_spending d x) (total + x) (omega arith))
 
 -- and leave the parameters
 pub params-fold : (times : List ℕ) (d : Spending) → (fold after_spending d times).params ≡ d.params

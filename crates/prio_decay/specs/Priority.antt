@@ -1,9 +1,12 @@
 -- The priority after so many quanta, and what contracts see of a decay.
-use Rattle.std.specs.Prelude.{◌≡◌, ℕ, ◌-◌, ◌*◌, ◌/◌, ◌+◌, ◌^◌, ◌<◌, ◌≤◌, min, max, zero, suc, nat_lt, if◌then◌else◌}
+use Rattle.std.specs.Prelude.{◌≡◌, ℕ, ◌-◌, ◌*◌, ◌/◌, ◌+◌, ◌^◌, ◌<◌, ◌≤◌, min, max, zero, suc}
+use Rattle.std.specs.Prelude.{nat_lt, if◌then◌else◌}
 use Rattle.prio_decay.specs.declared.Params.{Params}
-use Rattle.prio_decay.specs.declared.TheConstants.{LEAST_PRIORITY, MOST_DENOMINATOR, MOST_PRIORITY, QUANTUM_NS}
+use Rattle.prio_decay.specs.declared.TheConstants.{LEAST_PRIORITY, MOST_DENOMINATOR, MOST_PRIORITY}
+use Rattle.prio_decay.specs.declared.TheConstants.{QUANTUM_NS}
 
--- parameters under which a priority stays within 100 and 10,000, and decays once it is held no longer
+-- parameters under which a priority stays within 100 and 10,000, and decays once it is held no
+-- longer
 pub record IsUsable (p : Params) : Type 0 where
   pub least : LEAST_PRIORITY ≤ p.start
   pub most : p.start ≤ MOST_PRIORITY
@@ -11,8 +14,8 @@ pub record IsUsable (p : Params) : Type 0 where
   pub small : p.den ≤ MOST_DENOMINATOR
   pub ends : p.hold < 2 ^ 32
 
--- the priority after n quanta: the start as long as it is held, and then a fraction of the one before,
--- and never below 100
+-- the priority after n quanta: the start as long as it is held, and then a fraction of the one
+-- before, and never below 100
 unfoldable pub priority_after : Params → ℕ → ℕ
 priority_after p zero = p.start
 priority_after p (suc n) =

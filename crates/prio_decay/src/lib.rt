@@ -1,15 +1,16 @@
-//! The decaying priority of a query: the more time a worker has spent in it, the less often it comes.
+//! The decaying priority of a query: the more time a worker has spent in it, the less often it
+//! comes.
 //!
 //! A priority starts at a value that grows with the query's weight, is held for some quanta of
-//! 2,000,000 nanoseconds, and then decays by a constant factor each quantum, down to 100. It takes the
-//! place of a client's tickets in stride scheduling (Waldspurger and Weihl, 1995); decay and numbers are
-//! this project's own.
+//! 2,000,000 nanoseconds, and then decays by a constant factor each quantum, down to 100. It takes
+//! the place of a client's tickets in stride scheduling (Waldspurger and Weihl, 1995); decay and
+//! numbers are this project's own.
 //!
-//! The layer stands on no other. The one fact for the layer above: `priority` is `priority_after` of the
-//! whole quanta in all the nanoseconds that were spent.
+//! The layer stands on no other. The one fact for the layer above: `priority` is `priority_after`
+//! of the whole quanta in all the nanoseconds that were spent.
 //!
-//! An example, which is proved beside the tests: weight 10 starts at 10,000, and the eighth quantum is
-//! the first that takes a tenth off.
+//! An example, which is proved beside the tests: weight 10 starts at 10,000, and the eighth quantum
+//! is the first that takes a tenth off.
 //!
 //! ```
 //! fn priority_after_eight_quanta() -> u32
@@ -25,7 +26,8 @@
 ghost use Rattle.std.specs.Prelude.{◌≡◌, ◌↔◌, ℕ, IsTrue, List, ◌*◌, ◌/◌, ◌<◌, ◌≤◌, sum, fold};
 ghost use Rattle.prio_decay.specs.declared.Params.{Params};
 ghost use Rattle.prio_decay.specs.declared.TheConstants.{QUANTUM_NS};
-ghost use Rattle.prio_decay.specs.Priority.{IsUsable, Spending, HasSpent, unspent, after_spending, priority_after, priority_of};
+ghost use Rattle.prio_decay.specs.Priority.{IsUsable, Spending, HasSpent, unspent, after_spending};
+ghost use Rattle.prio_decay.specs.Priority.{priority_after, priority_of};
 
 use std::marker::Model;
 
@@ -49,8 +51,8 @@ pub fn limits()
     ensures quantum { QUANTUM_NS ≡ 2_000_000 }
 {}
 
-/// How a priority decays. Of use where `start` is 100 to 10,000, `num` is below `den`, and `den` is at
-/// most 1,000.
+/// How a priority decays. Of use where `start` is 100 to 10,000, `num` is below `den`, and `den` is
+/// at most 1,000.
 #[derive(Clone, Copy, Debug, PartialEq, Eq)]
 pub struct Params {
     /// The priority at first.
@@ -64,8 +66,8 @@ pub struct Params {
 }
 
 impl Params {
-    /// The decay of a query of this weight, 1 to 10: it starts at 1,000 times the weight, is held for 7
-    /// quanta, and keeps nine tenths each further quantum.
+    /// The decay of a query of this weight, 1 to 10: it starts at 1,000 times the weight, is held
+    /// for 7 quanta, and keeps nine tenths each further quantum.
     pub fn of_weight(weight: u32) -> Params
         requires least { 1 ≤ weight }
         requires most { weight ≤ 10 }
@@ -104,7 +106,8 @@ impl Model for Decay {
 
     ghost view = { λ d. record { params = d.params; spent = d.spent } };
 
-    ghost invariant = { λ d. IsUsable d.params × (d.priority ≡ priority_after d.params (d.spent / QUANTUM_NS)) };
+    ghost invariant = { λ d. IsUsable d.params
+        × (d.priority ≡ priority_after d.params (d.spent / QUANTUM_NS)) };
 }
 
 impl Decay {
@@ -120,9 +123,9 @@ impl Decay {
         }
     }
 
-    /// Spends so many nanoseconds more. Takes a step for each quantum that ends and decays the priority.
-    /// There are at most 9,900 such steps in the life of a decay, since each takes at least 1 off, and
-    /// none once the priority is 100: from then on a call takes constant time.
+    /// Spends so many nanoseconds more. Takes a step for each quantum that ends and decays the
+    /// priority. There are at most 9,900 such steps in the life of a decay, since each takes at
+    /// least 1 off, and none once the priority is 100: from then on a call takes constant time.
     ///
     /// The count of all nanoseconds stands still at the largest u64, where every priority is 100.
     pub fn spend(&mut self, ns: u64)
@@ -133,7 +136,8 @@ impl Decay {
         self.priority = decayed(self.params, self.priority, from, self.spent / QUANTUM_NS);
     }
 
-    /// The priority after the whole quanta in all the time spent: 100 to 10,000. Takes constant time.
+    /// The priority after the whole quanta in all the time spent: 100 to 10,000. Takes constant
+    /// time.
     pub fn priority(&self) -> u32
         ensures value { result ≡ priority_of self.now }
         ensures total { (total : ℕ) → HasSpent self.now total
@@ -165,7 +169,8 @@ fn decayed(params: Params, mut priority: u32, from: u64, to: u64) -> u32
 /// quanta in their sum.
 pub fn spending_adds_up()
     ensures { (p : Params) (times : List ℕ) → IsUsable p
-        → priority_of (fold after_spending (unspent p) times) ≡ priority_after p (sum times / QUANTUM_NS) }
+        → priority_of (fold after_spending (unspent p) times)
+        ≡ priority_after p (sum times / QUANTUM_NS) }
 {}
 
 #[cfg(test)]

@@ -1,6 +1,24 @@
 use Rattle.std.proofs.Common.{◌≡◌, ℕ, ◌+◌, ◌-◌, ◌^◌, ◌<◌, ◌≤◌, true, false, List, [], ◌∷◌, fold, min, max, refl, sym, subst, ⊎_elim, arith}
 use Rattle.std.proofs.lemmas.Bool.{cases_eq, false≢true}
-use Rattle.stride_set.specs.Strides.{Strides, Call, JoinChange, JoinReturn, DropSlot, Choose, Advance, IsBounded, IsLawful, AreLawful, new_strides, moved_by, stride_after, spread_of, advance_of, widest_gap, with_one}
+use Rattle.stride_set.specs.Strides.{
+  Strides,
+  Call,
+  JoinChange,
+  JoinReturn,
+  DropSlot,
+  Choose,
+  Advance,
+  IsBounded,
+  IsLawful,
+  AreLawful,
+  new_strides,
+  moved_by,
+  stride_after,
+  spread_of,
+  advance_of,
+  widest_gap,
+  with_one,
+}
 use Rattle.stride_set.proofs.Spreads.{spread_from-least}
 use Rattle.stride_set.proofs.Writes.{with_one-same, with_one-other}
 
@@ -23,7 +41,8 @@ counted st widest h below = record {
 }
 
 -- a fact of each slot and its value, where one value changes
-with_one-all : {A : Type 0} (P : ℕ → A → Type 0) (n : ℕ) (f : ℕ → A) (k : ℕ) (x : A) → P k x → ((s : ℕ) → s < n → P s (f s)) → (s : ℕ) → s < n → P s (with_one f k x s)
+with_one-all : {A : Type 0} (P : ℕ → A → Type 0) (n : ℕ) (f : ℕ → A) (k : ℕ) (x : A) → P k x → ((s : ℕ) → s < n → P s (f s)) → (s : ℕ) → s < n → P s
+    (with_one f k x s)
 with_one-all P n f k x here others s below =
     ⊎_elim
     (λ e. subst (λ j. P j (with_one f k x j)) (sym e) (subst (P k) (sym (with_one-same f k k x refl)) here))
@@ -31,7 +50,8 @@ with_one-all P n f k x here others s below =
     (cases_eq s k)
 
 -- the same with two values of a slot
-with_one-both : {A B : Type 0} (P : A → B → Type 0) (n : ℕ) (f : ℕ → A) (g : ℕ → B) (k : ℕ) (x : A) (y : B) → P x y → ((s : ℕ) → s < n → P (f s) (g s)) → (s : ℕ) → s < n → P (with_one f k x s) (with_one g k y s)
+with_one-both : {A B : Type 0} (P : A → B → Type 0) (n : ℕ) (f : ℕ → A) (g : ℕ → B) (k : ℕ) (x : A) (y : B) → P x y →
+    ((s : ℕ) → s < n → P (f s) (g s)) → (s : ℕ) → s < n → P (with_one f k x s) (with_one g k y s)
 with_one-both P n f g k x y here others s below =
     ⊎_elim
     (λ e. rw (with_one-same f k s x e, with_one-same g k s y e) here)
@@ -68,7 +88,8 @@ moved_by-placed st (Advance s ns priority) h may =
     let to = min (st.pass s + advance_of ns priority) (2 ^ 128 - 1) in
     record {
       active = with_one-all (λ t pass. st.active t ≡ true → st.floor ≤ pass) st.slots st.pass s to (λ _. omega (arith, may.at_floor, h.floor_fits)) h.active;
-      every = with_one-all (λ _ pass. pass ≤ st.floor + max st.largest (advance_of ns priority)) st.slots st.pass s to (omega (arith, may.at_floor)) (λ t below. omega (arith, h.every t below));
+      every = with_one-all (λ _ pass. pass ≤ st.floor + max st.largest (advance_of ns priority)) st.slots st.pass s to (omega (arith, may.at_floor))
+          (λ t below. omega (arith, h.every t below));
       fits = with_one-all (λ _ pass. pass < 2 ^ 128) st.slots st.pass s to (omega arith) h.fits;
       floor_fits = h.floor_fits;
     }

@@ -1,4 +1,33 @@
-use Rattle.std.proofs.Common.{◌≡◌, ℕ, ◌+◌, ◌<◌, ◌≤◌, ◌&&◌, Bool, true, false, Option, Some, None, MatchOption, suc, zero, cond, nat_lt, refl, sym, ap, subst, ◌∙◌, ⊎_elim, add-one, below_more, ltb-true, ltb-false, arith}
+use Rattle.std.proofs.Common.{
+  ◌≡◌,
+  ℕ,
+  ◌+◌,
+  ◌<◌,
+  ◌≤◌,
+  ◌&&◌,
+  Bool,
+  true,
+  false,
+  Option,
+  Some,
+  None,
+  MatchOption,
+  suc,
+  zero,
+  cond,
+  nat_lt,
+  refl,
+  sym,
+  ap,
+  subst,
+  ◌∙◌,
+  ⊎_elim,
+  add-one,
+  below_more,
+  ltb-true,
+  ltb-false,
+  arith,
+}
 use Rattle.std.proofs.lemmas.Bool.{cases_lt, false≢true}
 use Rattle.stride_set.specs.Slots.{comes_before, choice_from, IsLeastActive}
 
@@ -7,16 +36,19 @@ abbrev pub IsChoiceOf : ℕ → (ℕ → Bool) → (ℕ → ℕ) → Option ℕ 
 IsChoiceOf n active pass choice = MatchOption choice ((s : ℕ) → s < n → active s ≡ false) (IsLeastActive n active pass)
 
 -- one more slot that is not better changes no choice
-keeps : (n : ℕ) (active : ℕ → Bool) (pass : ℕ → ℕ) (s : ℕ) → (active n ≡ true → pass s ≤ pass n) → IsLeastActive n active pass s → IsLeastActive (suc n) active pass s
+keeps : (n : ℕ) (active : ℕ → Bool) (pass : ℕ → ℕ) (s : ℕ) → (active n ≡ true → pass s ≤ pass n) → IsLeastActive n active pass s → IsLeastActive
+    (suc n) active pass s
 keeps n active pass s not_better h = record {
   in_range = omega (arith, h.in_range);
   is_active = h.is_active;
-  least = λ t below on. ⊎_elim (λ lt. h.least t lt on) (λ ge. let same : t ≡ n = omega arith in omega (arith, not_better (subst (λ k. active k ≡ true) same on), ap pass same)) (cases_lt t n);
+  least = λ t below on. ⊎_elim (λ lt. h.least t lt on)
+      (λ ge. let same : t ≡ n = omega arith in omega (arith, not_better (subst (λ k. active k ≡ true) same on), ap pass same)) (cases_lt t n);
   first = h.first;
 }
 
 -- a better one takes its place
-takes : (n : ℕ) (active : ℕ → Bool) (pass : ℕ → ℕ) → active n ≡ true → ((t : ℕ) → t < n → active t ≡ true → pass n < pass t) → IsLeastActive (suc n) active pass n
+takes : (n : ℕ) (active : ℕ → Bool) (pass : ℕ → ℕ) → active n ≡ true → ((t : ℕ) → t < n → active t ≡ true → pass n < pass t) → IsLeastActive (suc n)
+    active pass n
 takes n active pass on better = record {
   in_range = omega arith;
   is_active = on;
@@ -32,7 +64,8 @@ first_one : (n : ℕ) (active : ℕ → Bool) (pass : ℕ → ℕ) → ((s : ℕ
 first_one n active pass h t below on = absurd (false≢true (sym (h t below) ∙ on))
 
 -- one more slot makes a choice of a choice
-choice_from-more : (n : ℕ) (active : ℕ → Bool) (pass : ℕ → ℕ) (before : Option ℕ) → IsChoiceOf n active pass before → IsChoiceOf (suc n) active pass (cond (active n && comes_before pass n before) (Some n) before)
+choice_from-more : (n : ℕ) (active : ℕ → Bool) (pass : ℕ → ℕ) (before : Option ℕ) → IsChoiceOf n active pass before → IsChoiceOf (suc n) active pass
+    (cond (active n && comes_before pass n before) (Some n) before)
 choice_from-more n active pass None h = by_case (active n) refl
   where
     by_case : (b : Bool) → active n ≡ b → IsChoiceOf (suc n) active pass (cond (b && true) (Some n) None)
@@ -58,18 +91,22 @@ unfolding choice_from
 choice_from-none active pass = refl
 
 -- and one more slot is chosen, or the choice before stays
-choice_from-next : (n : ℕ) (active : ℕ → Bool) (pass : ℕ → ℕ) (before : Option ℕ) → before ≡ choice_from n active pass → choice_from (n + 1) active pass ≡ cond (active n && comes_before pass n before) (Some n) before
+choice_from-next : (n : ℕ) (active : ℕ → Bool) (pass : ℕ → ℕ) (before : Option ℕ) → before ≡ choice_from n active pass → choice_from (n + 1) active
+    pass ≡ cond (active n && comes_before pass n before) (Some n) before
 unfolding choice_from
 choice_from-next n active pass before is = rw (add-one, is) refl
 
-pub choice_from-takes : (n : ℕ) (active : ℕ → Bool) (pass : ℕ → ℕ) (before : Option ℕ) → before ≡ choice_from n active pass → active n ≡ true → comes_before pass n before ≡ true → Some n ≡ choice_from (n + 1) active pass
+pub choice_from-takes : (n : ℕ) (active : ℕ → Bool) (pass : ℕ → ℕ) (before : Option ℕ) → before ≡ choice_from n active pass → active n ≡ true →
+    comes_before pass n before ≡ true → Some n ≡ choice_from (n + 1) active pass
 choice_from-takes n active pass before is on less = rw (choice_from-next n active pass before is, on, less) refl
 
-pub choice_from-keeps : (n : ℕ) (active : ℕ → Bool) (pass : ℕ → ℕ) (before : Option ℕ) → before ≡ choice_from n active pass → (active n && comes_before pass n before) ≡ false → before ≡ choice_from (n + 1) active pass
+pub choice_from-keeps : (n : ℕ) (active : ℕ → Bool) (pass : ℕ → ℕ) (before : Option ℕ) → before ≡ choice_from n active pass →
+    (active n && comes_before pass n before) ≡ false → before ≡ choice_from (n + 1) active pass
 choice_from-keeps n active pass before is stays = rw (choice_from-next n active pass before is, stays) refl
 
 -- so what was chosen is the active slot of least pass
-pub choice_from-chosen : (n : ℕ) (active : ℕ → Bool) (pass : ℕ → ℕ) (choice : Option ℕ) (s : ℕ) → choice ≡ choice_from n active pass → choice ≡ Some s → IsLeastActive n active pass s
+pub choice_from-chosen : (n : ℕ) (active : ℕ → Bool) (pass : ℕ → ℕ) (choice : Option ℕ) (s : ℕ) → choice ≡ choice_from n active pass → choice ≡ Some s
+    → IsLeastActive n active pass s
 choice_from-chosen n active pass choice s is chosen =
     subst (IsChoiceOf n active pass) (sym is ∙ chosen) (choice_from-is n active pass)
 

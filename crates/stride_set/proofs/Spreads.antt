@@ -1,4 +1,31 @@
-use Rattle.std.proofs.Common.{◌≡◌, ℕ, ◌+◌, ◌-◌, ◌^◌, ◌<◌, ◌≤◌, ◌⊎◌, ◌&&◌, Bool, true, false, suc, zero, min, max, cond, refl, sym, ap, ◌∙◌, ⊎_elim, inl, inr, below_more, arith}
+use Rattle.std.proofs.Common.{
+  ◌≡◌,
+  ℕ,
+  ◌+◌,
+  ◌-◌,
+  ◌^◌,
+  ◌<◌,
+  ◌≤◌,
+  ◌⊎◌,
+  ◌&&◌,
+  Bool,
+  true,
+  false,
+  suc,
+  zero,
+  min,
+  max,
+  cond,
+  refl,
+  sym,
+  ap,
+  ◌∙◌,
+  ⊎_elim,
+  inl,
+  inr,
+  below_more,
+  arith,
+}
 use Rattle.std.proofs.lemmas.Bool.{cases_lt, false≢true}
 use Rattle.stride_set.specs.Slots.{greatest, lead_of, spread_from}
 
@@ -19,7 +46,8 @@ greatest-least zero f m h = omega arith
 greatest-least (suc n) f m h = omega (arith, greatest-least n f m (λ k below. h k (omega arith)), h n (omega arith))
 
 -- two active slots are no further apart than the spread
-pub spread_from-bound : (n : ℕ) (active : ℕ → Bool) (pass : ℕ → ℕ) (s t : ℕ) → s < n → t < n → active s ≡ true → active t ≡ true → pass s - pass t ≤ spread_from n active pass
+pub spread_from-bound : (n : ℕ) (active : ℕ → Bool) (pass : ℕ → ℕ) (s t : ℕ) → s < n → t < n → active s ≡ true → active t ≡ true → pass s - pass t ≤
+    spread_from n active pass
 spread_from-bound n active pass s t hs ht on_s on_t =
     let lead : lead_of active pass s t ≡ pass s - pass t = rw (on_s, on_t) refl in
     omega (arith, lead, greatest-bound n (λ t. lead_of active pass s t) t ht, greatest-bound n (λ s. greatest n (λ t. lead_of active pass s t)) s hs)
@@ -34,7 +62,8 @@ lead_of-least active pass s t m h = by_cases (active s) (active t) h
     by_cases false b h = omega arith
 
 -- and the spread is the least such bound
-pub spread_from-least : (n : ℕ) (active : ℕ → Bool) (pass : ℕ → ℕ) (m : ℕ) → ((s t : ℕ) → s < n → t < n → active s ≡ true → active t ≡ true → pass s - pass t ≤ m) → spread_from n active pass ≤ m
+pub spread_from-least : (n : ℕ) (active : ℕ → Bool) (pass : ℕ → ℕ) (m : ℕ) →
+    ((s t : ℕ) → s < n → t < n → active s ≡ true → active t ≡ true → pass s - pass t ≤ m) → spread_from n active pass ≤ m
 spread_from-least n active pass m h =
     greatest-least n _ m (λ s hs. greatest-least n _ m (λ t ht. lead_of-least active pass s t m (h s t hs ht)))
 
@@ -53,7 +82,8 @@ spread_from-ends n active pass low high h = omega (arith, within, reached h.high
     within : spread_from n active pass ≤ high - low
     within = spread_from-least n active pass (high - low) (λ s t hs ht on_s on_t. omega (arith, h.high_above s hs on_s, h.low_below t ht on_t))
 
-    reached : (high ≡ 0) ⊎ ((s : ℕ) × (s < n) × (active s ≡ true) × (pass s ≡ high)) → (low ≡ 2 ^ 128 - 1) ⊎ ((s : ℕ) × (s < n) × (active s ≡ true) × (pass s ≡ low)) → high - low ≤ spread_from n active pass
+    reached : (high ≡ 0) ⊎ ((s : ℕ) × (s < n) × (active s ≡ true) × (pass s ≡ high)) → (low ≡ 2 ^ 128 - 1) ⊎
+        ((s : ℕ) × (s < n) × (active s ≡ true) × (pass s ≡ low)) → high - low ≤ spread_from n active pass
     reached (inl e) l = omega arith
     reached (inr w) (inl e) = omega arith
     reached (inr w) (inr v) = omega (arith, spread_from-bound n active pass w.0 v.0 w.1 v.1 w.2 v.2, w.3, v.3)
@@ -69,7 +99,8 @@ HasEnds-none active pass = record {
 }
 
 -- a slot that is not active changes no end
-pub HasEnds-skip : (n : ℕ) (active : ℕ → Bool) (pass : ℕ → ℕ) (low high : ℕ) → active n ≡ false → HasEnds n active pass low high → HasEnds (n + 1) active pass low high
+pub HasEnds-skip : (n : ℕ) (active : ℕ → Bool) (pass : ℕ → ℕ) (low high : ℕ) → active n ≡ false → HasEnds n active pass low high → HasEnds (n + 1)
+    active pass low high
 HasEnds-skip n active pass low high idle h = record {
   low_below = below_more (λ s. active s ≡ true → low ≤ pass s) n h.low_below (λ on. absurd (false≢true (sym idle ∙ on)));
   high_above = below_more (λ s. active s ≡ true → pass s ≤ high) n h.high_above (λ on. absurd (false≢true (sym idle ∙ on)));
@@ -79,11 +110,15 @@ HasEnds-skip n active pass low high idle h = record {
 }
 
 -- an active one may be an end
-pub HasEnds-take : (n : ℕ) (active : ℕ → Bool) (pass : ℕ → ℕ) (low high : ℕ) → active n ≡ true → max high (pass n) < 2 ^ 128 → HasEnds n active pass low high → HasEnds (n + 1) active pass (min low (pass n)) (max high (pass n))
+pub HasEnds-take : (n : ℕ) (active : ℕ → Bool) (pass : ℕ → ℕ) (low high : ℕ) → active n ≡ true → max high (pass n) < 2 ^ 128 → HasEnds n active pass
+    low high → HasEnds (n + 1) active pass (min low (pass n)) (max high (pass n))
 HasEnds-take n active pass low high on fits h = record {
   low_below = below_more (λ s. active s ≡ true → min low (pass n) ≤ pass s) n (λ s below on_s. omega (arith, h.low_below s below on_s)) (λ on_n. omega arith);
-  high_above = below_more (λ s. active s ≡ true → pass s ≤ max high (pass n)) n (λ s below on_s. omega (arith, h.high_above s below on_s)) (λ on_n. omega arith);
-  low_met = ⊎_elim (λ lt. inr (n, omega arith, on, omega arith)) (λ ge. ⊎_elim (λ e. inl (omega arith)) (λ w. inr (w.0, omega (arith, w.1), w.2, omega (arith, w.3))) h.low_met) (cases_lt (pass n) low);
+  high_above = below_more (λ s. active s ≡ true → pass s ≤ max high (pass n)) n (λ s below on_s. omega (arith, h.high_above s below on_s))
+      (λ on_n. omega arith);
+  low_met = ⊎_elim (λ lt. inr (n, omega arith, on, omega arith))
+      (λ ge. ⊎_elim (λ e. inl (omega arith)) (λ w. inr (w.0, omega (arith, w.1), w.2, omega (arith, w.3))) h.low_met) (cases_lt (pass n) low);
   high_fits = fits;
-  high_met = ⊎_elim (λ lt. inr (n, omega arith, on, omega arith)) (λ ge. ⊎_elim (λ e. inl (omega arith)) (λ w. inr (w.0, omega (arith, w.1), w.2, omega (arith, w.3))) h.high_met) (cases_lt high (pass n));
+  high_met = ⊎_elim (λ lt. inr (n, omega arith, on, omega arith))
+      (λ ge. ⊎_elim (λ e. inl (omega arith)) (λ w. inr (w.0, omega (arith, w.1), w.2, omega (arith, w.3))) h.high_met) (cases_lt high (pass n));
 }

@@ -1,4 +1,29 @@
-use Rattle.std.proofs.Common.{◌≡◌, ℕ, ◌+◌, ◌-◌, ◌^◌, ◌<◌, ◌≤◌, Bool, true, false, List, length, get_or, set, length-set, min, max, refl, replicate, sym, ap, ◌∙◌, ⊎_elim, arith}
+use Rattle.std.proofs.Common.{
+  ◌≡◌,
+  ℕ,
+  ◌+◌,
+  ◌-◌,
+  ◌^◌,
+  ◌<◌,
+  ◌≤◌,
+  Bool,
+  true,
+  false,
+  List,
+  length,
+  get_or,
+  set,
+  length-set,
+  min,
+  max,
+  refl,
+  replicate,
+  sym,
+  ap,
+  ◌∙◌,
+  ⊎_elim,
+  arith,
+}
 use Rattle.std.proofs.Math.Path.{fun_ext}
 use Rattle.std.proofs.lemmas.List.{get_or-set_same, get_or-set_other, get_or_read, get_or-replicate, length-replicate, get_or_past}
 use Rattle.std.proofs.lemmas.Bool.{cases_eq, cases_lt, false≢true}
@@ -6,7 +31,19 @@ use Rattle.std.proofs.lemmas.Bool.Decides.{nat_tests}
 use Rattle.stride_set.specs.declared.Slot.{Slot}
 use Rattle.stride_set.specs.Slots.{idle, active_in, pass_in, spread_from, spread_among}
 use Rattle.stride_set.proofs.Spreads.{spread_from-bound, spread_from-least}
-use Rattle.stride_set.specs.Strides.{StrideState, JoinChange, JoinReturn, DropSlot, Choose, Advance, strides_of, stride_after, advance_of, new_strides, with_one}
+use Rattle.stride_set.specs.Strides.{
+  StrideState,
+  JoinChange,
+  JoinReturn,
+  DropSlot,
+  Choose,
+  Advance,
+  strides_of,
+  stride_after,
+  advance_of,
+  new_strides,
+  with_one,
+}
 
 -- the changed function at its place, and elsewhere
 pub with_one-same : {A : Type 0} (f : ℕ → A) (k j : ℕ) (x : A) → j ≡ k → with_one f k x j ≡ x
@@ -49,19 +86,32 @@ record Becomes (slots : List Slot) (s : ℕ) (slot : Slot) (active : ℕ → Boo
   states : with_one (active_in slots) s slot.active ≡ active
   passes : with_one (pass_in slots) s slot.pass ≡ pass
 
-active_in-set : (slots : List Slot) (s : ℕ) (slot : Slot) (active : ℕ → Bool) (pass : ℕ → ℕ) → Becomes slots s slot active pass → active_in (set slots s slot) ≡ active
+active_in-set : (slots : List Slot) (s : ℕ) (slot : Slot) (active : ℕ → Bool) (pass : ℕ → ℕ) → Becomes slots s slot active pass → active_in
+    (set slots s slot) ≡ active
 active_in-set slots s slot active pass h = read-set (λ slot. slot.active) slots s slot h.within ∙ h.states
 
-pass_in-set : (slots : List Slot) (s : ℕ) (slot : Slot) (active : ℕ → Bool) (pass : ℕ → ℕ) → Becomes slots s slot active pass → pass_in (set slots s slot) ≡ pass
+pass_in-set : (slots : List Slot) (s : ℕ) (slot : Slot) (active : ℕ → Bool) (pass : ℕ → ℕ) → Becomes slots s slot active pass → pass_in
+    (set slots s slot) ≡ pass
 pass_in-set slots s slot active pass h = read-set (λ slot. slot.pass) slots s slot h.within ∙ h.passes
 
 -- the spread after such a write
-spread_among-set : (slots : List Slot) (s : ℕ) (slot : Slot) (active : ℕ → Bool) (pass : ℕ → ℕ) → Becomes slots s slot active pass → spread_among (set slots s slot) ≡ spread_from (length slots) active pass
-spread_among-set slots s slot active pass h = λ i. spread_from (length-set slots s slot i) (active_in-set slots s slot active pass h i) (pass_in-set slots s slot active pass h i)
+spread_among-set : (slots : List Slot) (s : ℕ) (slot : Slot) (active : ℕ → Bool) (pass : ℕ → ℕ) → Becomes slots s slot active pass → spread_among
+    (set slots s slot) ≡ spread_from (length slots) active pass
+spread_among-set slots s slot active pass h = λ i. spread_from (length-set slots s slot i) (active_in-set slots s slot active pass h i)
+    (pass_in-set slots s slot active pass h i)
 
 -- and what contracts see then
-strides_of-set : (v : StrideState) (s : ℕ) (slot : Slot) (active : ℕ → Bool) (pass : ℕ → ℕ) (largest most widest : ℕ) → Becomes v.slots s slot active pass → largest ≡ most → widest ≡ max v.widest (spread_from (length v.slots) active pass)
-    → strides_of (record { slots = set v.slots s slot; floor = v.floor; largest = largest; widest = widest }) ≡ record { slots = length v.slots; active = active; pass = pass; floor = v.floor; largest = most; widest = max v.widest (spread_from (length v.slots) active pass) }
+strides_of-set : (v : StrideState) (s : ℕ) (slot : Slot) (active : ℕ → Bool) (pass : ℕ → ℕ) (largest most widest : ℕ) → Becomes v.slots s slot active
+    pass → largest ≡ most → widest ≡ max v.widest (spread_from (length v.slots) active pass)
+    → strides_of (record { slots = set v.slots s slot; floor = v.floor; largest = largest; widest = widest }) ≡ record {
+      slots = length v.slots;
+      active = active;
+      pass = pass;
+      floor = v.floor;
+      largest = most;
+      widest = max v.widest
+          (spread_from (length v.slots) active pass);
+    }
 strides_of-set v s slot active pass largest most widest h l w = λ i. record {
   slots = length-set v.slots s slot i;
   active = active_in-set v.slots s slot active pass h i;
@@ -112,16 +162,19 @@ strides_of-join_return v s p widest below e w =
 -- fewer active slots spread no further
 spread_from-drop : (n : ℕ) (active : ℕ → Bool) (pass : ℕ → ℕ) (s : ℕ) → spread_from n (with_one active s false) pass ≤ spread_from n active pass
 spread_from-drop n active pass s =
-    spread_from-least n (with_one active s false) pass (spread_from n active pass) (λ t u ht hu on_t on_u. spread_from-bound n active pass t u ht hu (still t on_t) (still u on_u))
+    spread_from-least n (with_one active s false) pass (spread_from n active pass)
+    (λ t u ht hu on_t on_u. spread_from-bound n active pass t u ht hu (still t on_t) (still u on_u))
   where
     still : (t : ℕ) → with_one active s false t ≡ true → active t ≡ true
-    still t on = ⊎_elim (λ e. absurd (false≢true (sym (with_one-same active s t false e) ∙ on))) (λ ne. sym (with_one-other active s t false ne) ∙ on) (cases_eq t s)
+    still t on = ⊎_elim (λ e. absurd (false≢true (sym (with_one-same active s t false e) ∙ on))) (λ ne. sym (with_one-other active s t false ne) ∙ on)
+        (cases_eq t s)
 
 -- what `drop_slot` writes
 pub strides_of-drop_slot : (v : StrideState) (s p : ℕ) → s < length v.slots → p ≡ pass_in v.slots s → spread_among v.slots ≤ v.widest
     → strides_of (record v { slots = set v.slots s (record { active = false; pass = p }) }) ≡ stride_after (strides_of v) (DropSlot s)
 strides_of-drop_slot v s p below e counted =
-    strides_of-set v s slot active (pass_in v.slots) v.largest v.largest v.widest h refl (omega (arith, spread_from-drop (length v.slots) (active_in v.slots) (pass_in v.slots) s))
+    strides_of-set v s slot active (pass_in v.slots) v.largest v.largest v.widest h refl
+    (omega (arith, spread_from-drop (length v.slots) (active_in v.slots) (pass_in v.slots) s))
   where
     slot : Slot
     slot = record { active = false; pass = p }
@@ -136,9 +189,11 @@ strides_of-drop_slot v s p below e counted =
 pub strides_of-advance : (v : StrideState) (s ns priority : ℕ) (slot : Slot) (largest widest : ℕ) → s < length v.slots
     → slot.active ≡ active_in v.slots s → slot.pass ≡ min (pass_in v.slots s + advance_of ns priority) (2 ^ 128 - 1)
     → largest ≡ max v.largest (advance_of ns priority) → widest ≡ max v.widest (spread_among (set v.slots s slot))
-    → strides_of (record { slots = set v.slots s slot; floor = v.floor; largest = largest; widest = widest }) ≡ stride_after (strides_of v) (Advance s ns priority)
+    → strides_of (record { slots = set v.slots s slot; floor = v.floor; largest = largest; widest = widest }) ≡ stride_after (strides_of v)
+    (Advance s ns priority)
 strides_of-advance v s ns priority slot largest widest below state moved l w =
-    strides_of-set v s slot (active_in v.slots) pass largest (max v.largest (advance_of ns priority)) widest h l (w ∙ ap (max v.widest) (spread_among-set v.slots s slot (active_in v.slots) pass h))
+    strides_of-set v s slot (active_in v.slots) pass largest (max v.largest (advance_of ns priority)) widest h l
+    (w ∙ ap (max v.widest) (spread_among-set v.slots s slot (active_in v.slots) pass h))
   where
     pass : ℕ → ℕ
     pass = with_one (pass_in v.slots) s (min (pass_in v.slots s + advance_of ns priority) (2 ^ 128 - 1))

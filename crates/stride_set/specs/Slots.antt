@@ -1,5 +1,6 @@
 -- The slots of a list: which is chosen, and how far their passes lie apart.
-use Rattle.std.specs.Prelude.{◌≡◌, ℕ, ◌<◌, ◌≤◌, Bool, true, false, Option, Some, None, List, length, ◌&&◌, ◌-◌, zero, suc, max, nat_lt, if◌then◌else◌, slice_index_or}
+use Rattle.std.specs.Prelude.{◌≡◌, ℕ, ◌<◌, ◌≤◌, Bool, true, false, Option, Some, None, List, length}
+use Rattle.std.specs.Prelude.{◌&&◌, ◌-◌, zero, suc, max, nat_lt, if◌then◌else◌, slice_index_or}
 use Rattle.stride_set.specs.declared.Slot.{Slot}
 
 -- a slot that is not active, at pass 0: what stands past the last slot

@@ -1,5 +1,6 @@
 -- The state of a stride set, what each call does to it, and the bounds that hold between calls.
-use Rattle.std.specs.Prelude.{◌≡◌, ℕ, Bool, true, false, Option, List, [], ◌∷◌, ◌+◌, ◌-◌, ◌*◌, ◌/◌, ◌^◌, ◌<◌, ◌≤◌, ◌==◌, length, min, max, if◌then◌else◌}
+use Rattle.std.specs.Prelude.{◌≡◌, ℕ, Bool, true, false, Option, List, [], ◌∷◌, ◌+◌, ◌-◌, ◌*◌, ◌/◌}
+use Rattle.std.specs.Prelude.{◌^◌, ◌<◌, ◌≤◌, ◌==◌, length, min, max, if◌then◌else◌}
 use Rattle.stride_set.specs.declared.Slot.{Slot}
 use Rattle.stride_set.specs.declared.TheConstants.{STRIDE_UNIT}
 use Rattle.stride_set.specs.Slots.{active_in, pass_in, spread_from, choice_from, IsLeastActive}
@@ -32,14 +33,21 @@ strides_of v = record {
 
 -- a set of slots of which none is active
 abbrev pub new_strides : ℕ → Strides
-new_strides n = record { slots = n; active = λ _. false; pass = λ _. 0; floor = 0; largest = 0; widest = 0 }
+new_strides n = record {
+  slots = n;
+  active = λ _. false;
+  pass = λ _. 0;
+  floor = 0;
+  largest = 0;
+  widest = 0;
+}
 
 -- the same function but for the value x at k
 abbrev pub with_one : {A : Type 0} → (ℕ → A) → ℕ → A → ℕ → A
 with_one f k x j = if j == k then x else f j
 
--- the advance for so many nanoseconds: the stride, which is inversely proportional to the priority, scaled
--- by the time used
+-- the advance for so many nanoseconds: the stride, which is inversely proportional to the priority,
+-- scaled by the time used
 abbrev pub advance_of : ℕ → ℕ → ℕ
 advance_of ns priority = ns * STRIDE_UNIT / priority
 
@@ -63,9 +71,13 @@ pub data Call : Type 0 where
 
 -- what a call does to the slots, the floor and the largest advance
 abbrev pub moved_by : Strides → Call → Strides
-moved_by st (JoinChange s) = record st { active = with_one st.active s true; pass = with_one st.pass s st.floor }
+moved_by st (JoinChange s) =
+    record st { active = with_one st.active s true; pass = with_one st.pass s st.floor }
 moved_by st (JoinReturn s) =
-    record st { active = with_one st.active s true; pass = with_one st.pass s (max (st.pass s) st.floor) }
+    record st {
+      active = with_one st.active s true;
+      pass = with_one st.pass s (max (st.pass s) st.floor);
+    }
 moved_by st (DropSlot s) = record st { active = with_one st.active s false }
 moved_by st (Choose s) = record st { floor = st.pass s }
 moved_by st (Advance s ns priority) =
@@ -74,15 +86,18 @@ moved_by st (Advance s ns priority) =
       largest = max st.largest (advance_of ns priority);
     }
 
--- the state after a call: after each one `widest` takes in the passes of the slots that are active now
+-- the state after a call: after each one `widest` takes in the passes of the slots that are active
+-- now
 abbrev pub stride_after : Strides → Call → Strides
-stride_after st call = let new = moved_by st call in record new { widest = max st.widest (spread_of new) }
+stride_after st call =
+    let new = moved_by st call in record new { widest = max st.widest (spread_of new) }
 
 -- s is the active slot of least pass, and the least slot among ties
 abbrev pub IsChoice : Strides → ℕ → Type 0
 IsChoice st s = IsLeastActive st.slots st.active st.pass s
 
--- slot s may advance: it is active, and its pass is the floor, as after the `choose` that answered it
+-- slot s may advance: it is active, and its pass is the floor, as after the `choose` that answered
+-- it
 pub record MayAdvance (st : Strides) (s : ℕ) : Type 0 where
   pub in_range : s < st.slots
   pub active : st.active s ≡ true
@@ -110,7 +125,8 @@ abbrev pub AreLawful : Strides → List Call → Type 0
 AreLawful st [] = Unit {0}
 AreLawful st (call ∷ calls) = IsLawful st call × AreLawful (stride_after st call) calls
 
--- the greatest difference of the passes of two slots that were active at the same time after any of the calls
+-- the greatest difference of the passes of two slots that were active at the same time after any of
+-- the calls
 abbrev pub widest_gap : Strides → List Call → ℕ
 widest_gap st [] = 0
 widest_gap st (call ∷ calls) =

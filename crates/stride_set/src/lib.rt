@@ -1,18 +1,18 @@
 //! Who runs next: the passes of one worker's slots, by stride scheduling.
 //!
 //! Stride scheduling is that of Waldspurger and Weihl, "Stride Scheduling: Deterministic
-//! Proportional-Share Resource Management" (1995): a client's stride is inversely proportional to its
-//! tickets, here the priority; the client with the least pass runs next, and its pass then grows by its
-//! stride, scaled by the time used. The numbers and the rules of joining are this project's own. A slot
-//! joins no earlier than the floor, which is the pass of the slot chosen last, so that no slot can catch
-//! up on time in which it was not active.
+//! Proportional-Share Resource Management" (1995): a client's stride is inversely proportional to
+//! its tickets, here the priority; the client with the least pass runs next, and its pass then
+//! grows by its stride, scaled by the time used. The numbers and the rules of joining are this
+//! project's own. A slot joins no earlier than the floor, which is the pass of the slot chosen
+//! last, so that no slot can catch up on time in which it was not active.
 //!
-//! The layer stands on no other. The one fact for the layer above: each call is `stride_after` of the set,
-//! and between any two calls each active pass lies within the floor and the floor plus the largest advance,
-//! and the widest gap of two active slots is at most the largest advance.
+//! The layer stands on no other. The one fact for the layer above: each call is `stride_after` of
+//! the set, and between any two calls each active pass lies within the floor and the floor plus the
+//! largest advance, and the widest gap of two active slots is at most the largest advance.
 //!
-//! An example, which is proved beside the tests: a turn, in which the active slot of least pass runs for
-//! so many nanoseconds.
+//! An example, which is proved beside the tests: a turn, in which the active slot of least pass
+//! runs for so many nanoseconds.
 //!
 //! ```
 //! fn turn(set: &mut StrideSet, ns: u64, priority: u32) -> Option<u32>
@@ -27,15 +27,20 @@
 //! ```
 #![tactic(auto)]
 
-ghost use Rattle.std.specs.Prelude.{◌≡◌, ◌↔◌, ℕ, List, ◌+◌, ◌*◌, ◌^◌, ◌<◌, ◌≤◌, length, fold, true, false, IfOk, IfSome, IfNone, IsTrue};
+ghost use Rattle.std.specs.Prelude.{◌≡◌, ◌↔◌, ℕ, List, ◌+◌, ◌*◌, ◌^◌, ◌<◌, ◌≤◌, length, fold, true};
+ghost use Rattle.std.specs.Prelude.{false, IfOk, IfSome, IfNone, IsTrue};
 ghost use Rattle.std.specs.Option.{ForSome};
 ghost use Rattle.stride_set.specs.Slots.{pass_in, spread_among, choice_among, comes_before};
-ghost use Rattle.stride_set.specs.Strides.{StrideState, Strides, Call, JoinChange, JoinReturn, DropSlot, Choose, Advance, IsChoice, MayAdvance, IsBounded, AreLawful, strides_of, new_strides, stride_after, choice_of, widest_gap};
+ghost use Rattle.stride_set.specs.Strides.{StrideState, Strides, Call, JoinChange, JoinReturn};
+ghost use Rattle.stride_set.specs.Strides.{DropSlot, Choose, Advance, IsChoice, MayAdvance};
+ghost use Rattle.stride_set.specs.Strides.{IsBounded, AreLawful, strides_of, new_strides};
+ghost use Rattle.stride_set.specs.Strides.{stride_after, choice_of, widest_gap};
 
 use std::alloc::{AllocError, Global};
 use std::marker::Model;
 
-/// The stride of a slot of priority 1 for one nanosecond: the constant `stride1` of Waldspurger and Weihl.
+/// The stride of a slot of priority 1 for one nanosecond: the constant `stride1` of Waldspurger and
+/// Weihl.
 pub const STRIDE_UNIT: u64 = 1_048_576;
 
 /// The number of this layer.
@@ -71,11 +76,13 @@ impl Model for StrideSet {
 
     ghost view = { state_of };
 
-    ghost invariant = { λ a. IsBounded (strides_of (state_of a)) × (length a.slots.items < 2 ^ 32) };
+    ghost invariant = { λ a. IsBounded (strides_of (state_of a))
+        × (length a.slots.items < 2 ^ 32) };
 }
 
 impl StrideSet {
-    /// A set of so many slots of which none is active, each at pass 0. Takes time and memory for each slot.
+    /// A set of so many slots of which none is active, each at pass 0. Takes time and memory for
+    /// each slot.
     pub fn new(alloc: Global, slots: u32) -> Result<StrideSet, AllocError>
         ensures { IfOk result (λ set. strides_of set ≡ new_strides slots) }
     {
@@ -110,8 +117,8 @@ impl StrideSet {
         self.widest = self.widest.max(spread(&self.slots));
     }
 
-    /// Slot `s` joins again with its old work: at its old pass, but not below the floor, whether it was
-    /// active or not. Takes one pass over the slots.
+    /// Slot `s` joins again with its old work: at its old pass, but not below the floor, whether it
+    /// was active or not. Takes one pass over the slots.
     pub fn join_return(&mut self, s: u32)
         requires { s < (strides_of self.old).slots }
         ensures { strides_of self.new ≡ stride_after (strides_of self.old) (JoinReturn s) }
@@ -129,15 +136,16 @@ impl StrideSet {
         self.slots[s as usize].active = false;
     }
 
-    /// The active slot of least pass, the least slot among ties, whose pass becomes the floor; none exactly
-    /// where no slot is active, and then nothing changes. Takes one pass over the slots.
+    /// The active slot of least pass, the least slot among ties, whose pass becomes the floor; none
+    /// exactly where no slot is active, and then nothing changes. Takes one pass over the slots.
     pub fn choose(&mut self) -> Option<u32>
         ensures choice { result ≡ choice_of (strides_of self.old) }
         ensures least { IfSome result (λ s. IsChoice (strides_of self.old) s) }
         ensures none { IfNone result ((s : ℕ) → s < (strides_of self.old).slots
             → (strides_of self.old).active s ≡ false) }
         ensures may_advance { IfSome result (λ s. MayAdvance (strides_of self.new) s) }
-        ensures floor { IfSome result (λ s. strides_of self.new ≡ stride_after (strides_of self.old) (Choose s)) }
+        ensures floor { IfSome result (λ s.
+            strides_of self.new ≡ stride_after (strides_of self.old) (Choose s)) }
         ensures unchanged { IfNone result (self.new ≡ self.old) }
     {
         let s = choice(&self.slots)?;
@@ -145,9 +153,10 @@ impl StrideSet {
         Some(s)
     }
 
-    /// The pass of slot `s` grows by its stride for `ns` nanoseconds at this priority (100 to 10,000 in use), and
-    /// stays at 2^128 - 1 where it would pass it. The slot is active and at the floor, as after the `choose`
-    /// that answered it, with no advance since. Takes one pass over the slots.
+    /// The pass of slot `s` grows by its stride for `ns` nanoseconds at this priority (100 to
+    /// 10,000 in use), and stays at 2^128 - 1 where it would pass it. The slot is active and at the
+    /// floor, as after the `choose` that answered it, with no advance since. Takes one pass over
+    /// the slots.
     pub fn advance(&mut self, s: u32, ns: u64, priority: u32)
         requires chosen { MayAdvance (strides_of self.old) s }
         requires time { ns ≤ 2 ^ 36 }
@@ -161,8 +170,8 @@ impl StrideSet {
         self.widest = self.widest.max(spread(&self.slots));
     }
 
-    /// Whether slot `s` may advance, for a caller who did not keep what `choose` answered. Takes constant
-    /// time.
+    /// Whether slot `s` may advance, for a caller who did not keep what `choose` answered. Takes
+    /// constant time.
     pub fn may_advance(&self, s: u32) -> bool
         ensures { IsTrue result ↔ MayAdvance (strides_of self.now) s }
     {
@@ -172,7 +181,8 @@ impl StrideSet {
         }
     }
 
-    /// The pass of the slot chosen last, 0 before any. Takes constant time, as each call below does.
+    /// The pass of the slot chosen last, 0 before any. Takes constant time, as each call below
+    /// does.
     pub fn floor(&self) -> u128
         ensures { result ≡ self.now.floor }
     {
@@ -186,8 +196,8 @@ impl StrideSet {
         self.largest
     }
 
-    /// The greatest difference of the passes of two slots that were active at the same time, after any call;
-    /// 0 before two were.
+    /// The greatest difference of the passes of two slots that were active at the same time, after
+    /// any call; 0 before two were.
     pub fn widest(&self) -> u128
         ensures value { result ≡ self.now.widest }
         ensures bounded { IsBounded (strides_of self.now) }
@@ -253,15 +263,16 @@ fn comes_before(slots: &[Slot], s: usize, choice: Option<u32>) -> bool
     }
 }
 
-/// The law of the bounds: after any lawful calls of a new set each active pass lies within the floor and the
-/// floor plus the largest advance, each other pass is at most that sum, and the widest gap is at most the
-/// largest advance. And `widest` is the greatest difference of the passes of two slots that were active at
-/// the same time, after any of the calls.
+/// The law of the bounds: after any lawful calls of a new set each active pass lies within the
+/// floor and the floor plus the largest advance, each other pass is at most that sum, and the
+/// widest gap is at most the largest advance. And `widest` is the greatest difference of the passes
+/// of two slots that were active at the same time, after any of the calls.
 pub fn calls_keep_the_bounds()
     ensures bounded { (slots : ℕ) (calls : List Call) → AreLawful (new_strides slots) calls
         → IsBounded (fold stride_after (new_strides slots) calls) }
     ensures widest { (slots : ℕ) (calls : List Call)
-        → (fold stride_after (new_strides slots) calls).widest ≡ widest_gap (new_strides slots) calls }
+        → (fold stride_after (new_strides slots) calls).widest
+        ≡ widest_gap (new_strides slots) calls }
 {}
 
 #[cfg(test)]

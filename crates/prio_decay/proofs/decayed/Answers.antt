@@ -20,4 +20,5 @@ loop-quantum-preserved c =
 
 pub returns-then-priority-eq-LEAST_PRIORITY : goal.returns-then-priority-eq-LEAST_PRIORITY
 returns-then-priority-eq-LEAST_PRIORITY c =
-    c.if-priority-eq-LEAST_PRIORITY.true ∙ sym (priority_after-stays c.args.params c.requires.usable c.loop-quantum._quantum c.args.to (omega arith) (sym c.loop-quantum.invariant ∙ c.if-priority-eq-LEAST_PRIORITY.true))
+    c.if-priority-eq-LEAST_PRIORITY.true ∙ sym (priority_after-stays c.args.params c.requires.usable c.loop-quantum._quantum c.args.to (omega arith)
+    (sym c.loop-quantum.invariant ∙ c.if-priority-eq-LEAST_PRIORITY.true))

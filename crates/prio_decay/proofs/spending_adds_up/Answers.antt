@@ -7,5 +7,6 @@ pub returns : goal.returns
 returns c = λ p times u.
     let same = params-fold times (unspent p) in
     let spent = HasSpent-fold times (unspent p) 0 (omega arith) in
-    let last : priority_after (fold after_spending (unspent p) times).params ((0 + sum times) / 2000000) ≡ priority_after p (sum times / 2000000) = rw (same, zero-add) refl in
+    let last : priority_after (fold after_spending (unspent p) times).params ((0 + sum times) / 2000000) ≡ priority_after p (sum times / 2000000) = rw
+    (same, zero-add) refl in
     priority_of-spent _ _ (subst IsUsable (sym same) u) spent ∙ last

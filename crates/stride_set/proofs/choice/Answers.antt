@@ -21,7 +21,8 @@ loop-s-preserved c =
     let pass = pass_in c.args.slots.now in
     elim c.if-slot.branch [
       | then-slot+then-comes_before w ↦
-          w.choice-is ∙ choice_from-takes c.loop-s.s active pass c.loop-s.choice c.loop-s.invariant w.if-slot.true (sym w.comes_before.ensures ∙ w.if-comes_before.true)
+          w.choice-is ∙ choice_from-takes c.loop-s.s active pass c.loop-s.choice c.loop-s.invariant w.if-slot.true
+          (sym w.comes_before.ensures ∙ w.if-comes_before.true)
       | else-slot w ↦
           w.choice-is ∙ choice_from-keeps c.loop-s.s active pass c.loop-s.choice c.loop-s.invariant (elim w.else-slot.branch [
             | else-slot-via-then-slot+else-comes_before v ↦ rw (v.if-slot.true, ← v.comes_before.ensures) v.if-comes_before.false

@@ -12,8 +12,11 @@ loop-slot-preserved c =
     let active = active_in c.args.slots.now in
     let pass = pass_in c.args.slots.now in
     elim c.if-slot.branch [
-      | then-slot w ↦ rw (w.least-is, w.greatest-is, w.min-least.ensures, w.max-greatest.ensures) (HasEnds-take c.loop-slot.slot-index active pass c.loop-slot.least c.loop-slot.greatest w.if-slot.true (omega (arith, w.max-greatest.type_inv, w.max-greatest.ensures)) c.loop-slot.invariant)
-      | else-slot w ↦ rw (w.least-is, w.greatest-is) (HasEnds-skip c.loop-slot.slot-index active pass c.loop-slot.least c.loop-slot.greatest w.if-slot.false c.loop-slot.invariant)
+      | then-slot w ↦ rw (w.least-is, w.greatest-is, w.min-least.ensures, w.max-greatest.ensures)
+          (HasEnds-take c.loop-slot.slot-index active pass c.loop-slot.least c.loop-slot.greatest w.if-slot.true
+          (omega (arith, w.max-greatest.type_inv, w.max-greatest.ensures)) c.loop-slot.invariant)
+      | else-slot w ↦ rw (w.least-is, w.greatest-is) (HasEnds-skip c.loop-slot.slot-index active pass c.loop-slot.least c.loop-slot.greatest
+          w.if-slot.false c.loop-slot.invariant)
     ]
 
 pub returns : goal.returns
@@ -21,4 +24,5 @@ returns c =
     let active = active_in c.args.slots.now in
     let pass = pass_in c.args.slots.now in
     let all : c.loop-slot.slot-index ≡ length c.args.slots.now = omega arith in
-    c.saturating_sub.ensures ∙ spread_from-ends (length c.args.slots.now) active pass c.loop-slot.least c.loop-slot.greatest (subst (λ n. HasEnds n active pass c.loop-slot.least c.loop-slot.greatest) all c.loop-slot.invariant)
+    c.saturating_sub.ensures ∙ spread_from-ends (length c.args.slots.now) active pass c.loop-slot.least c.loop-slot.greatest
+    (subst (λ n. HasEnds n active pass c.loop-slot.least c.loop-slot.greatest) all c.loop-slot.invariant)

@@ -11,7 +11,8 @@ returns-then-contains c = record {
 
 pub loop-place-preserved : goal.loop-place-preserved
 loop-place-preserved c =
-    below_more _ _ c.loop-place.invariant (not_StoodBefore-from_any c.args.names.now c.loop-place.place c.index-names-place.result (omega arith) c.index-names-place.is c.if-contains.ensures.cases)
+    below_more _ _ c.loop-place.invariant (not_StoodBefore-from_any c.args.names.now c.loop-place.place c.index-names-place.result (omega arith)
+    c.index-names-place.is c.if-contains.ensures.cases)
 
 pub returns : goal.returns
 returns c = λ place h. c.loop-place.invariant place (omega arith)

@@ -7,13 +7,17 @@ use Rattle.col_table.proofs.table.make_room.Goals as goal
 
 pub returns-in_err-reserve-clause-same : goal.returns-in_err-reserve-clause-same
 returns-in_err-reserve-clause-same c =
-    values_of-set c.loop-column.columns c.loop-column.column-index c.column-item.result c.reserve.new.self (omega arith) c.reserve.ensures.items ∙ c.loop-column.invariant.0
+    values_of-set c.loop-column.columns c.loop-column.column-index c.column-item.result c.reserve.new.self (omega arith) c.reserve.ensures.items ∙
+    c.loop-column.invariant.0
 
 pub loop-column-preserved : goal.loop-column-preserved
 loop-column-preserved c =
     let inside : c.loop-column.column-index < length c.loop-column.columns = omega arith in (
-      values_of-set c.loop-column.columns c.loop-column.column-index c.column-item.result c.reserve.new.self inside c.reserve.ensures.items ∙ c.loop-column.invariant.0,
-      subst (All HasRoom) (sym (take_more_set c.loop-column.columns c.loop-column.column-index c.reserve.new.self inside)) (All-push HasRoom (take c.loop-column.column-index c.loop-column.columns) c.reserve.new.self c.loop-column.invariant.1 (omega (arith, c.in_ok-reserve.ensures.ok))),
+      values_of-set c.loop-column.columns c.loop-column.column-index c.column-item.result c.reserve.new.self inside c.reserve.ensures.items ∙
+          c.loop-column.invariant.0,
+      subst (All HasRoom) (sym (take_more_set c.loop-column.columns c.loop-column.column-index c.reserve.new.self inside))
+          (All-push HasRoom (take c.loop-column.column-index c.loop-column.columns) c.reserve.new.self c.loop-column.invariant.1
+          (omega (arith, c.in_ok-reserve.ensures.ok))),
     )
 
 pub returns-clause-room : goal.returns-clause-room

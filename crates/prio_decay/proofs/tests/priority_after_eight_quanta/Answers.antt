@@ -5,4 +5,5 @@ use Rattle.prio_decay.proofs.tests.priority_after_eight_quanta.Goals as goal
 pub returns : goal.returns
 unfolding priority_after
 returns c =
-    c.priority.ensures.value ∙ ap priority_of (c.spend.ensures ∙ ap (λ d. after_spending d 16000000) (c.new-decay.ensures ∙ ap unspent c.of_weight.ensures.params)) ∙ refl
+    c.priority.ensures.value ∙ ap priority_of (c.spend.ensures ∙ ap (λ d. after_spending d 16000000)
+    (c.new-decay.ensures ∙ ap unspent c.of_weight.ensures.params)) ∙ refl

@@ -17,11 +17,17 @@ invariant_of-self c =
     let state = active_in-read v.slots c.args.s c.index_mut-slot.result.now within c.index_mut-slot.ensures.value in
     let pass = pass_in-read v.slots c.args.s c.index_mut-slot.result.now within c.index_mut-slot.ensures.value in
     let stride : c.from-2.result ≡ advance_of c.args.ns c.args.priority = c.from-2.ensures ∙ ap (λ d. c.args.ns * 1048576 / d) c.from.ensures in
-    let moved : c.saturating_add-slot.result ≡ min (pass_in v.slots c.args.s + advance_of c.args.ns c.args.priority) (2 ^ 128 - 1) = c.saturating_add-slot.ensures ∙ rw (pass, stride) refl in
+    let moved : c.saturating_add-slot.result ≡ min (pass_in v.slots c.args.s + advance_of c.args.ns c.args.priority) (2 ^ 128 - 1) =
+    c.saturating_add-slot.ensures ∙ rw (pass, stride) refl in
     let largest = c.max-self-inside.ensures ∙ ap (λ d. max v.largest (c.args.ns * 1048576 / d)) c.from.ensures in
-    let widest : c.max-self-inside-2.result ≡ max v.widest (spread_among (set v.slots c.args.s slot)) = c.max-self-inside-2.ensures ∙ ap (max v.widest) (c.spread.ensures ∙ ap spread_among c.deref.ensures.value) in
-    let e = strides_of-advance v c.args.s c.args.ns c.args.priority slot c.max-self-inside.result c.max-self-inside-2.result within state moved largest widest in
-    (subst IsBounded (sym e) (stride_after-bounded (strides_of v) (Advance c.args.s c.args.ns c.args.priority) c.self.invariant.0 lawful), rw length-set c.self.invariant.1)
+    let widest : c.max-self-inside-2.result ≡ max v.widest (spread_among (set v.slots c.args.s slot)) = c.max-self-inside-2.ensures ∙ ap
+    (max v.widest) (c.spread.ensures ∙ ap spread_among c.deref.ensures.value) in
+    let e = strides_of-advance v c.args.s c.args.ns c.args.priority slot c.max-self-inside.result c.max-self-inside-2.result within state moved
+    largest widest in (
+      subst IsBounded (sym e) (stride_after-bounded (strides_of v) (Advance c.args.s c.args.ns c.args.priority) c.self.invariant.0 lawful),
+      rw
+          length-set c.self.invariant.1,
+    )
 
 pub returns : goal.returns
 returns c =
@@ -32,8 +38,11 @@ returns c =
     let state = active_in-read v.slots c.args.s c.index_mut-slot.result.now within c.index_mut-slot.ensures.value in
     let pass = pass_in-read v.slots c.args.s c.index_mut-slot.result.now within c.index_mut-slot.ensures.value in
     let stride : c.from-2.result ≡ advance_of c.args.ns c.args.priority = c.from-2.ensures ∙ ap (λ d. c.args.ns * 1048576 / d) c.from.ensures in
-    let moved : c.saturating_add-slot.result ≡ min (pass_in v.slots c.args.s + advance_of c.args.ns c.args.priority) (2 ^ 128 - 1) = c.saturating_add-slot.ensures ∙ rw (pass, stride) refl in
+    let moved : c.saturating_add-slot.result ≡ min (pass_in v.slots c.args.s + advance_of c.args.ns c.args.priority) (2 ^ 128 - 1) =
+    c.saturating_add-slot.ensures ∙ rw (pass, stride) refl in
     let largest = c.max-self-inside.ensures ∙ ap (λ d. max v.largest (c.args.ns * 1048576 / d)) c.from.ensures in
-    let widest : c.max-self-inside-2.result ≡ max v.widest (spread_among (set v.slots c.args.s slot)) = c.max-self-inside-2.ensures ∙ ap (max v.widest) (c.spread.ensures ∙ ap spread_among c.deref.ensures.value) in
-    let e = strides_of-advance v c.args.s c.args.ns c.args.priority slot c.max-self-inside.result c.max-self-inside-2.result within state moved largest widest in
+    let widest : c.max-self-inside-2.result ≡ max v.widest (spread_among (set v.slots c.args.s slot)) = c.max-self-inside-2.ensures ∙ ap
+    (max v.widest) (c.spread.ensures ∙ ap spread_among c.deref.ensures.value) in
+    let e = strides_of-advance v c.args.s c.args.ns c.args.priority slot c.max-self-inside.result c.max-self-inside-2.result within state moved
+    largest widest in
     rw (← c.self.view_is) e

@@ -13,7 +13,8 @@ pub returns-clause-found : goal.returns-clause-found
 returns-clause-found c =
     let names = c.args.self.now.names in
     let name = c.args.name.now in
-    let first = position_from_yields_List (λ other. pointwise nat_eq other name) _ _ c.position.result c.position.ensures.ran (YieldsList-from_slice names cc) (λ x b q k. search (rules, tests)) in
+    let first = position_from_yields_List (λ other. pointwise nat_eq other name) _ _ c.position.result c.position.ensures.ran
+    (YieldsList-from_slice names cc) (λ x b q k. search (rules, tests)) in
     let found = position-Some (λ other. pointwise nat_eq other name) names c.in_ok-col.col [] (sym first ∙ c.in_ok-col.was) in
     slice_get-get_or names c.in_ok-col.col [] found.0 ∙ ap (λ x. Some x) ((bytes_eq-Decides (get_or names c.in_ok-col.col []) name).0 found.1)
 

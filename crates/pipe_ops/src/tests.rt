@@ -8,18 +8,18 @@ use plan_ast::{
 use std::process::Abort;
 use std::test::Fail;
 
-fn name(rt: &(impl Abort + AllocGlobal), text: &str) -> Result<Name, Fail> {
+pub(crate) fn name(rt: &(impl Abort + AllocGlobal), text: &str) -> Result<Name, Fail> {
     Ok(Name::new(String::from_str(rt.alloc(), text)?).expect(rt, "a name"))
 }
 
-fn column(rt: &(impl Abort + AllocGlobal), text: &str) -> Result<NameRef, Fail> {
+pub(crate) fn column(rt: &(impl Abort + AllocGlobal), text: &str) -> Result<NameRef, Fail> {
     Ok(NameRef {
         side: 0,
         name: name(rt, text)?,
     })
 }
 
-fn agg(rt: &(impl Abort + AllocGlobal), func: Func) -> Result<Agg, Fail> {
+pub(crate) fn agg(rt: &(impl Abort + AllocGlobal), func: Func) -> Result<Agg, Fail> {
     let column = match func {
         Func::Count => None,
         Func::Sum => Some(column(rt, "v")?),
@@ -30,7 +30,7 @@ fn agg(rt: &(impl Abort + AllocGlobal), func: Func) -> Result<Agg, Fail> {
 }
 
 // A table with these columns.
-fn table(
+pub(crate) fn table(
     rt: &(impl Abort + AllocGlobal),
     named: &str,
     columns: &[&str],
@@ -53,12 +53,16 @@ fn table(
 }
 
 // An aggregate of a column of the first join's table.
-fn joined_agg(rt: &(impl Abort + AllocGlobal), func: Func, text: &str) -> Result<Agg, Fail> {
+pub(crate) fn joined_agg(
+    rt: &(impl Abort + AllocGlobal),
+    func: Func,
+    text: &str,
+) -> Result<Agg, Fail> {
     let column = Some(joined_column(rt, text)?);
     Ok(Agg { func, column })
 }
 
-fn joined_column(rt: &(impl Abort + AllocGlobal), text: &str) -> Result<NameRef, Fail> {
+pub(crate) fn joined_column(rt: &(impl Abort + AllocGlobal), text: &str) -> Result<NameRef, Fail> {
     Ok(NameRef {
         side: 1,
         name: name(rt, text)?,
@@ -66,7 +70,7 @@ fn joined_column(rt: &(impl Abort + AllocGlobal), text: &str) -> Result<NameRef,
 }
 
 // A join of `u` on the column `k` of `t` and of `u`.
-fn join(rt: &(impl Abort + AllocGlobal)) -> Result<Join, Fail> {
+pub(crate) fn join(rt: &(impl Abort + AllocGlobal)) -> Result<Join, Fail> {
     Ok(Join {
         table: name(rt, "u")?,
         left: column(rt, "k")?,

@@ -1,5 +1,28 @@
 -- What was found is there.
-use Rattle.std.proofs.Common.{◌≡◌, ℕ, ◌+◌, ◌<◌, List, [], ◌∷◌, ◌++◌, length, get_or, map, take, true, Option, Some, None, option_map, option_to_list, refl, sym, ap, ◌∙◌}
+use Rattle.std.proofs.Common.{
+  ◌≡◌,
+  ℕ,
+  ◌+◌,
+  ◌<◌,
+  List,
+  [],
+  ◌∷◌,
+  ◌++◌,
+  length,
+  get_or,
+  map,
+  take,
+  true,
+  Option,
+  Some,
+  None,
+  option_map,
+  option_to_list,
+  refl,
+  sym,
+  ap,
+  ◌∙◌,
+}
 use Rattle.std.proofs.lemmas.List.{map-append, take_more}
 use Rattle.col_table.specs.NamedRows.{NamedRows}
 use Rattle.plan_ast.specs.Names.{is_there, of_column, own_column, column_in, column_place, agg_mention, first_missing}
@@ -14,16 +37,19 @@ use Rattle.plan_ast.specs.declared.places.AggAt.{AggAt}
 use Rattle.plan_ast.proofs.MissingLemmas.{is_some-option_map, missing_there}
 
 -- one more item was found
-pub found_more : {X Y : Type 0} (at : X → Option Y) (xs : List X) (i : ℕ) (x : X) (ys : List Y) (y : Y) → i < length xs → x ≡ get_or xs i x → map at (take i xs) ≡ map Some ys → at x ≡ Some y
+pub found_more : {X Y : Type 0} (at : X → Option Y) (xs : List X) (i : ℕ) (x : X) (ys : List Y) (y : Y) → i < length xs → x ≡ get_or xs i x → map at
+    (take i xs) ≡ map Some ys → at x ≡ Some y
     → map at (take (i + 1) xs) ≡ map Some (ys ++ y ∷ [])
 found_more at xs i x ys y short is found this =
     ap (map at) (take_more xs i x short ∙ ap (λ v. take i xs ++ v ∷ []) (sym is)) ∙ map-append at (take i xs) (x ∷ [])
     ∙ ap (λ v. v ++ at x ∷ []) found ∙ ap (λ v. map Some ys ++ v ∷ []) this ∙ sym (map-append Some ys (y ∷ []))
 
-pub there-column_at : (tables : List NamedTable) (sides : List NamedRows) (ref : NameRef) (at : ColumnAt) → column_at sides ref ≡ Some at → is_there tables (of_column sides ref) ≡ true
+pub there-column_at : (tables : List NamedTable) (sides : List NamedRows) (ref : NameRef) (at : ColumnAt) → column_at sides ref ≡ Some at → is_there
+    tables (of_column sides ref) ≡ true
 there-column_at tables sides ref at found = is_some-option_map _ (column_in sides ref) at found
 
-pub there-filter_at : (tables : List NamedTable) (table : NamedRows) (filter : Filter) (at : FilterAt) → filter_at table filter ≡ Some at → is_there tables (own_column table filter.column) ≡ true
+pub there-filter_at : (tables : List NamedTable) (table : NamedRows) (filter : Filter) (at : FilterAt) → filter_at table filter ≡ Some at → is_there
+    tables (own_column table filter.column) ≡ true
 there-filter_at tables table filter at found = is_some-option_map _ (column_place table filter.column) at found
 
 some_under : {A B : Type 0} (f : A → B) (o : Option A) (y : B) → option_map f o ≡ Some y → (x : A) × (o ≡ Some x)
@@ -37,7 +63,8 @@ missing-folded_at tables sides (Some ref) at found =
     let under = some_under _ (column_at sides ref) at found in
     missing_there tables (of_column sides ref) (there-column_at tables sides ref under.0 under.1)
 
-pub missing-agg_at : (tables : List NamedTable) (sides : List NamedRows) (agg : Agg) (at : AggAt) → agg_at sides agg ≡ Some at → first_missing tables (agg_mention sides agg) ≡ None
+pub missing-agg_at : (tables : List NamedTable) (sides : List NamedRows) (agg : Agg) (at : AggAt) → agg_at sides agg ≡ Some at → first_missing tables
+    (agg_mention sides agg) ≡ None
 missing-agg_at tables sides agg at found =
     let under = some_under _ (folded_at sides agg.column) at found in
     missing-folded_at tables sides agg.column under.0 under.1

@@ -1,5 +1,28 @@
 -- Where a column stands by its name.
-use Rattle.std.proofs.Common.{◌≡◌, ℕ, ◌<◌, List, [], length, get_or, slice_get, Bool, true, false, cond, Some, None, Contains, bytes_eq, position, ltb, refl, sym, ◌∙◌, arith}
+use Rattle.std.proofs.Common.{
+  ◌≡◌,
+  ℕ,
+  ◌<◌,
+  List,
+  [],
+  length,
+  get_or,
+  slice_get,
+  Bool,
+  true,
+  false,
+  cond,
+  Some,
+  None,
+  Contains,
+  bytes_eq,
+  position,
+  ltb,
+  refl,
+  sym,
+  ◌∙◌,
+  arith,
+}
 use Rattle.std.proofs.lemmas.Bool.{lt-ltb, ltb-true}
 use Rattle.std.proofs.lemmas.List.Sums.{position_or_len_is, passes_at_first}
 use Rattle.std.proofs.lemmas.Option.{slice_get_within, get_or_from_slice_get}
@@ -12,7 +35,8 @@ differ xs ys true e apart = absurd (apart ((bytes_eq-Decides xs ys).0 e))
 differ xs ys false e apart = refl
 
 -- the one column of a name stands at its place
-pub column_place-found : (names : List (List ℕ)) (name : List ℕ) (col : ℕ) → AllDiffer names → slice_get names col ≡ Some name → position (λ n. bytes_eq n name) names ≡ Some col
+pub column_place-found : (names : List (List ℕ)) (name : List ℕ) (col : ℕ) → AllDiffer names → slice_get names col ≡ Some name → position
+    (λ n. bytes_eq n name) names ≡ Some col
 column_place-found names name col apart is =
     let within : col < length names = slice_get_within names col name is in
     let here : get_or names col [] ≡ name = get_or_from_slice_get names col name [] is in

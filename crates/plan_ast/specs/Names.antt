@@ -1,5 +1,7 @@
 -- The names in a query, and which of them are there.
-use Rattle.std.specs.Prelude.{ℕ, List, [], ◌∷◌, ◌++◌, map, flat_map, Bool, not, is_some, Option, option_map, option_and_then, option_to_list, find, position, bytes_eq, slice_get}
+use Rattle.std.specs.Prelude.{ℕ, List, [], ◌∷◌, ◌++◌, map, flat_map, Bool, not, is_some, Option}
+use Rattle.std.specs.Prelude.{option_map, option_and_then, option_to_list, find, position, bytes_eq}
+use Rattle.std.specs.Prelude.{slice_get}
 use Rattle.std.specs.Option.{option_map_or}
 use Rattle.col_table.specs.NamedRows.{NamedRows, no_rows}
 use Rattle.plan_ast.specs.declared.queries.NameRef.{NameRef}

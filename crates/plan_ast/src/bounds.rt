@@ -1,6 +1,7 @@
 // Whether the numbers of a query lie within their limits.
 ghost use Rattle.std.specs.Prelude.{◌↔◌, IsTrue};
-ghost use Rattle.plan_ast.specs.Bounds.{AreAggsInBounds, AreFewFilters, IsAggInBounds, IsInBounds, IsOutputInBounds};
+ghost use Rattle.plan_ast.specs.Bounds.{AreAggsInBounds, AreFewFilters, IsAggInBounds, IsInBounds};
+ghost use Rattle.plan_ast.specs.Bounds.{IsOutputInBounds};
 
 use crate::queries::{Agg, Filter, Func, Output, Query};
 

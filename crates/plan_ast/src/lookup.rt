@@ -1,7 +1,13 @@
 // Finds the places of the names in a query, or refuses the first name that isn't there.
-ghost use Rattle.std.specs.Prelude.{◌≡◌, ◌<◌, ◌⊎◌, [], ◌∷◌, ◌++◌, All, IfErr, IfOk, IfSome, None, OnOk, Some, length, map};
-ghost use Rattle.plan_ast.specs.Names.{agg_mention, agg_mentions, column_place, filter_mentions, join_columns, join_tables, joins_mentions, mentions_of, of_column, of_table, output_mentions, own_column, table_place};
-ghost use Rattle.plan_ast.specs.Places.{AddsTables, AreFound, AreJoinsAt, ArePlacesOf, IsJoinAt, IsOutputAt, IsRefusedBy, agg_at, column_at, filter_at, sides_at, table_at};
+ghost use Rattle.std.specs.Prelude.{◌≡◌, ◌<◌, ◌⊎◌, [], ◌∷◌, ◌++◌, All, IfErr, IfOk, IfSome, None};
+ghost use Rattle.std.specs.Prelude.{OnOk, Some, length, map};
+ghost use Rattle.plan_ast.specs.Names.{agg_mention, agg_mentions, column_place, filter_mentions};
+ghost use Rattle.plan_ast.specs.Names.{join_columns, join_tables, joins_mentions, mentions_of};
+ghost use Rattle.plan_ast.specs.Names.{of_column, of_table, output_mentions, own_column};
+ghost use Rattle.plan_ast.specs.Names.{table_place};
+ghost use Rattle.plan_ast.specs.Places.{AddsTables, AreFound, AreJoinsAt, ArePlacesOf, IsJoinAt};
+ghost use Rattle.plan_ast.specs.Places.{IsOutputAt, IsRefusedBy, agg_at, column_at, filter_at};
+ghost use Rattle.plan_ast.specs.Places.{sides_at, table_at};
 
 use crate::places::{AggAt, ColumnAt, FilterAt, JoinAt, OutputAt, Places};
 use crate::queries::{Agg, Filter, Join, NameRef, NamedTable, Output, Query};

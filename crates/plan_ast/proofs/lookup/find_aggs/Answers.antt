@@ -11,5 +11,6 @@ returns-in_err-find_agg-clause-refused c =
     let sides = sides_at tables c.args.sides.now in
     let p = err_from_is_err_and c.from_residual-in_err-find_agg.result c.from_residual-in_err-find_agg.ensures.1 in
     rw (p.1, p.2)
-    (refused-flat_map tables (agg_mention sides) (agg_at sides) (missing-agg_at tables sides) c.args.aggs.now c.loop-agg.agg-index c.agg-item.result c.loop-agg.found.items _
+    (refused-flat_map tables (agg_mention sides) (agg_at sides) (missing-agg_at tables sides) c.args.aggs.now c.loop-agg.agg-index c.agg-item.result
+    c.loop-agg.found.items _
     c.loop-agg-test.true c.agg-item.is c.loop-agg.invariant c.in_err-find_agg.ensures.refused)

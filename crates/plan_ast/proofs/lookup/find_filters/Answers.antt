@@ -12,5 +12,6 @@ returns-in_err-find_filter-clause-refused c =
     let table = table_at tables c.args.side in
     let p = err_from_is_err_and c.from_residual-in_err-find_filter.result c.from_residual-in_err-find_filter.ensures.1 in
     rw (p.1, p.2)
-    (refused-map tables (λ (f : Filter). own_column table f.column) (filter_at table) (there-filter_at tables table) c.args.filters.now c.loop-filter.filter-index c.filter-item.result c.loop-filter.found.items _
+    (refused-map tables (λ (f : Filter). own_column table f.column) (filter_at table) (there-filter_at tables table) c.args.filters.now
+    c.loop-filter.filter-index c.filter-item.result c.loop-filter.found.items _
     c.loop-filter-test.true c.filter-item.is c.loop-filter.invariant c.in_err-find_filter.ensures.refused)

@@ -19,7 +19,8 @@ returns-in_err-place-clause-refused c =
     rw (p.1, p.2)
     (refused-joins tables (sides_at tables old) joins c.loop-join.join-index join c.loop-join.found.items c.loop-join.invariant.sides.added _
     c.loop-join-test.true c.join-item.is c.loop-join.invariant.found c.loop-join.invariant.sides.found
-    (refused_before tables (of_table join.table ∷ []) (join_columns (sides_at tables old ++ joined_sides tables before) (table_named tables join.table) join) _ c.in_err-place.ensures.refused))
+    (refused_before tables (of_table join.table ∷ [])
+    (join_columns (sides_at tables old ++ joined_sides tables before) (table_named tables join.table) join) _ c.in_err-place.ensures.refused))
 
 pub returns-in_err-find_join-clause-refused : goal.returns-in_err-find_join-clause-refused
 returns-in_err-find_join-clause-refused c =
@@ -31,7 +32,8 @@ returns-in_err-find_join-clause-refused c =
     let place : ℕ = c.in_ok-place.place in
     let e = c.in_err-find_join.field-0.0 in
     let now = sides_at tables old ++ joined_sides tables before in
-    let sides : sides_at tables c.as_slice.result.now ≡ now = ap (sides_at tables) c.as_slice.ensures.value ∙ sides_at-added tables before old c.loop-join.sides.items c.loop-join.invariant.sides in
+    let sides : sides_at tables c.as_slice.result.now ≡ now = ap (sides_at tables) c.as_slice.ensures.value ∙ sides_at-added tables before old
+    c.loop-join.sides.items c.loop-join.invariant.sides in
     let table : table_at tables place ≡ table_named tables join.table = sym (table_named-found tables join.table place c.in_ok-place.ensures.found) in
     let columns : IsRefusedBy tables (join_columns now (table_named tables join.table) join) e =
     subst (λ s. IsRefusedBy tables (join_columns s (table_named tables join.table) join) e) sides
@@ -40,7 +42,8 @@ returns-in_err-find_join-clause-refused c =
     rw (p.1, p.2)
     (refused-joins tables (sides_at tables old) joins c.loop-join.join-index join c.loop-join.found.items c.loop-join.invariant.sides.added e
     c.loop-join-test.true c.join-item.is c.loop-join.invariant.found c.loop-join.invariant.sides.found
-    (refused_after tables (of_table join.table ∷ []) (join_columns now (table_named tables join.table) join) e (missing-table tables join.table place c.in_ok-place.ensures.found) columns))
+    (refused_after tables (of_table join.table ∷ []) (join_columns now (table_named tables join.table) join) e
+    (missing-table tables join.table place c.in_ok-place.ensures.found) columns))
 
 pub loop-join-preserved : goal.loop-join-preserved
 loop-join-preserved c =
@@ -53,7 +56,8 @@ loop-join-preserved c =
     let place : ℕ = c.in_ok-place.place in
     let at = c.in_ok-find_join.field-0 in
     let now = sides_at tables old ++ joined_sides tables before in
-    let sides : sides_at tables c.as_slice.result.now ≡ now = ap (sides_at tables) c.as_slice.ensures.value ∙ sides_at-added tables before old c.loop-join.sides.items c.loop-join.invariant.sides in
+    let sides : sides_at tables c.as_slice.result.now ≡ now = ap (sides_at tables) c.as_slice.ensures.value ∙ sides_at-added tables before old
+    c.loop-join.sides.items c.loop-join.invariant.sides in
     let table : table_at tables place ≡ table_named tables join.table = sym (table_named-found tables join.table place c.in_ok-place.ensures.found) in
     let this : IsJoinAt now (table_named tables join.table) join at =
     subst (λ (s : List NamedRows). IsJoinAt s (table_named tables join.table) join at) sides
@@ -61,6 +65,8 @@ loop-join-preserved c =
     let pushed = c.in_ok-push-2.ensures.items in
     record {
       within = rw pushed (All-push (λ side. side < length tables) c.loop-join.sides.items place c.loop-join.invariant.within c.in_ok-place.ensures.within);
-      sides = rw pushed (adds_more tables joins i join old c.loop-join.sides.items place c.loop-join-test.true c.join-item.is c.loop-join.invariant.sides c.in_ok-place.ensures.found);
-      found = rw c.in_ok-push.ensures.items (AreJoinsAt-more tables (sides_at tables old) joins i join c.loop-join.found.items at c.loop-join-test.true c.join-item.is c.loop-join.invariant.found this);
+      sides = rw pushed (adds_more tables joins i join old c.loop-join.sides.items place c.loop-join-test.true c.join-item.is
+          c.loop-join.invariant.sides c.in_ok-place.ensures.found);
+      found = rw c.in_ok-push.ensures.items (AreJoinsAt-more tables (sides_at tables old) joins i join c.loop-join.found.items at
+          c.loop-join-test.true c.join-item.is c.loop-join.invariant.found this);
     }

@@ -12,7 +12,8 @@ returns-in_err-by-in-Groups-clause-refused c =
     let sides = sides_at tables c.args.sides.now in
     let p = err_from_is_err_and c.from_residual-in_err-by-in-Groups.result c.from_residual-in_err-by-in-Groups.ensures.1 in
     rw (p.1, p.2, c.in-Groups.is)
-    (refused_before tables (map (of_column sides) c.in-Groups.by) (agg_mentions sides c.in-Groups.aggs) _ (rw c.as_slice-in-Groups.ensures at c.in_err-by-in-Groups.ensures.refused))
+    (refused_before tables (map (of_column sides) c.in-Groups.by) (agg_mentions sides c.in-Groups.aggs) _
+    (rw c.as_slice-in-Groups.ensures at c.in_err-by-in-Groups.ensures.refused))
 
 pub returns-in_err-aggs-in-Groups-clause-refused : goal.returns-in_err-aggs-in-Groups-clause-refused
 returns-in_err-aggs-in-Groups-clause-refused c =

@@ -6,7 +6,8 @@ pub returns-in_err-filters-clause-refused : goal.returns-in_err-filters-clause-r
 returns-in_err-filters-clause-refused c =
     let p = err_from_is_err_and c.from_residual-in_err-filters.result c.from_residual-in_err-filters.ensures.1 in
     rw (p.1, p.2)
-    (refused-filters c.args.tables.now c.args.query.now c.in_ok-scanned.scanned _ c.in_ok-scanned.ensures.found (rw c.as_slice.ensures at c.in_err-filters.ensures.refused))
+    (refused-filters c.args.tables.now c.args.query.now c.in_ok-scanned.scanned _ c.in_ok-scanned.ensures.found
+    (rw c.as_slice.ensures at c.in_err-filters.ensures.refused))
 
 pub returns-in_err-joins-clause-refused : goal.returns-in_err-joins-clause-refused
 returns-in_err-joins-clause-refused c =

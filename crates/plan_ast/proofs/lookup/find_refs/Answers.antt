@@ -11,5 +11,6 @@ returns-in_err-find_ref-clause-refused c =
     let sides = sides_at tables c.args.sides.now in
     let p = err_from_is_err_and c.from_residual-in_err-find_ref.result c.from_residual-in_err-find_ref.ensures.1 in
     rw (p.1, p.2)
-    (refused-map tables (of_column sides) (column_at sides) (there-column_at tables sides) c.args.references.now c.loop-reference.reference-index c.reference-item.result c.loop-reference.found.items _
+    (refused-map tables (of_column sides) (column_at sides) (there-column_at tables sides) c.args.references.now c.loop-reference.reference-index
+    c.reference-item.result c.loop-reference.found.items _
     c.loop-reference-test.true c.reference-item.is c.loop-reference.invariant c.in_err-find_ref.ensures.refused)

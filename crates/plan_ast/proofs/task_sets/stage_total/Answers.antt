@@ -10,7 +10,8 @@ returns-then-stage-builds c =
     let query = c.args.checked.now.query in
     let joins = ap length (c.as_slice-builds.ensures ∙ ap (λ (q : Query). q.joins) c.query.ensures) in
     record {
-      total = c.rows.ensures.count ∙ ap (λ (t : NamedRows). length t.rows) c.table_of_side.ensures ∙ sym (tuples_of-builds c.args.tables.now query c.args.stage (omega (arith, joins, c.if-stage-builds.true)));
+      total = c.rows.ensures.count ∙ ap (λ (t : NamedRows). length t.rows) c.table_of_side.ensures ∙ sym
+          (tuples_of-builds c.args.tables.now query c.args.stage (omega (arith, joins, c.if-stage-builds.true)));
     }
 
 pub returns-then-stage-builds-2 : goal.returns-then-stage-builds-2
@@ -27,4 +28,7 @@ pub returns-else-stage-builds-2 : goal.returns-else-stage-builds-2
 returns-else-stage-builds-2 c =
     let query = c.args.checked.now.query in
     let joins = ap length (c.as_slice-builds.ensures ∙ ap (λ (q : Query). q.joins) c.query.ensures) in
-    record { total = sym (ap (tuples_of c.args.tables.now query) (stage_at-merges query c.args.stage (omega (arith, joins, c.if-stage-builds.false, c.if-stage-builds-2.false)))) }
+    record {
+      total = sym (ap (tuples_of c.args.tables.now query)
+          (stage_at-merges query c.args.stage (omega (arith, joins, c.if-stage-builds.false, c.if-stage-builds-2.false))));
+    }

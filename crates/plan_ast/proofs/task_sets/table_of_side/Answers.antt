@@ -8,14 +8,17 @@ use Rattle.plan_ast.proofs.task_sets.table_of_side.Goals as goal
 
 pub bounds-places-side : goal.bounds-places-side
 bounds-places-side c =
-    let count = length-found (table_place c.args.tables.now) (side_names c.args.checked.now.query) c.args.checked.now.places.tables c.requires.checked.places.sides in
+    let count = length-found (table_place c.args.tables.now) (side_names c.args.checked.now.query) c.args.checked.now.places.tables
+    c.requires.checked.places.sides in
     rw (c.as_slice-places.ensures, c.places.ensures) (omega (arith, count, c.requires.side))
 
 pub table_of-requires : goal.table_of-requires
 table_of-requires c =
-    let count = length-found (table_place c.args.tables.now) (side_names c.args.checked.now.query) c.args.checked.now.places.tables c.requires.checked.places.sides in
+    let count = length-found (table_place c.args.tables.now) (side_names c.args.checked.now.query) c.args.checked.now.places.tables
+    c.requires.checked.places.sides in
     rw (c.as_slice-places.ensures, c.places.ensures)
-    (sides-found c.args.tables.now (side_names c.args.checked.now.query) c.args.checked.now.places.tables c.requires.checked.places.sides c.args.side 0 (omega (arith, count, c.requires.side)))
+    (sides-found c.args.tables.now (side_names c.args.checked.now.query) c.args.checked.now.places.tables c.requires.checked.places.sides c.args.side
+    0 (omega (arith, count, c.requires.side)))
 
 pub returns : goal.returns
 returns c =

@@ -1,28 +1,6 @@
 -- What was found is there.
-use Rattle.std.proofs.Common.{
-  ◌≡◌,
-  ℕ,
-  ◌+◌,
-  ◌<◌,
-  List,
-  [],
-  ◌∷◌,
-  ◌++◌,
-  length,
-  get_or,
-  map,
-  take,
-  true,
-  Option,
-  Some,
-  None,
-  option_map,
-  option_to_list,
-  refl,
-  sym,
-  ap,
-  ◌∙◌,
-}
+use Rattle.std.proofs.Common.{◌≡◌, ℕ, ◌+◌, ◌<◌, List, [], ◌∷◌, ◌++◌, length, get_or, map, take, true, Option, Some, None, option_map, option_to_list}
+use Rattle.std.proofs.Common.{refl, sym, ap, ◌∙◌}
 use Rattle.std.proofs.lemmas.List.{map-append, take_more}
 use Rattle.col_table.specs.NamedRows.{NamedRows}
 use Rattle.plan_ast.specs.Names.{is_there, of_column, own_column, column_in, column_place, agg_mention, first_missing}

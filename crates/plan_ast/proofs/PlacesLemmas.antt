@@ -1,28 +1,6 @@
 -- Where a column stands by its name.
-use Rattle.std.proofs.Common.{
-  ◌≡◌,
-  ℕ,
-  ◌<◌,
-  List,
-  [],
-  length,
-  get_or,
-  slice_get,
-  Bool,
-  true,
-  false,
-  cond,
-  Some,
-  None,
-  Contains,
-  bytes_eq,
-  position,
-  ltb,
-  refl,
-  sym,
-  ◌∙◌,
-  arith,
-}
+use Rattle.std.proofs.Common.{◌≡◌, ℕ, ◌<◌, List, [], length, get_or, slice_get, Bool, true, false, cond, Some, None, Contains, bytes_eq, position}
+use Rattle.std.proofs.Common.{ltb, refl, sym, ◌∙◌, arith}
 use Rattle.std.proofs.lemmas.Bool.{lt-ltb, ltb-true}
 use Rattle.std.proofs.lemmas.List.Sums.{position_or_len_is, passes_at_first}
 use Rattle.std.proofs.lemmas.Option.{slice_get_within, get_or_from_slice_get}

@@ -1,25 +1,8 @@
 -- A whole query, and its names.
 use Rattle.std.proofs.Common.{◌≡◌, ℕ, List, [], ◌∷◌, ◌++◌, map, Some, None, Option, sym, ap, ◌∙◌, subst}
 use Rattle.col_table.specs.NamedRows.{NamedRows}
-use Rattle.plan_ast.specs.Names.{
-  Mention,
-  of_table,
-  of_column,
-  own_column,
-  table_named,
-  table_place,
-  agg_mention,
-  agg_mentions,
-  filter_mentions,
-  join_tables,
-  joins_mentions,
-  output_mentions,
-  side_names,
-  sides_of,
-  first_missing,
-  mentions_of,
-  refusal_of,
-}
+use Rattle.plan_ast.specs.Names.{Mention, of_table, of_column, own_column, table_named, table_place, agg_mention, agg_mentions, filter_mentions}
+use Rattle.plan_ast.specs.Names.{join_tables, joins_mentions, output_mentions, side_names, sides_of, first_missing, mentions_of, refusal_of}
 use Rattle.plan_ast.specs.Places.{AddsTables, AreFound, ArePlacesOf, AreJoinsAt, IsOutputAt, IsRefusedBy, column_at, filter_at, agg_at, sides_at, table_at}
 use Rattle.plan_ast.specs.declared.queries.Agg.{Agg}
 use Rattle.plan_ast.specs.declared.queries.Filter.{Filter}

@@ -1,31 +1,5 @@
-use Rattle.std.proofs.Common.{
-  ◌≡◌,
-  ℕ,
-  ◌+◌,
-  ◌-◌,
-  ◌*◌,
-  ◌/◌,
-  ◌^◌,
-  ◌<◌,
-  ◌≤◌,
-  suc,
-  zero,
-  max,
-  min,
-  List,
-  [],
-  ◌∷◌,
-  sum,
-  fold,
-  refl,
-  sym,
-  ap,
-  subst,
-  ◌∙◌,
-  ⊎_elim,
-  add-zero,
-  arith,
-}
+use Rattle.std.proofs.Common.{◌≡◌, ℕ, ◌+◌, ◌-◌, ◌*◌, ◌/◌, ◌^◌, ◌<◌, ◌≤◌, suc, zero, max, min, List, [], ◌∷◌, sum, fold, refl, sym, ap, subst, ◌∙◌}
+use Rattle.std.proofs.Common.{⊎_elim, add-zero, arith}
 use Rattle.std.proofs.Math.Nat.{div-lt_iff_lt-mul, mul-lt-mul_of_pos_left}
 use Rattle.std.proofs.lemmas.Bool.Decides.{nat_tests}
 use Rattle.std.proofs.lemmas.Bool.{cases_lt}

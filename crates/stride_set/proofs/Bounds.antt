@@ -1,24 +1,7 @@
 use Rattle.std.proofs.Common.{◌≡◌, ℕ, ◌+◌, ◌-◌, ◌^◌, ◌<◌, ◌≤◌, true, false, List, [], ◌∷◌, fold, min, max, refl, sym, subst, ⊎_elim, arith}
 use Rattle.std.proofs.lemmas.Bool.{cases_eq, false≢true}
-use Rattle.stride_set.specs.Strides.{
-  Strides,
-  Call,
-  JoinChange,
-  JoinReturn,
-  DropSlot,
-  Choose,
-  Advance,
-  IsBounded,
-  IsLawful,
-  AreLawful,
-  new_strides,
-  moved_by,
-  stride_after,
-  spread_of,
-  advance_of,
-  widest_gap,
-  with_one,
-}
+use Rattle.stride_set.specs.Strides.{Strides, Call, JoinChange, JoinReturn, DropSlot, Choose, Advance, IsBounded, IsLawful, AreLawful, new_strides}
+use Rattle.stride_set.specs.Strides.{moved_by, stride_after, spread_of, advance_of, widest_gap, with_one}
 use Rattle.stride_set.proofs.Spreads.{spread_from-least}
 use Rattle.stride_set.proofs.Writes.{with_one-same, with_one-other}
 

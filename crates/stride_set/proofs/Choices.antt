@@ -1,35 +1,8 @@
-use Rattle.std.proofs.Common.{
-  ◌≡◌,
-  ℕ,
-  ◌+◌,
-  ◌<◌,
-  ◌≤◌,
-  ◌&&◌,
-  Bool,
-  true,
-  false,
-  Option,
-  Some,
-  None,
-  MatchOption,
-  suc,
-  zero,
-  cond,
-  nat_lt,
-  refl,
-  sym,
-  ap,
-  subst,
-  ◌∙◌,
-  ⊎_elim,
-  add-one,
-  below_more,
-  ltb-true,
-  ltb-false,
-  arith,
-}
+use Rattle.std.proofs.Common.{◌≡◌, ℕ, ◌+◌, ◌<◌, ◌≤◌, ◌&&◌, Bool, true, false, Option, Some, None, MatchOption, suc, zero, List, length, cond, nat_lt, refl, sym, ap}
+use Rattle.std.proofs.Common.{subst, ◌∙◌, ⊎_elim, add-one, below_more, ltb-true, ltb-false, arith}
 use Rattle.std.proofs.lemmas.Bool.{cases_lt, false≢true}
-use Rattle.stride_set.specs.Slots.{comes_before, choice_from, IsLeastActive}
+use Rattle.stride_set.specs.declared.Slot.{Slot}
+use Rattle.stride_set.specs.Slots.{comes_before, choice_among, choice_from, active_in, pass_in, IsLeastActive}
 
 -- what the choice of n slots says
 abbrev pub IsChoiceOf : ℕ → (ℕ → Bool) → (ℕ → ℕ) → Option ℕ → Type 0
@@ -109,6 +82,11 @@ pub choice_from-chosen : (n : ℕ) (active : ℕ → Bool) (pass : ℕ → ℕ) 
     → IsLeastActive n active pass s
 choice_from-chosen n active pass choice s is chosen =
     subst (IsChoiceOf n active pass) (sym is ∙ chosen) (choice_from-is n active pass)
+
+-- and so of the slots that a list shows
+pub chosen-least : (slots : List Slot) (choice : Option ℕ) (s : ℕ) → choice ≡ choice_among slots → choice ≡ Some s
+    → IsLeastActive (length slots) (active_in slots) (pass_in slots) s
+chosen-least slots = choice_from-chosen (length slots) (active_in slots) (pass_in slots)
 
 -- and where nothing was, no slot is active
 pub choice_from-idle : (n : ℕ) (active : ℕ → Bool) (pass : ℕ → ℕ) → choice_from n active pass ≡ None → (s : ℕ) → s < n → active s ≡ false

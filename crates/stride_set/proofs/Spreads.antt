@@ -1,31 +1,5 @@
-use Rattle.std.proofs.Common.{
-  ◌≡◌,
-  ℕ,
-  ◌+◌,
-  ◌-◌,
-  ◌^◌,
-  ◌<◌,
-  ◌≤◌,
-  ◌⊎◌,
-  ◌&&◌,
-  Bool,
-  true,
-  false,
-  suc,
-  zero,
-  min,
-  max,
-  cond,
-  refl,
-  sym,
-  ap,
-  ◌∙◌,
-  ⊎_elim,
-  inl,
-  inr,
-  below_more,
-  arith,
-}
+use Rattle.std.proofs.Common.{◌≡◌, ℕ, ◌+◌, ◌-◌, ◌^◌, ◌<◌, ◌≤◌, ◌⊎◌, ◌&&◌, Bool, true, false, suc, zero, min, max, cond, refl, sym, ap, ◌∙◌, ⊎_elim}
+use Rattle.std.proofs.Common.{inl, inr, below_more, arith}
 use Rattle.std.proofs.lemmas.Bool.{cases_lt, false≢true}
 use Rattle.stride_set.specs.Slots.{greatest, lead_of, spread_from}
 

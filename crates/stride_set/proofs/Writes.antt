@@ -1,29 +1,5 @@
-use Rattle.std.proofs.Common.{
-  ◌≡◌,
-  ℕ,
-  ◌+◌,
-  ◌-◌,
-  ◌^◌,
-  ◌<◌,
-  ◌≤◌,
-  Bool,
-  true,
-  false,
-  List,
-  length,
-  get_or,
-  set,
-  length-set,
-  min,
-  max,
-  refl,
-  replicate,
-  sym,
-  ap,
-  ◌∙◌,
-  ⊎_elim,
-  arith,
-}
+use Rattle.std.proofs.Common.{◌≡◌, ℕ, ◌+◌, ◌-◌, ◌^◌, ◌<◌, ◌≤◌, Bool, true, false, List, length, get_or, set, length-set, min, max, refl, replicate}
+use Rattle.std.proofs.Common.{sym, ap, ◌∙◌, ⊎_elim, arith}
 use Rattle.std.proofs.Math.Path.{fun_ext}
 use Rattle.std.proofs.lemmas.List.{get_or-set_same, get_or-set_other, get_or_read, get_or-replicate, length-replicate, get_or_past}
 use Rattle.std.proofs.lemmas.Bool.{cases_eq, cases_lt, false≢true}
@@ -31,19 +7,8 @@ use Rattle.std.proofs.lemmas.Bool.Decides.{nat_tests}
 use Rattle.stride_set.specs.declared.Slot.{Slot}
 use Rattle.stride_set.specs.Slots.{idle, active_in, pass_in, spread_from, spread_among}
 use Rattle.stride_set.proofs.Spreads.{spread_from-bound, spread_from-least}
-use Rattle.stride_set.specs.Strides.{
-  StrideState,
-  JoinChange,
-  JoinReturn,
-  DropSlot,
-  Choose,
-  Advance,
-  strides_of,
-  stride_after,
-  advance_of,
-  new_strides,
-  with_one,
-}
+use Rattle.stride_set.specs.Strides.{StrideState, JoinChange, JoinReturn, DropSlot, Choose, Advance, strides_of, stride_after, advance_of}
+use Rattle.stride_set.specs.Strides.{new_strides, with_one}
 
 -- the changed function at its place, and elsewhere
 pub with_one-same : {A : Type 0} (f : ℕ → A) (k j : ℕ) (x : A) → j ≡ k → with_one f k x j ≡ x

@@ -1,1 +1,2 @@
 pub mod AnswersText
+pub mod ReportText

@@ -19,10 +19,19 @@ pub fn answers_text(alloc: Global, replies: &[QueryReply]) -> Result<Vec<u8>, Al
     ensures { IfOk result (λ text. text.items ≡ answers_bytes replies.now) }
 {
     let mut text = String::new(alloc);
-    for reply in replies {
-        write_reply(&mut text, reply)?;
-    }
+    write_replies(&mut text, replies)?;
     Ok(text.into_bytes())
+}
+
+// Adds the lines of each reply.
+pub(crate) fn write_replies(text: &mut String, replies: &[QueryReply]) -> Result<(), AllocError>
+    ensures { OnOk result (string_bytes text.new
+        ≡ string_bytes text.old ++ answers_bytes replies.now) }
+{
+    for reply in replies {
+        write_reply(text, reply)?;
+    }
+    Ok(())
 }
 
 // Adds the lines of a reply.

@@ -1,6 +1,0 @@
-use Rattle.std.proofs.Common.{◌≡◌, take, string_bytes}
-use Rattle.report_text.specs.AnswersText.{answers_bytes}
-use Rattle.report_text.proofs.answers.answers_text.Given as goal
-
-abbrev pub invariant-loop-reply : goal.invariant-loop-reply
-invariant-loop-reply l = string_bytes l.text ≡ answers_bytes (take l.reply-index l.replies)

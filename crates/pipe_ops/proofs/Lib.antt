@@ -4,4 +4,3 @@ pub mod GroupingLemmas
 pub mod JoiningLemmas
 pub mod PlacedLemmas
 pub mod RowsLemmas
-pub mod SortedLemmas

@@ -3,7 +3,9 @@ pub mod CloneLemmas
 pub mod FoldLemmas
 pub mod FoundLemmas
 pub mod JoinsLemmas
+pub mod LawLemmas
 pub mod MissingLemmas
 pub mod PlacesLemmas
 pub mod QueryLemmas
 pub mod SideLemmas
+pub mod SortedLemmas

@@ -2,6 +2,7 @@ pub mod Aggregates
 pub mod Answer
 pub mod Bounds
 pub mod Checks
+pub mod FoldLaws
 pub mod Folds
 pub mod Names
 pub mod Places

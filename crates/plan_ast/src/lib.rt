@@ -14,6 +14,7 @@
 mod answers;
 mod bounds;
 mod checks;
+mod laws;
 mod lookup;
 mod places;
 mod queries;
@@ -25,11 +26,12 @@ pub use bounds::{
     MAX_AFTER, MAX_COST, MAX_FILTERS, MAX_GROUP_COLUMNS, MAX_JOINS, MAX_OUTPUTS, MAX_WEIGHT,
 };
 pub use checks::{Checked, check};
+pub use laws::{answers_all, folds_add, folds_nothing, sums_agree};
 pub use lookup::table_of;
 pub use places::{AggAt, ColumnAt, FilterAt, JoinAt, OutputAt, Places};
 pub use queries::{Agg, Filter, Func, Join, NameRef, NamedTable, Op, Output, Query};
 pub use refusals::PlanRefusal;
-pub use task_sets::{GROUP_PARTS, folds_add, stage_total, stages, table_of_side};
+pub use task_sets::{GROUP_PARTS, stage_total, stages, table_of_side};
 
 #[cfg(test)]
 mod tests;

@@ -3,7 +3,6 @@ ghost use Rattle.std.specs.Prelude.{◌≡◌, ◌<◌, [], length, slice_index_
 ghost use Rattle.col_table.specs.NamedRows.{no_rows};
 ghost use Rattle.plan_ast.specs.Bounds.{IsInBounds, IsWithin};
 ghost use Rattle.plan_ast.specs.Checks.{IsCheckedFor, query_of};
-ghost use Rattle.plan_ast.specs.Folds.{FoldsAdd};
 ghost use Rattle.plan_ast.specs.Names.{side_names, sides_of};
 ghost use Rattle.plan_ast.specs.Stages.{stage_at, stages_of, tuples_of};
 
@@ -61,11 +60,3 @@ pub fn table_of_side<'a>(checked: &Checked, tables: &'a [NamedTable], side: usiz
     let places = checked.places().tables.as_slice();
     table_of(tables, places[side])
 }
-
-/// What a stage makes of two disjoint sets of its tuples together is the sum of what it makes of
-/// each, but for the order of rows. The sets may be any: two ranges, or what two workers took.
-///
-/// Ruled out: a fold in which a tuple counts otherwise beside others than alone.
-pub fn folds_add()
-    ensures { FoldsAdd }
-{}

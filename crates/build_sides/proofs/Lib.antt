@@ -1,4 +1,4 @@
-mod Links
+mod Linked
 mod Distinct
 mod Items
 mod Hashed
@@ -7,5 +7,6 @@ mod Aggregates
 mod Puts
 mod Folding
 mod Merging
+mod PartKeys
 mod Places
 mod Groups

@@ -1,7 +1,7 @@
--- The groups of a part, gathered key by key.
-use Rattle.std.proofs.Common.{◌≡◌, ◌⊎◌, ℕ, zero, suc, ◌+◌, ◌<◌, cond, Bool, true, false, List, [], ◌∷◌, ◌++◌, length, take, map, refl, sym, ap, ◌∙◌, append_assoc, inl, inr, arith, add-one}
+-- The groups of a part, gathered key by key, the last key first.
+use Rattle.std.proofs.Common.{◌≡◌, ◌⊎◌, ℕ, zero, suc, ◌+◌, ◌<◌, ◌≤◌, cond, Bool, true, false, List, [], ◌∷◌, ◌++◌, length, drop, map, refl, sym, ap, ◌∙◌, append_assoc, inl, inr, arith}
 use Rattle.plan_ast.specs.Answer.{aggregate}
-use Rattle.std.proofs.Math.Seq.{take-suc}
+use Rattle.std.proofs.Math.Seq.{drop-cons}
 use Rattle.std.proofs.lemmas.Bool.{true≢false}
 use Rattle.std.proofs.lemmas.List.{append-nil}
 use Rattle.std.proofs.lemmas.List.Elements.{All-append, All-filter, filter-append}
@@ -13,21 +13,14 @@ use Rattle.build_sides.specs.Numbered.{AreDistinct, IsAbsent, same_key}
 use Rattle.build_sides.specs.declared.key_table.Key.{Key}
 use Rattle.build_sides.proofs.Items.{same_key_tells}
 
--- the rows of those of these keys that are of this part, key by key
+-- the rows of those of these keys that are of this part, key by key, those of the last key first
 abbrev pub gathered : ℕ → List Key → List FoldedRow → List FoldedRow
 gathered part [] rows = []
-gathered part (key ∷ keys) rows = cond (is_in_part part key) (rows_with key rows) [] ++ gathered part keys rows
+gathered part (key ∷ keys) rows = gathered part keys rows ++ cond (is_in_part part key) (rows_with key rows) []
 
 abbrev pub is_there : List Key → Key → Bool
 is_there [] k = false
 is_there (key ∷ keys) k = cond (same_key key k) true (is_there keys k)
-
-pub gathered-append : (part : ℕ) (keys more : List Key) (rows : List FoldedRow)
-    → gathered part (keys ++ more) rows ≡ gathered part keys rows ++ gathered part more rows
-gathered-append part [] more rows = refl
-gathered-append part (key ∷ keys) more rows =
-    ap (λ l. cond (is_in_part part key) (rows_with key rows) [] ++ l) (gathered-append part keys more rows)
-    ∙ sym (append_assoc (cond (is_in_part part key) (rows_with key rows) []) (gathered part keys rows) (gathered part more rows))
 
 cond_same : {A : Type 0} (b : Bool) (x : A) → x ≡ cond b x x
 cond_same true x = refl
@@ -99,17 +92,22 @@ first_this part key k rows fits e = by (is_in_part part key) ∙ ap (λ x. cond 
 
 gathered-cons : (part : ℕ) (key : Key) (keys : List Key) (k : Key) (rows : List FoldedRow) (first : List FoldedRow)
     → rows_with k (cond (is_in_part part key) (rows_with key rows) []) ≡ first
-    → rows_with k (gathered part (key ∷ keys) rows) ≡ first ++ rows_with k (gathered part keys rows)
+    → rows_with k (gathered part (key ∷ keys) rows) ≡ rows_with k (gathered part keys rows) ++ first
 gathered-cons part key keys k rows first is =
-    filter-append (λ row. same_key row.key k) (cond (is_in_part part key) (rows_with key rows) []) (gathered part keys rows)
-    ∙ ap (λ l. l ++ rows_with k (gathered part keys rows)) is
+    filter-append (λ row. same_key row.key k) (gathered part keys rows) (cond (is_in_part part key) (rows_with key rows) [])
+    ∙ ap (λ l. rows_with k (gathered part keys rows) ++ l) is
+
+gathered-other : (part : ℕ) (key : Key) (keys : List Key) (k : Key) (rows : List FoldedRow) → same_key key k ≡ false
+    → rows_with k (gathered part (key ∷ keys) rows) ≡ rows_with k (gathered part keys rows)
+gathered-other part key keys k rows other =
+    gathered-cons part key keys k rows [] (first_other part key k rows other) ∙ append-nil (rows_with k (gathered part keys rows))
 
 gathered_absent : (part : ℕ) (keys : List Key) (k : Key) (rows : List FoldedRow) → is_there keys k ≡ false → rows_with k (gathered part keys rows) ≡ []
 gathered_absent part [] k rows none = refl
 gathered_absent part (key ∷ keys) k rows none =
     elim (same_key_tells key k) [
       | inl (fits, _) ↦ absurd (true≢false (rw fits at none))
-      | inr (other, _) ↦ gathered-cons part key keys k rows [] (first_other part key k rows other) ∙ gathered_absent part keys k rows (rw other at none)
+      | inr (other, _) ↦ gathered-other part key keys k rows other ∙ gathered_absent part keys k rows (rw other at none)
     ]
 
 gathered_there : (part : ℕ) (keys : List Key) (k : Key) (rows : List FoldedRow) → AreDistinct keys → is_there keys k ≡ true
@@ -119,11 +117,10 @@ gathered_there part (key ∷ keys) k rows distinct there =
     elim (same_key_tells key k) [
       | inl (fits, e) ↦
           gathered-cons part key keys k rows (cond (is_in_part part k) (rows_with k rows) []) (first_this part key k rows fits e)
-          ∙ ap (λ l. cond (is_in_part part k) (rows_with k rows) [] ++ l)
+          ∙ ap (λ l. l ++ cond (is_in_part part k) (rows_with k rows) [])
           (gathered_absent part keys k rows (not_there keys k (λ f lt is. distinct 0 (suc f) (omega arith) (omega arith) (e ∙ sym is))))
-          ∙ append-nil (cond (is_in_part part k) (rows_with k rows) [])
       | inr (other, _) ↦
-          gathered-cons part key keys k rows [] (first_other part key k rows other)
+          gathered-other part key keys k rows other
           ∙ gathered_there part keys k rows (λ f g lt bound. distinct (suc f) (suc g) (omega arith) (omega arith)) (rw other at there)
     ]
 
@@ -151,17 +148,26 @@ gathered_some part keys rows k distinct = by (is_there keys k) refl
     by true there = inr (gathered_there part keys k rows distinct there ∙ sym (with_of_part part k rows))
     by false none = inl (gathered_absent part keys k rows none)
 
--- one key more
-pub gathered_more : (part : ℕ) (keys : List Key) (n : ℕ) (rows others : List FoldedRow) → n < length keys
-    → rows ++ gathered part (take n keys) others ++ cond (is_in_part part (key_at keys n)) (rows_with (key_at keys n) others) []
-    ≡ rows ++ gathered part (take (n + 1) keys) others
-gathered_more part keys n rows others lt =
-    let these = cond (is_in_part part (key_at keys n)) (rows_with (key_at keys n) others) [] in
-    append_assoc rows (gathered part (take n keys) others) these
+-- one key more, which is of the part
+pub gathered_more : (part : ℕ) (keys : List Key) (n : ℕ) (rows others : List FoldedRow) → n < length keys → is_in_part part (key_at keys n) ≡ true
+    → (rows ++ gathered part (drop (suc n) keys) others) ++ rows_with (key_at keys n) others ≡ rows ++ gathered part (drop n keys) others
+gathered_more part keys n rows others lt mine =
+    append_assoc rows (gathered part (drop (suc n) keys) others) (rows_with (key_at keys n) others)
     ∙ ap (λ l. rows ++ l) (sym (
-    ap (λ l. gathered part l others) (ap (λ m. take m keys) (add-one n) ∙ take-suc keys n no_key lt)
-    ∙ gathered-append part (take n keys) (key_at keys n ∷ []) others
-    ∙ ap (λ l. gathered part (take n keys) others ++ l) (append-nil these)))
+    ap (λ l. gathered part l others) (drop-cons keys n no_key lt)
+    ∙ ap (λ b. gathered part (drop (suc n) keys) others ++ cond b (rows_with (key_at keys n) others) []) mine))
+
+-- keys of other parts are passed over
+pub gathered_past : (part : ℕ) (keys : List Key) (n count : ℕ) (others : List FoldedRow) → n + count ≤ length keys
+    → ((e : ℕ) → n ≤ e → e < n + count → is_in_part part (key_at keys e) ≡ false)
+    → gathered part (drop (n + count) keys) others ≡ gathered part (drop n keys) others
+gathered_past part keys n zero others within none = ap (λ (m : ℕ). gathered part (drop m keys) others) (omega arith)
+gathered_past part keys n (suc count) others within none =
+    ap (λ (m : ℕ). gathered part (drop m keys) others) (omega arith)
+    ∙ gathered_past part keys (suc n) count others (omega arith) (λ e le lt. none e (omega arith) (omega arith))
+    ∙ sym (ap (λ l. gathered part l others) (drop-cons keys n no_key (omega arith))
+    ∙ ap (λ b. gathered part (drop (suc n) keys) others ++ cond b (rows_with (key_at keys n) others) []) (none n (omega arith) (omega arith))
+    ∙ append-nil (gathered part (drop (suc n) keys) others))
 
 -- a side that folds the rows of all keys folds those of the part
 pub merged_part : (part : ℕ) (rows others : List FoldedRow) (old side other : GroupTotals) → AreDistinct other.keys → Folds rows old → Folds others other

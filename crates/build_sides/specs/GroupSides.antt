@@ -1,8 +1,7 @@
 -- A group side as a map from keys to totals, and the rows that it folds.
-use Rattle.std.specs.Prelude.{◌≡◌, ◌⊎◌, ℕ, pos, ◌<◌, Bool, List, [], ◌++◌, All, map, length, filter, slice_index_or}
+use Rattle.std.specs.Prelude.{◌≡◌, ◌⊎◌, ℕ, pos, ◌<◌, ◌==◌, Bool, List, [], ◌++◌, All, map, length, filter, slice_index_or, unsigned_abs}
 use Rattle.std.specs.Int.{w64, int_rem_euclid}
 use Rattle.std.specs.Int.RustNames.{FitsSigned}
-use Rattle.std.specs.Ordering.{int_eq}
 use Rattle.plan_ast.specs.declared.queries.Func.{Func}
 use Rattle.plan_ast.specs.declared.answers.AggValue.{AggValue}
 use Rattle.build_sides.specs.FoldedRows.{FoldedRow, value_in, rows_with, total_of}
@@ -53,9 +52,12 @@ pub record FoldsSomeKeys (rows others : List FoldedRow) (side : GroupTotals) : T
       → (rows_with key taken ≡ []) ⊎ (rows_with key taken ≡ rows_with key others)
   pub folds : Folds (rows ++ taken) side
 
--- whether a key is of this part: the Euclidean remainder of its first value by 16
+-- the part of a key: the Euclidean remainder of its first value by 16
+abbrev pub key_part : Key → ℕ
+key_part key = unsigned_abs (int_rem_euclid key.first (pos 16))
+
 abbrev pub is_in_part : ℕ → Key → Bool
-is_in_part part key = int_eq (int_rem_euclid key.first (pos 16)) (pos part)
+is_in_part part key = key_part key == part
 
 -- the rows of this part, in order
 abbrev pub rows_in : ℕ → List FoldedRow → List FoldedRow

@@ -9,5 +9,6 @@ pub mod HashSides
 pub mod GroupTotals
 pub mod FoldedRows
 pub mod GroupSides
+pub mod PartChains
 pub mod GroupFields
 pub mod Columns

@@ -6,12 +6,14 @@ ghost use Rattle.plan_ast.specs.Bounds.{IsWithin};
 ghost use Rattle.build_sides.specs.Chains.{key_at};
 ghost use Rattle.build_sides.specs.Columns.{AddsTotal, FoldsValue, HasRoom, HasRoomFor, func_of, totals_of, values_of};
 ghost use Rattle.build_sides.specs.FoldedRows.{FoldedRow, group_key_of, row_of, rows_with, total_of};
-ghost use Rattle.build_sides.specs.GroupSides.{AreGroups, Folds, FoldsSomeKeys, column_of, funcs_of, is_in_part, rows_in, total_at};
+ghost use Rattle.build_sides.specs.GroupSides.{Folds, FoldsSomeKeys, column_of, funcs_of, key_part, rows_in, total_at};
+ghost use Rattle.build_sides.specs.PartChains.{AreParts};
 ghost use Rattle.build_sides.specs.Numbered.{AreDistinct, Numbers};
 ghost use Rattle.build_sides.specs.declared.columns.Column.{Column};
 
 use super::columns::Column;
 use super::key_table::{Key, KeyTable};
+use super::links::Links;
 use plan_ast::{AggValue, Func};
 use std::alloc::{AllocError, Global};
 use std::marker::Model;
@@ -28,12 +30,13 @@ fn group_key(values: &[i64]) -> Key
     }
 }
 
-// Whether a key is of a part.
+// The part of a key.
 #[inline(always)]
-fn is_of_part(part: u32, key: Key) -> bool
-    ensures { result ≡ is_in_part part key }
+fn part_of(key: Key) -> usize
+    ensures value { result ≡ key_part key }
+    ensures within { result < 16 }
 {
-    key.first.rem_euclid(16) == i64::from(part)
+    key.first.rem_euclid(16) as usize
 }
 
 // The totals of no groups, of each aggregate.
@@ -63,11 +66,14 @@ fn make_room(columns: &mut Vec<Column>) -> Result<(), AllocError>
 #[inline(always)]
 fn number_with_room(
     keys: &mut KeyTable,
+    parts: &mut Links,
     columns: &mut Vec<Column>,
     key: Key,
 ) -> Result<usize, AllocError>
+    requires parts { AreParts parts.old keys.old }
     requires all { All (λ c. length (values_of c) ≡ length keys.old) columns.old.items }
     ensures numbers { IfOk result (λ n. Numbers keys.old keys.new key n) }
+    ensures parts { AreParts parts.new keys.new }
     ensures err { OnErr result (keys.new ≡ keys.old) }
     ensures same { map totals_of columns.new.items ≡ map totals_of columns.old.items }
     ensures room { IfOk result (λ n. All (HasRoomFor n) columns.new.items) }
@@ -76,7 +82,10 @@ fn number_with_room(
         return Ok(number as usize);
     }
     make_room(columns)?;
-    Ok(keys.add(key)? as usize)
+    parts.nexts.reserve(1)?;
+    let number = keys.add(key)?;
+    parts.link(part_of(key));
+    Ok(number as usize)
 }
 
 // Folds a value for each aggregate into the totals of a group, or begins the next group with them.
@@ -114,10 +123,11 @@ fn add_totals(columns: &mut Vec<Column>, number: usize, others: &[Column], from:
 ///
 /// A key belongs to one of 16 parts: the Euclidean remainder of its first value by 16. Contracts
 /// see the rows that the side folds (`Folds`). It has exactly their keys, and for each key what
-/// each aggregate makes of their values. Sums are exact for up to 2^60 rows.
+/// each aggregate makes of their values. Sums are exact for up to 2^61 rows.
 #[derive(Debug, Drop)]
 pub struct GroupSide {
     keys: KeyTable,
+    parts: Links,
     columns: Vec<Column>,
 }
 
@@ -142,6 +152,7 @@ impl GroupSide {
         let columns = columns_of(alloc, aggs.as_slice())?;
         Ok(GroupSide {
             keys: KeyTable::new(alloc),
+            parts: Links::none(alloc, 16)?,
             columns,
         })
     }
@@ -154,37 +165,35 @@ impl GroupSide {
         requires some { IsWithin 1 2 (length key.now) }
         requires same { length values.now ≡ length self.old.columns }
         ensures funcs { funcs_of self.new ≡ funcs_of self.old }
-        ensures folds { OnOk result ((rows : List FoldedRow) → length rows < 2 ^ 60
+        ensures folds { OnOk result ((rows : List FoldedRow) → length rows < 2 ^ 61
             → Folds rows self.old → Folds (rows ++ row_of key.now values.now ∷ []) self.new) }
         ensures err { OnErr result (self.new ≡ self.old) }
     {
-        let number = number_with_room(&mut self.keys, &mut self.columns, group_key(key))?;
+        let key = group_key(key);
+        let number = number_with_room(&mut self.keys, &mut self.parts, &mut self.columns, key)?;
         fold_values(&mut self.columns, number, values);
         Ok(())
     }
 
-    // Adds the totals of another side's group to those of the same key, if it is of this part.
-    fn add_group(&mut self, part: u32, other: &GroupSide, from: usize) -> Result<(), AllocError>
+    // Adds the totals of another side's group to those of the same key.
+    fn add_group(&mut self, other: &GroupSide, from: usize) -> Result<(), AllocError>
         requires within { from < length other.now.keys }
         requires same { funcs_of self.old ≡ funcs_of other.now }
         ensures funcs { funcs_of self.new ≡ funcs_of self.old }
         ensures folds { OnOk result ((rows others : List FoldedRow)
             → let key = key_at other.now.keys from in
-            length (rows_with key rows) + length (rows_with key others) ≤ 2 ^ 60
+            length (rows_with key rows) + length (rows_with key others) ≤ 2 ^ 61
             → Folds rows self.old → Folds others other.now
-            → Folds (rows ++ (if is_in_part part key then rows_with key others else [])) self.new) }
+            → Folds (rows ++ rows_with key others) self.new) }
         ensures err { OnErr result (self.new ≡ self.old) }
     {
         let key = other.keys.key(from);
-        if !is_of_part(part, key) {
-            return Ok(());
-        }
-        let number = number_with_room(&mut self.keys, &mut self.columns, key)?;
+        let number = number_with_room(&mut self.keys, &mut self.parts, &mut self.columns, key)?;
         add_totals(&mut self.columns, number, other.columns.as_slice(), from);
         Ok(())
     }
 
-    /// Adds the groups of one part of another side, key by key.
+    /// Adds the groups of one part of another side, key by key. It goes over these groups alone.
     ///
     /// If memory runs out, this side has taken some of these groups: drop it.
     pub fn merge_part(&mut self, part: u32, other: &GroupSide) -> Result<(), AllocError>
@@ -192,14 +201,17 @@ impl GroupSide {
         requires same { funcs_of self.old ≡ funcs_of other.now }
         ensures funcs { funcs_of self.new ≡ funcs_of self.old }
         ensures folds { OnOk result ((rows others : List FoldedRow)
-            → length rows + length others ≤ 2 ^ 60 → Folds rows self.old → Folds others other.now
+            → length rows + length others ≤ 2 ^ 61 → Folds rows self.old → Folds others other.now
             → Folds (rows ++ rows_in part others) self.new) }
         ensures err { OnErr result ((rows others : List FoldedRow)
-            → length rows + length others ≤ 2 ^ 60 → Folds rows self.old → Folds others other.now
+            → length rows + length others ≤ 2 ^ 61 → Folds rows self.old → Folds others other.now
             → FoldsSomeKeys rows (rows_in part others) self.new) }
     {
-        for number in 0..other.keys.len() {
-            self.add_group(part, other, number)?;
+        let mut at = other.parts.heads[part as usize];
+        while at != 0 {
+            let number = (at - 1) as usize;
+            self.add_group(other, number)?;
+            at = other.parts.nexts[number];
         }
         Ok(())
     }

@@ -16,6 +16,7 @@ mod columns;
 mod group_side;
 mod hash_side;
 mod key_table;
+mod links;
 
 pub use group_side::GroupSide;
 pub use hash_side::HashSide;

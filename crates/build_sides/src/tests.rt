@@ -160,3 +160,22 @@ fn merges_the_groups_of_a_part(rt: HostRuntime) -> Result<(), Fail> {
     assert!(rt; has(&rt, &one, 0, (2, -10, -20, 10)));
     Ok(())
 }
+
+#[test]
+fn merges_every_group_of_a_part(rt: HostRuntime) -> Result<(), Fail> {
+    let mut other = groups(&rt)?;
+    for key in [1, 2, 17, -15, 3, 33] {
+        fold(&rt, &mut other, &[key], 10 * key)?;
+    }
+    let mut one = groups(&rt)?;
+    fold(&rt, &mut one, &[-15], 7)?;
+    one.merge_part(1, &other)?;
+    assert!(rt; one.len() == 4);
+    assert!(rt; has(&rt, &one, 0, (2, -143, -150, 7)));
+    one.merge_part(0, &other)?;
+    assert!(rt; one.len() == 4);
+    one.merge_part(2, &other)?;
+    one.merge_part(3, &other)?;
+    assert!(rt; one.len() == 6);
+    Ok(())
+}

@@ -15,7 +15,7 @@ total-requires c =
     let inside : c.args.place < length items = omega (arith, length-map items totals_of) in
     let same : length (values_of c.index.result.now) ≡ length c.self.inside.keys =
     ap (λ (x : Column). length (values_of x)) c.index.ensures
-    ∙ all_same items (length c.self.inside.keys) c.self.invariant.same c.args.place c.index.result.now inside in
+    ∙ all_same items (length c.self.inside.keys) c.self.invariant.groups.same c.args.place c.index.result.now inside in
     omega arith
 
 pub returns-clause-folds : goal.returns-clause-folds
@@ -28,4 +28,4 @@ returns-clause-folds c =
     c.total.ensures.value
     ∙ ap (λ (x : Totals). slice_index_or x.values c.args.number (nothing_of x))
     (ap totals_of c.index.ensures ∙ sym (column_at items c.args.place c.index.result.now inside))
-    ∙ total_is (record { keys = c.self.inside.keys; columns = map totals_of items }) rows c.args.number c.args.place c.self.invariant folds lt within)
+    ∙ total_is (record { keys = c.self.inside.keys; columns = map totals_of items }) rows c.args.number c.args.place c.self.invariant.groups folds lt within)

@@ -31,7 +31,7 @@ module _ {B Sub : Type 0} (terms : Terms B Sub) (slots i : ℕ) (v : View Sub) (
       let trail : List Entry = entry (number v) a ∷ known.trail in
       let e = extended terms known st ok i v at c step in
       let named : v.subject ≡ Some terms.subject = (ok.views i v at).subject_is (number v) step.rest step.numbers in
-      let called : Called v.shape (number v) a v.trail trail = subst (λ d. Called d (number v) a v.trail trail) (sym step.shape) e.0 in
+      let called : Called v.shape (entry (number v) a) v.trail trail = subst (λ d. Called d (entry (number v) a) v.trail trail) (sym step.shape) e.0 in
       let of : (x : Sub) → v.subject ≡ Some x → IsOfTotals (terms.total x) v.shape trail =
       λ x is. subst (λ d. IsOfTotals (terms.total x) d trail) (sym step.shape)
       (subst (λ y. IsOfTotals (terms.total y) terms.shape trail) (let r : Some terms.subject ≡ Some x = sym named ∙ is in cc) e.1.of_subject) in (

@@ -207,7 +207,7 @@ module _ {B Sub : Type 0} (terms : Terms B Sub) (known : Knowledge) (st : table.
 
     abbrev Extended : Place → Type 0
     Extended r = let n = slice_index st.words (index d (address_of w c r)) in let b = answer_of c r n in
-        Called d w b v.trail (entry w b ∷ known.trail)
+        Called d (entry w b) v.trail (entry w b ∷ known.trail)
         × IsKnown terms (known_after w b known) (stepped st (index d (address_of w c r)) (change_of c r n) i [] (grown v w (entry w b ∷ known.trail) b) keeps)
 
     same : place_of d known.trail w ≡ q

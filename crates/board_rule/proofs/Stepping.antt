@@ -12,7 +12,7 @@ use Rattle.slot_history.specs.declared.act.Act.{Act}
 use Rattle.slot_history.specs.declared.place.Place.{Place}
 use Rattle.slot_history.specs.Bounds.{IsShape}
 use Rattle.slot_history.specs.Steps.{moved}
-use Rattle.slot_history.specs.Histories.{IsLegal, IsOfTotals, Called, place_of}
+use Rattle.slot_history.specs.Histories.{IsLegal, IsOfTotals, Called, entry, place_of}
 use Rattle.slot_history.specs.Calls.{Call, MayAt}
 use Rattle.slot_history.proofs.Own.{calls-go-on}
 use Rattle.slot_station.specs.Cells.{noted, CellsAllow}
@@ -122,9 +122,9 @@ module _ {B Sub : Type 0} (board : Board B Sub) (w : ℕ) (p : Place) (seat : Se
     grows : new.0 ≡ grown v w new.0.trail a
     grows = told.view ∙ ap₂ (λ m b. grown v m new.0.trail b) ours.3 same
 
-    called : Called d w a v.trail new.0.trail
-    called = subst (λ e. Called e w a v.trail new.0.trail) ours.4 (subst (λ m. Called v.shape m a v.trail new.0.trail) ours.3
-        (subst (λ b. Called v.shape (number v) b v.trail new.0.trail) same told.called))
+    called : Called d (entry w a) v.trail new.0.trail
+    called = subst (λ e. Called e (entry w a) v.trail new.0.trail) ours.4 (subst (λ m. Called v.shape (entry m a) v.trail new.0.trail) ours.3
+        (subst (λ b. Called v.shape (entry (number v) b) v.trail new.0.trail) same told.called))
 
     pub small : IsSmall a
     small = let (h, is, begins, own, legal) = called in numbers.small d h w a shape (subst (IsLegal d) is legal)
@@ -154,7 +154,7 @@ module _ {B Sub : Type 0} (board : Board B Sub) (w : ℕ) (p : Place) (seat : Se
         let trail : other.me.0.trail ≡ new.0.trail = ap (λ (z : View Sub). z.trail) view in record {
           origin = refl;
           desk = refl;
-          called = subst (Called d w a v.trail) (sym trail) called;
+          called = subst (Called d (entry w a) v.trail) (sym trail) called;
           of_subject = subst (IsOfTotals (total (subject_of board)) d) (sym trail)
               (subst (λ e. IsOfTotals (total (subject_of board)) e new.0.trail) ours.4 (told.of_subject (subject_of board) ours.5));
           notes = λ u low. ap (λ (z : View Sub). note_in z.own w u) (view ∙ grows)

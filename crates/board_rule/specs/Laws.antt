@@ -23,7 +23,7 @@ module _ {B Sub : Type 0} (terms : Terms B Sub) (known : Knowledge)
   GoesOn i v c = let w = number v in let p = place_in v in
       let word = index terms.shape (address_of w c p) in let found = slice_index table.words word in
       let a = answer_of c p found in let trail = entry w a ∷ known.trail in
-      Called terms.shape w a v.trail trail
+      Called terms.shape (entry w a) v.trail trail
       × IsKnown terms (known_after w a known)
       (stepped table word (change_of c p found) i [] (grown v w trail a) keeps)
 

@@ -2,7 +2,7 @@
 use Rattle.std.specs.Prelude.{◌≡◌, ℕ, ◌<◌, Some, None, Option, [], ◌∷◌, List}
 use Rattle.atomic_table.specs.Table.{Step, Me}
 use Rattle.slot_history.specs.declared.act.Act.{Act}
-use Rattle.slot_history.specs.Histories.{Called, IsOfTotals}
+use Rattle.slot_history.specs.Histories.{Called, IsOfTotals, entry}
 use Rattle.slot_history.specs.Calls.{Call, MayAt}
 use Rattle.slot_station.specs.Cells.{Caller, CellsAllow}
 use Rattle.slot_station.specs.Desks.{Seen, own_place, totals_of}
@@ -41,7 +41,7 @@ module _ {S Sub : Type 0} (totals : Sub → ℕ → Option ℕ) where
   -- The seat made this call: its trail has the call as its newest entry, and is a legal history of
   -- the subject. It holds as many cells as before.
   pub record HasCalled (a : Act) (old new : Me S (View Sub)) : Type 0 where
-    pub called : Called old.0.shape (number old.0) a old.0.trail new.0.trail
+    pub called : Called old.0.shape (entry (number old.0) a) old.0.trail new.0.trail
     pub view : new.0 ≡ grown old.0 (number old.0) new.0.trail a
     pub holds : new.1 ≡ old.1
     pub of_subject : (x : Sub) → old.0.subject ≡ Some x

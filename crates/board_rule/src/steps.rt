@@ -5,7 +5,7 @@
 ghost use Rattle.std.specs.Prelude.{◌≡◌, ℕ, bit_or};
 ghost use Rattle.slot_station.specs.Desks.{Makes};
 ghost use Rattle.slot_words.specs.Numbers.{IsSmall};
-ghost use Rattle.slot_words.specs.Steps.{added, one_less, exchanged, address_of, change_of, answer_of};
+ghost use Rattle.slot_words.specs.Steps.{added, one_less, compare_exchanged, address_of, change_of, answer_of};
 ghost use Rattle.board_rule.specs.Passes.{IsPassOf, HasStepped, seen_of};
 ghost use Rattle.board_rule.specs.Steps.{MayMake};
 
@@ -156,7 +156,7 @@ pub fn compare_exchange<K: Asked, B: Fits>(
     requires pass { IsPassOf board.now pass.old }
     requires call { MayMake B.total (seen_of board.now pass.old) K.call }
     requires on { address ≡ address_of pass.old.worker K.call pass.old.place }
-    requires change { (n : ℕ) → exchanged old new n ≡ change_of K.call pass.old.place n }
+    requires change { (n : ℕ) → compare_exchanged old new n ≡ change_of K.call pass.old.place n }
     ensures small { IsSmall (answer_of K.call pass.old.place result) }
     ensures stepped { let a = answer_of K.call pass.old.place result in
         HasStepped board.now a pass.old pass.new }

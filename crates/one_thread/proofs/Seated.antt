@@ -58,7 +58,7 @@ use Rattle.one_thread.proofs.TablesKept.{table-call}
 pub trail-call : (w : ℕ) (a : Act) (h : List Entry) → trail_in w (entry w a ∷ h) ≡ entry w a ∷ h
 trail-call w a h = ap (λ b. cond b (entry w a ∷ h) (trail_in w h)) (eq-eqb w w refl)
 
-pub called : (d : Shape) (w : ℕ) (a : Act) (h : List Entry) → IsLegal d (entry w a ∷ h) → Called d w a (trail_in w h) (trail_in w (entry w a ∷ h))
+pub called : (d : Shape) (w : ℕ) (a : Act) (h : List Entry) → IsLegal d (entry w a ∷ h) → Called d (entry w a) (trail_in w h) (trail_in w (entry w a ∷ h))
 called d w a h legal = (h, trail-call w a h, begins w h, sym (own-trail w h), subst (IsLegal d) (sym (trail-call w a h)) legal)
 
 -- what a call makes of what the seat shows

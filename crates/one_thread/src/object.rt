@@ -16,7 +16,7 @@ use std::alloc::{AllocError, Global};
 pub trait SlotObject: Drop {
     ghost use Rattle.std.specs.Prelude.{◌≡◌, ℕ, ◌<◌, [], ◌∷◌, IfOk};
     ghost use Rattle.slot_history.specs.declared.act.Act.TheVariants.{Enter, Arrivals, Finished, NoteDone, SetTotal, Install, Release, Announce, TakeReturn, TakeChange};
-    ghost use Rattle.slot_history.specs.Calls.{Entering, Looking, Claiming, Shutting, Leaving, Paying, Marking, Sweeping, Reserving, Admitting, AskingArrivals, AskingFinished, NotingDone, SettingTotal, Installing, Releasing, AnnouncingNext, TakingReturn, TakingChange};
+    ghost use Rattle.slot_history.specs.Calls.{Entering, Looking, Claiming, Shutting, Leaving, Paying, MarkingNext, Sweeping, Reserving, Admitting, AskingArrivals, AskingFinished, NotingDone, SettingTotal, Installing, Releasing, AnnouncingNext, TakingReturn, TakingChange};
     ghost use Rattle.slot_history.specs.Histories.{IsLegal};
     ghost use Rattle.slot_station.specs.declared.log.Logged.TheVariants.{Exchanged};
     ghost use Rattle.slot_station.specs.Log.{calls_of};
@@ -84,7 +84,7 @@ pub trait SlotObject: Drop {
 
     /// The worker asks the next one.
     fn mark_next(&mut self, worker: u32) -> Mark
-        requires { MayMake (story self.old) worker Marking }
+        requires { MayMake (story self.old) worker MarkingNext }
         ensures made { MakesCall (story self.old) worker (mark_act result) (story self.new) }
         ensures counted { IsCounted (place_in (story self.old) worker) };
 

@@ -15,7 +15,7 @@ use Rattle.slot_history.specs.Sets.{upd, count_of}
 use Rattle.slot_history.specs.States.{TaskSet, Ending, SlotState, Empty, Reserved, Open, Shut, Finishing, slot_of, id_at, finalisation, is_shut, is_swept, is_at, owes, next_id, held_at}
 use Rattle.slot_history.specs.Steps.{slot_after, moved, opened, ended, finalised_by, next_asked}
 use Rattle.slot_history.specs.Allowed.{IsReady, debts, next_is_at}
-use Rattle.slot_history.specs.Calls.{Call, Paying, Marking, Sweeping, Installing, Releasing}
+use Rattle.slot_history.specs.Calls.{Call, Paying, MarkingNext, Sweeping, Installing, Releasing}
 use Rattle.slot_history.specs.Table.{HasAsked, Meets, IsChainOf, duty_of, nth_other}
 use Rattle.slot_history.proofs.Sets.{upd-same, upd-else, count-same, none-counted}
 use Rattle.slot_history.proofs.Duties.{asking-leads, leads-slot, owing-else, paid-clear}
@@ -179,7 +179,7 @@ pay-gives d w p b r is = subst (λ m. PayGives d w (moved d (pay_act m) p) m) (s
 
 -- ---- mark_next
 
-mark-cases : (o : Inside) (ok : Kept o) (w : ℕ) (p : Place) (k id n m v : ℕ) → Spot o w Marking p k → p ≡ Asking k id n m → n + 1 < o.shape.workers
+mark-cases : (o : Inside) (ok : Kept o) (w : ℕ) (p : Place) (k id n m v : ℕ) → Spot o w MarkingNext p k → p ≡ Asking k id n m → n + 1 < o.shape.workers
     → (t : TaskSet) (e : Ending) → (now_of o).slots k ≡ Shut t e → v < o.shape.workers → v ≡ next_asked o.shape e → e.paid v ≡ false
     → (b : Bool) → b ≡ is_at ((now_of o).places v) k → (owing : List Bool) → owing ≡ set o.owing.items (k * o.shape.workers + v) (b || owes (Shut t e) v)
     → (r : Mark) → r ≡ mark_of b → (a' : Act) → a' ≡ mark_act r
@@ -212,24 +212,24 @@ mark-cases o ok w p k id n m v s at more t e is in_v nxt unpaid false there owin
     )
 
 -- a worker that marks, by its place
-pub asks-at : (o : Inside) (w : ℕ) (p : Place) (k : ℕ) → Spot o w Marking p k
+pub asks-at : (o : Inside) (w : ℕ) (p : Place) (k : ℕ) → Spot o w MarkingNext p k
     → (id n m : ℕ) × (p ≡ Asking k id n m) × (n + 1 < o.shape.workers)
 asks-at o w p k s =
     let (j, id, n, m, is, more) = s.may in
     (id, n, m, is ∙ ap (λ i. Asking i id n m) (sym (s.slot ∙ ap slot_of is)), more)
 
 -- the worker that is asked next
-pub next-worker : (o : Inside) (w : ℕ) (p : Place) (k n : ℕ) → Spot o w Marking p k → n + 1 < o.shape.workers → nth_other w n < o.shape.workers
+pub next-worker : (o : Inside) (w : ℕ) (p : Place) (k n : ℕ) → Spot o w MarkingNext p k → n + 1 < o.shape.workers → nth_other w n < o.shape.workers
 next-worker o w p k n s more = nth-other-within w n o.shape.workers s.low more
 
-pub mark-after : (o : Inside) (ok : Kept o) (w : ℕ) (p : Place) (k id n m : ℕ) → Spot o w Marking p k → p ≡ Asking k id n m → n + 1 < o.shape.workers
+pub mark-after : (o : Inside) (ok : Kept o) (w : ℕ) (p : Place) (k id n m : ℕ) → Spot o w MarkingNext p k → p ≡ Asking k id n m → n + 1 < o.shape.workers
     → (b : Bool) → b ≡ is_at ((now_of o).places (nth_other w n)) k → (i : ℕ) → i ≡ k * o.shape.workers + nth_other w n → (was : Bool)
     → was ≡ owes ((now_of o).slots k) (nth_other w n)
     → (r : Mark) → r ≡ mark_of b → (a' : Act) → a' ≡ mark_act r
     → (places : List Place) (log : List Logged) → Wrote o w a' places log
     → IsObject (record (contents o) { owing = set o.owing.items i (b || was); places = places; log = log })
 mark-after o ok w p k id n m s at more b there i index was owed r answers a' act places log wrote =
-    let (t, e, is, mine, asked) = leader o ok w Marking p k id n m s at in
+    let (t, e, is, mine, asked) = leader o ok w MarkingNext p k id n m s at in
     let chain = subst (IsChainOf o.shape) is ((tabled o ok).chain k) in
     let v = nth_other w n in
     let nxt : v ≡ next_asked o.shape e = ap (λ u. nth_other u n) mine ∙ sym (next-is o.shape e n m asked chain.coordinator more) in

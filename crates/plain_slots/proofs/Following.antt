@@ -10,7 +10,7 @@ use Rattle.slot_history.specs.Sets.{upd}
 use Rattle.slot_history.specs.States.{SlotState, ObjectState, slot_of, owes, can_leave}
 use Rattle.slot_history.specs.Steps.{site, moved, slot_after, changes_after, returns_after, admitted_after, finished_after, next}
 use Rattle.slot_history.specs.Allowed.{IsAllowed}
-use Rattle.slot_history.specs.Calls.{Call, MayAt, Entering, Looking, Claiming, Shutting, Leaving, Paying, Marking, Sweeping, Reserving, Admitting, AskingArrivals, AskingFinished, NotingDone, SettingTotal, Installing, Releasing, AnnouncingNext, TakingReturn, TakingChange}
+use Rattle.slot_history.specs.Calls.{Call, MayAt, Entering, Looking, Claiming, Shutting, Leaving, Paying, MarkingNext, Sweeping, Reserving, Admitting, AskingArrivals, AskingFinished, NotingDone, SettingTotal, Installing, Releasing, AnnouncingNext, TakingReturn, TakingChange}
 use Rattle.slot_history.specs.Histories.{IsLegal}
 use Rattle.slot_history.specs.Table.{IsTable}
 use Rattle.slot_history.specs.Bounds.{IsWithin}
@@ -160,7 +160,7 @@ AtSlot (Claiming n) = Unit {0}
 AtSlot Shutting = Unit {0}
 AtSlot Leaving = Unit {0}
 AtSlot Paying = Unit {0}
-AtSlot Marking = Unit {0}
+AtSlot MarkingNext = Unit {0}
 AtSlot Sweeping = Unit {0}
 AtSlot (Installing id) = Unit {0}
 AtSlot Releasing = Unit {0}
@@ -172,7 +172,7 @@ busy d p (Claiming n) at may e = let h = may.2 in cc
 busy d p Shutting at may e = let h = may.2 in cc
 busy d p Leaving at may e = true≢false (sym may ∙ ap can_leave e)
 busy d p Paying at may e = let h = may.2 in cc
-busy d p Marking at may e = let h = may.4 in cc
+busy d p MarkingNext at may e = let h = may.4 in cc
 busy d p Sweeping at may e = let h = may.4 in cc
 busy d p (Installing id) at may e = let h = may.2 in cc
 busy d p Releasing at may e = let h = may.2 in cc

@@ -83,7 +83,7 @@ pub named-low : (d : Shape) (w : ℕ) (a : Act) (h : List Entry) (id : ℕ) → 
 named-low d w a h id legal is = installed-low d (entry w a ∷ h) legal id (named-installed d w a h id legal is)
 
 -- and of a call that a worker made, by its trail
-pub called-low : (d : Shape) (w : ℕ) (a : Act) (id : ℕ) (old new : List Entry) → Called d w a old new → named_id a ≡ Some id → id < STAGES * d.queries
+pub called-low : (d : Shape) (w : ℕ) (a : Act) (id : ℕ) (old new : List Entry) → Called d (entry w a) old new → named_id a ≡ Some id → id < STAGES * d.queries
 called-low d w a id old new (h, is, begins, same, legal) named = named-low d w a h id (subst (IsLegal d) is legal) named
 
 -- ---- ids of places

@@ -11,7 +11,7 @@ use Rattle.slot_history.specs.States.{SlotState, Empty, Reserved, Open, Shut, Fi
 use Rattle.slot_history.specs.Steps.{ended}
 use Rattle.slot_history.specs.Allowed.{IsAllowed, debts, next_is_at}
 use Rattle.slot_history.specs.Table.{IsTable}
-use Rattle.slot_history.specs.Calls.{Call, Entering, Looking, Claiming, Shutting, Leaving, Paying, Marking, Sweeping, Reserving, Admitting, AskingArrivals, AskingFinished, NotingDone, SettingTotal, Installing, Releasing, AnnouncingNext, TakingReturn, TakingChange, call_of, MayCall, looked_at, answer_at, call_site, reply_of, IsAnswered}
+use Rattle.slot_history.specs.Calls.{Call, Entering, Looking, Claiming, Shutting, Leaving, Paying, MarkingNext, Sweeping, Reserving, Admitting, AskingArrivals, AskingFinished, NotingDone, SettingTotal, Installing, Releasing, AnnouncingNext, TakingReturn, TakingChange, call_of, MayCall, looked_at, answer_at, call_site, reply_of, IsAnswered}
 use Rattle.slot_history.proofs.Records.{shut-closed}
 use Rattle.slot_history.proofs.Masks.{mask-is, mask-only}
 use Rattle.slot_history.proofs.Places.{inside-slots}
@@ -59,7 +59,7 @@ answered d S tab w Paying low ok = subst (Replies d S w Paying) (sym (ap slot_of
     (λ k. let both = and_parts (is_swept x) (eqb (debts d (ended d w PayDone x)) 0) k in
     (ok.0, ok.1, ok.2, both.0, eqb-true (debts d (ended d w PayDone x)) 0 both.1))
     (λ k. (ok.0, ok.1, ok.2, still-owed (is_swept x) (debts d (ended d w PayDone x)) k)))
-answered d S tab w Marking low ok = subst (λ j. IsAllowed d S w (cond (next_is_at d S j (S.slots j)) MarkMarked MarkMissed)) (sym (ap slot_of ok.4))
+answered d S tab w MarkingNext low ok = subst (λ j. IsAllowed d S w (cond (next_is_at d S j (S.slots j)) MarkMarked MarkMissed)) (sym (ap slot_of ok.4))
     (cond_both (next_is_at d S ok.0 (S.slots ok.0)) MarkMarked MarkMissed (IsAllowed d S w)
     (λ k. (ok.0, ok.1, ok.2, ok.3, ok.4, ok.5, k)) (λ k. (ok.0, ok.1, ok.2, ok.3, ok.4, ok.5, k)))
 answered d S tab w Sweeping low ok = subst (Replies d S w Sweeping) (sym (ap slot_of ok.4))
@@ -169,7 +169,7 @@ call-of-answer d S w (Claiming n) x = let t = task_of x in
 call-of-answer d S w Shutting x = call-of-either (is_open x) ShutWon ShutLost Shutting refl refl
 call-of-answer d S w Leaving x = call-of-either (owes x w) (LeaveOwe (id_of x)) LeaveLeft Leaving refl refl
 call-of-answer d S w Paying x = call-of-either (is_swept x && eqb (debts d (ended d w PayDone x)) 0) PayLast PayDone Paying refl refl
-call-of-answer d S w Marking x = call-of-either (next_is_at d S (slot_of (S.places w)) x) MarkMarked MarkMissed Marking refl refl
+call-of-answer d S w MarkingNext x = call-of-either (next_is_at d S (slot_of (S.places w)) x) MarkMarked MarkMissed MarkingNext refl refl
 call-of-answer d S w Sweeping x = call-of-either (eqb (debts d x) 0) SweepLast (SweepOthers (debts d x)) Sweeping refl refl
 call-of-answer d S w (Reserving s) x = call-of-either (is_empty x) (ReserveGot s) (ReserveTaken s (slot_word x)) (Reserving s) refl refl
 call-of-answer d S w (Admitting q) x = call-of-either (eqb S.admitted q) (AdmitGot q) (AdmitLost q S.admitted) (Admitting q) refl refl

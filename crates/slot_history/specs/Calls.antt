@@ -19,7 +19,7 @@ pub data Call : Type 0 where
   Shutting : Call
   Leaving : Call
   Paying : Call
-  Marking : Call
+  MarkingNext : Call
   Sweeping : Call
   Reserving : ℕ → Call
   Admitting : ℕ → Call
@@ -47,8 +47,8 @@ call_of LeaveLeft = Leaving
 call_of (LeaveOwe id) = Leaving
 call_of PayLast = Paying
 call_of PayDone = Paying
-call_of MarkMarked = Marking
-call_of MarkMissed = Marking
+call_of MarkMarked = MarkingNext
+call_of MarkMissed = MarkingNext
 call_of SweepLast = Sweeping
 call_of (SweepOthers n) = Sweeping
 call_of (ReserveGot s) = Reserving s
@@ -73,7 +73,7 @@ MayAt d p (Claiming n) = (s id : ℕ) × (p ≡ Inside s id) × (0 < n) × (n �
 MayAt d p Shutting = (s id : ℕ) × (p ≡ Used s id)
 MayAt d p Leaving = can_leave p ≡ true
 MayAt d p Paying = (s id : ℕ) × (p ≡ Owing s id)
-MayAt d p Marking = (s id asked marked : ℕ) × (p ≡ Asking s id asked marked)
+MayAt d p MarkingNext = (s id asked marked : ℕ) × (p ≡ Asking s id asked marked)
     × (asked + 1 < d.workers)
 MayAt d p Sweeping = (s id asked marked : ℕ) × (p ≡ Asking s id asked marked)
     × (asked + 1 ≡ d.workers)
@@ -120,7 +120,7 @@ answer_at d S w Shutting x = cond (is_open x) ShutWon ShutLost
 answer_at d S w Leaving x = cond (owes x w) (LeaveOwe (id_of x)) LeaveLeft
 answer_at d S w Paying x =
     cond (is_swept x && eqb (debts d (ended d w PayDone x)) 0) PayLast PayDone
-answer_at d S w Marking x = cond (next_is_at d S (slot_of (S.places w)) x) MarkMarked MarkMissed
+answer_at d S w MarkingNext x = cond (next_is_at d S (slot_of (S.places w)) x) MarkMarked MarkMissed
 answer_at d S w Sweeping x = cond (eqb (debts d x) 0) SweepLast (SweepOthers (debts d x))
 answer_at d S w (Reserving s) x = cond (is_empty x) (ReserveGot s) (ReserveTaken s (slot_word x))
 answer_at d S w (Admitting q) x = cond (eqb S.admitted q) (AdmitGot q) (AdmitLost q S.admitted)

@@ -34,11 +34,11 @@ place_of d h w = (state_after d h).places w
 abbrev pub Begins : List Entry → List Entry → Type 0
 Begins h t = (more : List Entry) × (h ≡ more ++ t)
 
--- After the call a of w, its trail `new` ends with this call and begins with the trail `old`; of w
--- it has just its own calls, and it is a legal history.
-abbrev pub Called : Shape → ℕ → Act → List Entry → List Entry → Type 0
-Called d w a old new = (h : List Entry) × (new ≡ entry w a ∷ h) × Begins h old
-    × (own_calls w h ≡ own_calls w old) × IsLegal d new
+-- After the call e of a worker, its trail `new` ends with this call and begins with the trail `old`;
+-- of the worker it has just the worker's own calls, and it is a legal history.
+abbrev pub Called : Shape → Entry → List Entry → List Entry → Type 0
+Called d e old new = (h : List Entry) × (new ≡ e ∷ h) × Begins h old
+    × (own_calls e.worker h ≡ own_calls e.worker old) × IsLegal d new
 
 -- ---- claims
 

@@ -69,23 +69,24 @@ OwnRecords d h = (w s : ℕ) → (state_after d h).records w s ≡ own_record d 
 -- What a worker knows of its call, by its trails before and after: its place, its claims and its
 -- notice records go on from those that the trail before gave, and the call was allowed, with its
 -- answer, after a legal history in which it was at that place.
-pub record IsCallFrom (d : Shape) (w : ℕ) (a : Act) (old new : List Entry) : Type 0 where
-  pub place : place_of d new w ≡ moved d a (place_of d old w)
-  pub ranges : (id : ℕ)
-      → ranges_of d w id new ≡ ranges_after a (place_of d old w) id (ranges_of d w id old)
-  pub allowed : (h : List Entry) × (new ≡ entry w a ∷ h) × IsLegal d h × (w < d.workers)
-      × IsAllowed d (state_after d h) w a × (place_of d h w ≡ place_of d old w)
-  pub records : (s : ℕ)
-      → own_record d w s new ≡ own_record_after a (place_of d old w) s (own_record d w s old)
+pub record IsCallFrom (d : Shape) (e : Entry) (old new : List Entry) : Type 0 where
+  pub place : place_of d new e.worker ≡ moved d e.act (place_of d old e.worker)
+  pub ranges : (id : ℕ) → ranges_of d e.worker id new
+      ≡ ranges_after e.act (place_of d old e.worker) id (ranges_of d e.worker id old)
+  pub allowed : (h : List Entry) × (new ≡ e ∷ h) × IsLegal d h × (e.worker < d.workers)
+      × IsAllowed d (state_after d h) e.worker e.act
+      × (place_of d h e.worker ≡ place_of d old e.worker)
+  pub records : (s : ℕ) → own_record d e.worker s new
+      ≡ own_record_after e.act (place_of d old e.worker) s (own_record d e.worker s old)
 
 abbrev pub CallsGoOn : Type 0
-CallsGoOn = (d : Shape) (w : ℕ) (a : Act) (old new : List Entry) → Called d w a old new
-    → IsCallFrom d w a old new
+CallsGoOn = (d : Shape) (w : ℕ) (a : Act) (old new : List Entry)
+    → Called d (entry w a) old new → IsCallFrom d (entry w a) old new
 
 -- who learns at its leave that it owes was not the coordinator
 abbrev pub CoordinatorLeaves : Type 0
 CoordinatorLeaves = (d : Shape) (w s id jd : ℕ) (old new : List Entry)
-    → Called d w (LeaveOwe jd) old new
+    → Called d (entry w (LeaveOwe jd)) old new
     → place_of d old w ≢ Leading s id
 
 -- after every legal history
@@ -105,7 +106,7 @@ ClaimsGoOn = (d : Shape) (w n from to s id : ℕ) (h : List Entry)
 -- the same of the worker's own ranges, by its trail before the call
 abbrev pub RangesGoOn : Type 0
 RangesGoOn = (d : Shape) (w n from to s id : ℕ) (old new : List Entry)
-    → Called d w (ClaimRange n from to) old new
+    → Called d (entry w (ClaimRange n from to)) old new
     → place_of d old w ≡ Inside s id
     → All (λ (range : ℕ × ℕ). range.1 ≤ from) (ranges_of d w id old)
 

@@ -25,7 +25,7 @@ use Rattle.slot_words.specs.Addresses.{index}
 use Rattle.slot_words.specs.Steps.{address_of, change_of, answer_of}
 use Rattle.slot_words.specs.Words.{StandsFor, AreFirst, word_at}
 use Rattle.slot_words.specs.Numbers.{IsSmall}
-use Rattle.slot_words.specs.Laws.{Turn, IsLawful, stepped}
+use Rattle.slot_words.specs.Laws.{NextCall, IsLawful, stepped}
 use Rattle.slot_proto.specs.declared.machine.Machine.TheInside.{Inside}
 use Rattle.slot_words.proofs.Law.{law}
 use Rattle.slot_words.proofs.Openings.{first-words-stand}
@@ -65,14 +65,14 @@ module _ (r : Running) (places : List Place) (ok : IsMachine r.shape r.words pla
   pub place-counted : w < r.shape.workers → IsCounted p
   place-counted low = counts.place-counted r.shape (calls_of r.log) w ok.words_are.shape ok.words_are.legal low
 
-  abbrev turn_of : Call → Turn
-  turn_of c = record { shape = r.shape; history = calls_of r.log; worker = w; call = c }
+  abbrev next_call : Call → NextCall
+  next_call c = record { shape = r.shape; history = calls_of r.log; worker = w; call = c }
 
   -- the law of the call
   pub lawful : (c : Call) (a : Address) → IsCallOn r w c a
-      → IsLawful (turn_of c) (record { address = a; change = change_of c p; answer = answer_of c p }) r.words
+      → IsLawful (next_call c) (record { address = a; change = change_of c p; answer = answer_of c p }) r.words
   lawful c a on =
-      subst (λ b. IsLawful (turn_of c) (record { address = b; change = change_of c p; answer = answer_of c p }) r.words) (sym on.on)
+      subst (λ b. IsLawful (next_call c) (record { address = b; change = change_of c p; answer = answer_of c p }) r.words) (sym on.on)
       (law c r.shape (calls_of r.log) w r.words ok.words_are on.may.below on.may.may)
 
   -- the words, the places and the log that the step leaves

@@ -10,8 +10,8 @@ ghost use Rattle.slot_words.specs.Words.{StandsFor, word_at};
 ghost use Rattle.slot_proto.specs.Machines.{Calls, IsCallOn, IsStepOf, place_now, state_now};
 
 use crate::reading::{
-    admit_read, claim_read, exchanged, leave_read, look_read, mark_read, marked_at, mask_told,
-    next_to_ask, pay_read, reserve_read, shut_read, sweep_read,
+    admit_read, claim_read, compare_exchanged, leave_read, look_read, mark_read, marked_at,
+    mask_told, next_to_ask, pay_read, reserve_read, shut_read, sweep_read,
 };
 use one_thread::object::SlotObject;
 use slot_history::act::{Act, Entry};
@@ -183,7 +183,7 @@ impl SlotObject for Machine {
         let found = self.found(worker, other);
         let mark = mark_read(found, slot);
         let there = at_word(slot);
-        let new = exchanged(found, there, marked(there, id_at(&place)));
+        let new = compare_exchanged(found, there, marked(there, id_at(&place)));
         self.step(worker, other, new, &mark.act());
         mark
     }
@@ -212,14 +212,19 @@ impl SlotObject for Machine {
         let state = Address::StateOf(s);
         let found = self.found(worker, state);
         let reserve = reserve_read(found, worker, s);
-        self.step(worker, state, exchanged(found, 0, 1), &reserve.act(s));
+        self.step(
+            worker,
+            state,
+            compare_exchanged(found, 0, 1),
+            &reserve.act(s),
+        );
         reserve
     }
 
     fn admit(&mut self, worker: u32, q: u32) -> Admit {
         let found = self.found(worker, Address::ArrivalsAt);
         let admit = admit_read(found, q);
-        let new = exchanged(found, u64::from(q), u64::from(q) + 1);
+        let new = compare_exchanged(found, u64::from(q), u64::from(q) + 1);
         self.step(worker, Address::ArrivalsAt, new, &admit.act(q));
         admit
     }

@@ -191,8 +191,8 @@ pub fn mask_told(place: &Place) -> Address
 }
 
 /// What a compare and exchange makes of a word: `new` if it is `old`, else itself.
-pub fn exchanged(word: u64, old: u64, new: u64) -> u64
-    ensures { result ≡ step.exchanged old new word }
+pub fn compare_exchanged(word: u64, old: u64, new: u64) -> u64
+    ensures { result ≡ step.compare_exchanged old new word }
 {
     if word == old { new } else { word }
 }

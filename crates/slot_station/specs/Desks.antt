@@ -8,7 +8,7 @@ use Rattle.slot_history.specs.declared.place.Place.{Place}
 use Rattle.slot_history.specs.declared.place.Place.TheVariants.{Leading}
 use Rattle.slot_history.specs.States.{id_at, held_at}
 use Rattle.slot_history.specs.Bounds.{IsShape}
-use Rattle.slot_history.specs.Histories.{Called, IsOfTotals, place_of, ranges_of}
+use Rattle.slot_history.specs.Histories.{Called, IsOfTotals, entry, place_of, ranges_of}
 use Rattle.slot_station.specs.declared.reply.Leave.{Leave}
 use Rattle.slot_station.specs.declared.reply.Leave.TheVariants.{Left}
 use Rattle.slot_station.specs.declared.note.Note.{Note}
@@ -86,7 +86,7 @@ module _ {O Sub : Type 0} where
   pub record Makes (total : Sub → ℕ → Option ℕ) (a : Act) (old new : Seen O Sub) : Type 0 where
     pub origin : new.origin ≡ old.origin
     pub desk : new.desk ≡ old.desk
-    pub called : Called old.desk.shape old.desk.worker a old.trail new.trail
+    pub called : Called old.desk.shape (entry old.desk.worker a) old.trail new.trail
     pub of_subject : IsOfTotals (totals_of total old) old.desk.shape new.trail
     pub notes : (v : ℕ) → v < old.desk.shape.workers
         → new.notes v ≡ noted a old.desk.worker v (old.notes v)

@@ -12,7 +12,7 @@ use Rattle.slot_history.specs.Steps.{state_after, next}
 use Rattle.slot_history.specs.Allowed.{IsAllowed}
 use Rattle.slot_history.specs.Histories.{IsLegal, entry}
 use Rattle.slot_history.specs.Bounds.{IsShape, IsPlaceWithin}
-use Rattle.slot_history.specs.Calls.{Call, Entering, Looking, Claiming, Shutting, Leaving, Paying, Marking, Sweeping, Reserving, Admitting, AskingArrivals, AskingFinished, NotingDone, SettingTotal, Installing, Releasing, AnnouncingNext, TakingReturn, TakingChange, call_of, MayCall, reply_of}
+use Rattle.slot_history.specs.Calls.{Call, Entering, Looking, Claiming, Shutting, Leaving, Paying, MarkingNext, Sweeping, Reserving, Admitting, AskingArrivals, AskingFinished, NotingDone, SettingTotal, Installing, Releasing, AnnouncingNext, TakingReturn, TakingChange, call_of, MayCall, reply_of}
 use Rattle.slot_history.proofs.Table.{table}
 use Rattle.slot_history.proofs.Within.{within-slots}
 use Rattle.slot_history.proofs.Others.{nth-other-within}
@@ -105,7 +105,7 @@ module _ (d : Shape) (S : ObjectState) (w : ℕ) (low : w < d.workers) (fit : Is
   there Shutting ok = subst (There Shutting) (sym ok.2) (slot-there (Used ok.0 ok.1) ok.2 (λ e. cc))
   there Leaving ok = low
   there Paying ok = subst (There Paying) (sym ok.2) (slot-there (Owing ok.0 ok.1) ok.2 (λ e. cc))
-  there Marking ok = subst (There Marking) (sym ok.4) (nth-other-within w ok.2 d.workers low ok.5)
+  there MarkingNext ok = subst (There MarkingNext) (sym ok.4) (nth-other-within w ok.2 d.workers low ok.5)
   there Sweeping ok = subst (There Sweeping) (sym ok.4) (slot-there (Asking ok.0 ok.1 ok.2 ok.3) ok.4 (λ e. cc))
   there (Reserving s) ok = ok.1
   there (Admitting q) ok = tt

@@ -20,20 +20,20 @@ use Rattle.slot_words.specs.Words.{IsCounter, StandsFor, AreFirst, word_at}
 abbrev pub stepped : Shape → List ℕ → Address → (ℕ → ℕ) → List ℕ
 stepped d words a change = slice_set words (index d a) (change (word_at d words a))
 
--- a call of a worker that is made after a history
-pub record Turn : Type 0 where
+-- a call of a worker that is due after a history
+pub record NextCall : Type 0 where
   pub shape : Shape
   pub history : List Entry
   pub worker : ℕ
   pub call : Call
 
 -- the reply of the definition
-abbrev pub reply_at : Turn → Act
-reply_at turn = reply_of turn.shape (state_after turn.shape turn.history) turn.worker turn.call
+abbrev pub reply_at : NextCall → Act
+reply_at due = reply_of due.shape (state_after due.shape due.history) due.worker due.call
 
 -- the history with the call after it, answered so
-abbrev pub answered : Turn → Act → List Entry
-answered turn act = entry turn.worker act ∷ turn.history
+abbrev pub answered : NextCall → Act → List Entry
+answered due act = entry due.worker act ∷ due.history
 
 -- one atomic step: the word that it is on, what it makes of this word, and what it answers of it
 pub record AtomicStep : Type 0 where
@@ -48,13 +48,13 @@ answer_on d words step = step.answer (word_at d words step.address)
 -- The step of a call on the words that the history left: it is on one of them. What it answers is
 -- the reply of the definition, with numbers that are small. The history with this entry is legal,
 -- and the words stand for the state that it leaves.
-pub record IsLawful (turn : Turn) (step : AtomicStep) (words : List ℕ) : Type 0 where
-  pub there : index turn.shape step.address < length words
-  pub reply : answer_on turn.shape words step ≡ reply_at turn
-  pub small : IsSmall (answer_on turn.shape words step)
-  pub legal : IsLegal turn.shape (answered turn (answer_on turn.shape words step))
-  pub stands : StandsFor turn.shape (stepped turn.shape words step.address step.change)
-      (state_after turn.shape (answered turn (answer_on turn.shape words step)))
+pub record IsLawful (due : NextCall) (step : AtomicStep) (words : List ℕ) : Type 0 where
+  pub there : index due.shape step.address < length words
+  pub reply : answer_on due.shape words step ≡ reply_at due
+  pub small : IsSmall (answer_on due.shape words step)
+  pub legal : IsLegal due.shape (answered due (answer_on due.shape words step))
+  pub stands : StandsFor due.shape (stepped due.shape words step.address step.change)
+      (state_after due.shape (answered due (answer_on due.shape words step)))
 
 -- the words stand for the state that a legal history leaves
 pub record AreWordsOf (d : Shape) (history : List Entry) (words : List ℕ) : Type 0 where

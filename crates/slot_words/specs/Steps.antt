@@ -7,7 +7,7 @@ use Rattle.slot_history.specs.declared.act.Act.TheVariants.{Enter, LookOpen, Loo
 use Rattle.slot_history.specs.declared.place.Place.{Place}
 use Rattle.slot_history.specs.declared.place.Place.TheVariants.{Asking, Announcing}
 use Rattle.slot_history.specs.States.{slot_of, id_at}
-use Rattle.slot_history.specs.Calls.{Call, Entering, Looking, Claiming, Shutting, Leaving, Paying, Marking, Sweeping, Reserving, Admitting, AskingArrivals, AskingFinished, NotingDone, SettingTotal, Installing, Releasing, AnnouncingNext, TakingReturn, TakingChange}
+use Rattle.slot_history.specs.Calls.{Call, Entering, Looking, Claiming, Shutting, Leaving, Paying, MarkingNext, Sweeping, Reserving, Admitting, AskingArrivals, AskingFinished, NotingDone, SettingTotal, Installing, Releasing, AnnouncingNext, TakingReturn, TakingChange}
 use Rattle.slot_history.specs.Allowed.{bit_of}
 use Rattle.slot_history.specs.Table.{nth_other}
 use Rattle.slot_words.specs.declared.address.Address.{Address}
@@ -23,8 +23,8 @@ abbrev pub one_less : ℕ → ℕ
 one_less n = (n + (2 ^ 64 - 1)) % 2 ^ 64
 
 -- a compare and exchange
-abbrev pub exchanged : ℕ → ℕ → ℕ → ℕ
-exchanged old new n = either (eqb n old) new n
+abbrev pub compare_exchanged : ℕ → ℕ → ℕ → ℕ
+compare_exchanged old new n = either (eqb n old) new n
 
 -- ---- what a call reads in its word
 
@@ -89,7 +89,7 @@ address_of w (Claiming k) p = CursorOf (slot_of p)
 address_of w Shutting p = StateOf (slot_of p)
 address_of w Leaving p = WorkerOf w
 address_of w Paying p = CounterOf (slot_of p)
-address_of w Marking p = WorkerOf (nth_other w (asked_at p))
+address_of w MarkingNext p = WorkerOf (nth_other w (asked_at p))
 address_of w Sweeping p = CounterOf (slot_of p)
 address_of w (Reserving s) p = StateOf s
 address_of w (Admitting q) p = ArrivalsAt
@@ -111,11 +111,11 @@ change_of (Claiming k) p n = added k n
 change_of Shutting p n = bit_or n 1
 change_of Leaving p n = 0
 change_of Paying p n = one_less n
-change_of Marking p n =
-    let there = at_word (slot_of p) in exchanged there (marked there (id_at p)) n
+change_of MarkingNext p n =
+    let there = at_word (slot_of p) in compare_exchanged there (marked there (id_at p)) n
 change_of Sweeping p n = added (marked_at p) n
-change_of (Reserving s) p n = exchanged 0 1 n
-change_of (Admitting q) p n = exchanged q (q + 1) n
+change_of (Reserving s) p n = compare_exchanged 0 1 n
+change_of (Admitting q) p n = compare_exchanged q (q + 1) n
 change_of AskingArrivals p n = n
 change_of AskingFinished p n = n
 change_of (NotingDone k) p n = added k n
@@ -134,7 +134,7 @@ answer_of (Claiming k) p n = claim_answer k n
 answer_of Shutting p n = shut_answer n
 answer_of Leaving p n = leave_answer n
 answer_of Paying p n = pay_answer n
-answer_of Marking p n = mark_answer (slot_of p) n
+answer_of MarkingNext p n = mark_answer (slot_of p) n
 answer_of Sweeping p n = sweep_answer (marked_at p) n
 answer_of (Reserving s) p n = reserve_answer s n
 answer_of (Admitting q) p n = admit_answer q n

@@ -8,12 +8,12 @@
 ghost use Rattle.std.specs.Prelude.{ℕ, ◌+◌, bit_or};
 ghost use Rattle.slot_history.specs.declared.act.Act.TheVariants.{Enter, Arrivals, Finished, NoteDone, SetTotal, Install, Release, Announce, TakeReturn, TakeChange};
 ghost use Rattle.slot_history.specs.States.{slot_of, id_at};
-ghost use Rattle.slot_history.specs.Calls.{Entering, Looking, Claiming, Shutting, Leaving, Paying, Marking, Sweeping, Reserving, Admitting, AskingArrivals, AskingFinished, NotingDone, SettingTotal, Installing, Releasing, AnnouncingNext, TakingReturn, TakingChange};
+ghost use Rattle.slot_history.specs.Calls.{Entering, Looking, Claiming, Shutting, Leaving, Paying, MarkingNext, Sweeping, Reserving, Admitting, AskingArrivals, AskingFinished, NotingDone, SettingTotal, Installing, Releasing, AnnouncingNext, TakingReturn, TakingChange};
 ghost use Rattle.slot_history.specs.Allowed.{bit_of};
 ghost use Rattle.slot_history.specs.Table.{nth_other};
 ghost use Rattle.slot_words.specs.declared.address.Address.TheVariants.{ArrivalsAt, FinishedAt, StateOf, CursorOf, CounterOf, WorkerOf, ReturnOf, ChangeOf};
 ghost use Rattle.slot_words.specs.Encodings.{open_word, at_word, marked, cursor_word};
-ghost use Rattle.slot_words.specs.Steps.{added, one_less, exchanged, look_answer, claim_answer, shut_answer, leave_answer, pay_answer, mark_answer, sweep_answer, reserve_answer, admit_answer, asked_at, marked_at, mask_told};
+ghost use Rattle.slot_words.specs.Steps.{added, one_less, compare_exchanged, look_answer, claim_answer, shut_answer, leave_answer, pay_answer, mark_answer, sweep_answer, reserve_answer, admit_answer, asked_at, marked_at, mask_told};
 ghost use Rattle.slot_words.specs.Laws.{IsLaw, CountersSay, FirstWordsStand, StatesArePacked};
 
 /// A store on the own state word.
@@ -62,8 +62,8 @@ pub fn shut()
 /// No lock: the mark is set only in a word that says that the worker is at the slot; any other word
 /// tells that it isn't.
 pub fn mark_next()
-    ensures { IsLaw Marking (λ w p. WorkerOf (nth_other w (asked_at p)))
-        (λ p n. let there = at_word (slot_of p) in exchanged there (marked there (id_at p)) n)
+    ensures { IsLaw MarkingNext (λ w p. WorkerOf (nth_other w (asked_at p)))
+        (λ p n. let there = at_word (slot_of p) in compare_exchanged there (marked there (id_at p)) n)
         (λ p n. mark_answer (slot_of p) n) }
 {}
 
@@ -89,7 +89,7 @@ pub fn pay()
 /// No lock: of two that want the slot, one finds it empty.
 pub fn reserve()
     ensures { (s : ℕ) → IsLaw (Reserving s) (λ w p. StateOf s)
-        (λ p n. exchanged 0 1 n) (λ p n. reserve_answer s n) }
+        (λ p n. compare_exchanged 0 1 n) (λ p n. reserve_answer s n) }
 {}
 
 /// One compare and exchange on the arrivals, from q to q + 1.
@@ -97,7 +97,7 @@ pub fn reserve()
 /// No lock: of two that want to admit q, one finds it the next.
 pub fn admit()
     ensures { (q : ℕ) → IsLaw (Admitting q) (λ w p. ArrivalsAt)
-        (λ p n. exchanged q (q + 1) n) (λ p n. admit_answer q n) }
+        (λ p n. compare_exchanged q (q + 1) n) (λ p n. admit_answer q n) }
 {}
 
 /// A load of the arrivals.

@@ -6,7 +6,7 @@ use Rattle.slot_station.specs.Tokens.{IsCoordinator}
 use Rattle.slot_station.proofs.TokensKept.{mark-holds}
 use Rattle.slot_words.specs.declared.address.Address.TheVariants.{WorkerOf}
 use Rattle.slot_words.specs.Encodings.{at_word, marked}
-use Rattle.slot_words.specs.Steps.{exchanged, mark_answer}
+use Rattle.slot_words.specs.Steps.{compare_exchanged, mark_answer}
 use Rattle.board_rule.specs.Passes.{seen_of, shape_of}
 use Rattle.board_rule.proofs.Callers.{pass-counted, counted, placed, new-place, token-of}
 use Rattle.board_finish.proofs.finish.mark_next.Goals as goal
@@ -29,7 +29,7 @@ compare_exchange-found-requires-clause-on g c = ap WorkerOf c.next_to_ask.ensure
 pub compare_exchange-found-requires-clause-change : goal.compare_exchange-found-requires-clause-change
 compare_exchange-found-requires-clause-change g c n =
     let there = c.at_word-there.ensures.word ∙ ap at_word c.slot_at-slot.ensures in
-    ap₂ (λ x y. exchanged x y n) there (c.marked-asks.ensures.word ∙ ap₂ marked there c.id_at.ensures)
+    ap₂ (λ x y. compare_exchanged x y n) there (c.marked-asks.ensures.word ∙ ap₂ marked there c.id_at.ensures)
 
 pub place_after-pass-requires : goal.place_after-pass-requires
 place_after-pass-requires g c = counted c.args.board.now c.args.pass.now c.compare_exchange-found.new.pass c.requires.pass

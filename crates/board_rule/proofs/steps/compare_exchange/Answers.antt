@@ -1,5 +1,5 @@
 use Rattle.std.proofs.Common.{refl}
-use Rattle.slot_words.specs.Steps.{exchanged}
+use Rattle.slot_words.specs.Steps.{compare_exchanged}
 use Rattle.atomic_table.specs.Table.{step}
 use mathlib.Core.Option.{none}
 use Rattle.board_rule.proofs.Stepping.{owes, small, stepped, made}
@@ -10,7 +10,7 @@ compare_exchange-requires g c =
     let b = c.args.board.now in
     let p = c.args.pass.now in
     owes b p.worker p.place p.seat c.requires.pass g.B.Fits.total g.B.Fits.fits g.K.Asked.call c.requires.call c.args.address c.requires.on c.index-word.result
-    c.index-word.ensures (exchanged c.args.old c.args.new) c.requires.change (λ n. n) (λ n. refl)
+    c.index-word.ensures (compare_exchanged c.args.old c.args.new) c.requires.change (λ n. n) (λ n. refl)
     (step b.table.shared.table_id.slots c.index-word.result c.args.old c.args.new none)
 
 pub returns-clause-small : goal.returns-clause-small

@@ -1,6 +1,6 @@
-use Rattle.slot_history.specs.Calls.{Marking}
+use Rattle.slot_history.specs.Calls.{MarkingNext}
 use Rattle.slot_words.proofs.Law.{law}
 use Rattle.slot_words.proofs.laws.mark_next.Goals as goal
 
 pub returns : goal.returns
-returns c = law Marking
+returns c = law MarkingNext

@@ -2,7 +2,7 @@ use Rattle.std.proofs.Common.{◌∙◌, subst, arith}
 use Rattle.slot_station.specs.Tokens.{IsCoordinator}
 use Rattle.slot_history.specs.declared.place.Place.TheVariants.{Asking}
 use Rattle.slot_station.specs.Places.{IsCounted}
-use Rattle.slot_history.specs.Calls.{Marking}
+use Rattle.slot_history.specs.Calls.{MarkingNext}
 use Rattle.one_thread.proofs.Seated.{seat, place-of, may-make, token-old, mark-free, table-free, new-place, token-for, makes-free}
 use Rattle.slot_station.proofs.TokensKept.{mark-holds}
 use Rattle.one_thread.proofs.seat.OneSeatStation.mark_next.Goals as goal
@@ -16,7 +16,7 @@ returns-clause-made g c = makes-free (seat c.args.self.now c.table.inside c.tabl
     c.mark_next-mark.ensures.made (mark-free c.mark_next-mark.result)
 
 pub mark_next-mark-requires : goal.mark_next-mark-requires
-mark_next-mark-requires g c = may-make (seat c.args.self.now c.table.inside c.table.view_is c.table.invariant) Marking
+mark_next-mark-requires g c = may-make (seat c.args.self.now c.table.inside c.table.view_is c.table.invariant) MarkingNext
     (_, _, _, _, c.requires.coordinator.place, c.requires.unasked)
 
 pub count-requires : goal.count-requires

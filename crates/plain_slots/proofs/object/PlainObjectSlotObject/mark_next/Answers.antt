@@ -1,5 +1,5 @@
 use Rattle.std.proofs.Common.{◌≡◌, ◌+◌, ◌*◌, ◌<◌, slice_get, sym, ap, ◌∙◌, subst}
-use Rattle.slot_history.specs.Calls.{Marking}
+use Rattle.slot_history.specs.Calls.{MarkingNext}
 use Rattle.slot_history.specs.States.{is_at}
 use Rattle.slot_history.specs.Table.{nth_other}
 use Rattle.plain_slots.proofs.Calls.{debt-read, debt-index}
@@ -9,14 +9,14 @@ use Rattle.plain_slots.proofs.object.PlainObjectSlotObject.mark_next.Goals as go
 
 pub index-requires-2 : goal.index-requires-2
 index-requires-2 c =
-    let s = spot c.self.inside c.self.invariant _ c.self.view_is c.args.worker Marking tt c.requires _ c.index.ensures _ c.slot_at-s.ensures in
+    let s = spot c.self.inside c.self.invariant _ c.self.view_is c.args.worker MarkingNext tt c.requires _ c.index.ensures _ c.slot_at-s.ensures in
     let (id, n, m, at, more) = asks-at c.self.inside c.args.worker c.index.result.now c.slot_at-s.result s in
     place-index c.self.inside c.self.invariant c.next_to_ask-next.result (subst (λ v. v < c.self.inside.shape.workers)
     (sym (c.next_to_ask-next.ensures _ id n m at)) (next-worker c.self.inside c.args.worker c.index.result.now c.slot_at-s.result n s more))
 
 pub index_mut-owes-requires : goal.index_mut-owes-requires
 index_mut-owes-requires c =
-    let s = spot c.self.inside c.self.invariant _ c.self.view_is c.args.worker Marking tt c.requires _ c.index.ensures _ c.slot_at-s.ensures in
+    let s = spot c.self.inside c.self.invariant _ c.self.view_is c.args.worker MarkingNext tt c.requires _ c.index.ensures _ c.slot_at-s.ensures in
     let (id, n, m, at, more) = asks-at c.self.inside c.args.worker c.index.result.now c.slot_at-s.result s in
     let low = next-worker c.self.inside c.args.worker c.index.result.now c.slot_at-s.result n s more in
     debt-index c.self.inside c.self.invariant c.slot_at-s.result (nth_other c.args.worker n) s.in_slots low c.cell_index.result
@@ -24,13 +24,13 @@ index_mut-owes-requires c =
 
 pub step-requires-clause-counted : goal.step-requires-clause-counted
 step-requires-clause-counted c = counted-at c.self.inside c.self.invariant c.args.worker
-    (spot c.self.inside c.self.invariant _ c.self.view_is c.args.worker Marking tt c.requires _ c.index.ensures _ c.slot_at-s.ensures).low
+    (spot c.self.inside c.self.invariant _ c.self.view_is c.args.worker MarkingNext tt c.requires _ c.index.ensures _ c.slot_at-s.ensures).low
 
 pub invariant_of-self : goal.invariant_of-self
 invariant_of-self c =
     let o = c.self.inside in
     let ok = c.self.invariant in
-    let s = spot c.self.inside c.self.invariant _ c.self.view_is c.args.worker Marking tt c.requires _ c.index.ensures _ c.slot_at-s.ensures in
+    let s = spot c.self.inside c.self.invariant _ c.self.view_is c.args.worker MarkingNext tt c.requires _ c.index.ensures _ c.slot_at-s.ensures in
     let (id, n, m, at, more) = asks-at o c.args.worker c.index.result.now c.slot_at-s.result s in
     let v = nth_other c.args.worker n in
     let is : c.next_to_ask-next.result ≡ v = c.next_to_ask-next.ensures _ id n m at in
@@ -50,4 +50,4 @@ pub returns-clause-made : goal.returns-clause-made
 returns-clause-made c = makes _ _ _ _ c.args.worker _ c.act.result c.self.view_is c.act.ensures c.step.ensures.log (invariant_of-self c).legal
 
 pub returns-clause-counted : goal.returns-clause-counted
-returns-clause-counted c = counted-then c.self.inside c.self.invariant _ c.self.view_is c.args.worker Marking c.requires
+returns-clause-counted c = counted-then c.self.inside c.self.invariant _ c.self.view_is c.args.worker MarkingNext c.requires

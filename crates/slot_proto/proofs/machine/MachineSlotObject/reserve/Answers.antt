@@ -1,6 +1,6 @@
 use Rattle.std.proofs.Common.{refl, ap, ◌∙◌}
 use Rattle.slot_history.specs.Calls.{Reserving}
-use Rattle.slot_words.specs.Steps.{exchanged, reserve_answer}
+use Rattle.slot_words.specs.Steps.{compare_exchanged, reserve_answer}
 use Rattle.slot_station.specs.Replies.{reserve_act}
 use Rattle.slot_station.specs.Tokens.{ReserveGives}
 use Rattle.slot_proto.specs.Machines.{place_now}
@@ -13,7 +13,7 @@ found-found-requires c = (Reserving c.args.s, record { may = c.requires; on = re
 pub step-requires : goal.step-requires
 step-requires c = (
   Reserving c.args.s,
-  is-step c.requires refl (c.exchanged.ensures ∙ ap (exchanged 0 1) c.found-found.ensures.word)
+  is-step c.requires refl (c.compare_exchanged.ensures ∙ ap (compare_exchanged 0 1) c.found-found.ensures.word)
       (c.act.ensures ∙ c.reserve_read-reserve.ensures.act ∙ ap (reserve_answer c.args.s) c.found-found.ensures.word),
 )
 

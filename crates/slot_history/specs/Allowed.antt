@@ -26,12 +26,13 @@ pub record IsMask (part : ℕ) (pending : ℕ → Bool) (bits : ℕ) : Type 0 wh
   pub small : bits < 2 ^ 64
   pub each : (k : ℕ) → k < 64 → bit_at bits k ≡ cond (pending (part * 64 + k)) 1 0
 
--- the bit of a slot in the mask word of its part
+-- the bit of a slot in the mask word of its part: 2 ^ (s % 64), in the form in which the machine's
+-- shift `1 << (s % 64)` of 64 bits gives it
 abbrev pub bit_of : ℕ → ℕ
 bit_of s = 1 * 2 ^ (s % 64) % 2 ^ 64
 
--- whether the task set after this holding is one that the holder may install: its total is set, and
--- after a finalisation that of one stage was noted and the query may have one more
+-- The holder may install the next task set: it has a query, and it set the total. After a
+-- finalisation it also noted exactly one task set as done, and the query may have one more stage.
 pub record IsReady (held : Held) : Type 0 where
   pub has_query : IsSome held.query
   pub has_total : IsSome held.total

@@ -11,7 +11,9 @@ use Rattle.slot_history.specs.States.{SlotState, Empty, Reserved, Open, Shut, Fi
 use Rattle.slot_history.specs.Steps.{ended}
 use Rattle.slot_history.specs.Allowed.{IsAllowed, IsReady, debts, next_is_at}
 
--- a call with its numbers, under the name of the call of a station
+-- A call with its numbers. Each has the name of the station's call that it is. `MarkingNext` is
+-- `mark_next`, and `AnnouncingNext` is `announce`, which tells the next worker; `Announcing` is the
+-- place of whoever makes it.
 pub data Call : Type 0 where
   Entering : ℕ → Call
   Looking : Call

@@ -10,8 +10,8 @@ use Rattle.slot_history.specs.Calls.{Call, Entering, Looking, Claiming, Shutting
 -- the answers to calls, each with its worker, from a state on
 abbrev pub answers_from : Shape → ObjectState → List (ℕ × Call) → List Act
 answers_from d S [] = []
-answers_from d S (c ∷ cs) = reply_of d S c.0 c.1
-    ∷ answers_from d (next d S c.0 (reply_of d S c.0 c.1)) cs
+answers_from d S (call ∷ calls) = let answer = reply_of d S call.0 call.1 in
+    answer ∷ answers_from d (next d S call.0 answer) calls
 
 -- the answers of an object with so many workers, one slot and two queries
 abbrev pub answers_of : ℕ → List (ℕ × Call) → List Act

@@ -30,9 +30,9 @@ own_calls w (e ∷ es) = cond (eqb w e.worker) (e ∷ own_calls w es) (own_calls
 abbrev pub place_of : Shape → List Entry → ℕ → Place
 place_of d h w = (state_after d h).places w
 
--- the history begins with what the trail has
+-- the history h begins with `early`, which the newer entries follow
 abbrev pub Begins : List Entry → List Entry → Type 0
-Begins h t = (more : List Entry) × (h ≡ more ++ t)
+Begins h early = (more : List Entry) × (h ≡ more ++ early)
 
 -- After the call e of a worker, its trail `new` ends with this call and begins with the trail `old`;
 -- of the worker it has just the worker's own calls, and it is a legal history.
@@ -110,14 +110,18 @@ own_record d w s (e ∷ es) =
 
 -- ---- task sets
 
+-- how many calls a history has in the set f
+abbrev pub calls_in : (Act → Bool) → List Entry → ℕ
+calls_in f [] = 0
+calls_in f (e ∷ es) = cond (f e.act) 1 0 + calls_in f es
+
 abbrev pub is_install : Act → ℕ → Bool
 is_install (Install jd) id = eqb jd id
 is_install _ id = false
 
 -- how many installs of an id there are
 abbrev pub installs_of : ℕ → List Entry → ℕ
-installs_of id [] = 0
-installs_of id (e ∷ es) = cond (is_install e.act id) 1 0 + installs_of id es
+installs_of id = calls_in (λ a. is_install a id)
 
 -- the total with which an id was installed, if it was
 abbrev pub total_of : Shape → ℕ → List Entry → Option ℕ
@@ -142,8 +146,7 @@ is_admit _ q = false
 
 -- how many times a query was admitted
 abbrev pub admits_of : ℕ → List Entry → ℕ
-admits_of q [] = 0
-admits_of q (e ∷ es) = cond (is_admit e.act q) 1 0 + admits_of q es
+admits_of q = calls_in (λ a. is_admit a q)
 
 abbrev pub is_last : Act → Bool
 is_last SweepLast = true

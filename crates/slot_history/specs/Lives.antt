@@ -22,9 +22,9 @@ done (Runs s total) = Done total
 done (Done total) = Done total
 
 abbrev pub life_after : Act → Place → ℕ → Life → Life
-life_after a p id l =
+life_after a p id life =
     cond (is_install a id) (Runs (slot_of p) (unwrap_or (held_at p).total 0))
-    (cond (is_last a && eqb (id_at p) id) (done l) l)
+    (cond (is_last a && eqb (id_at p) id) (done life) life)
 
 -- what a history made of a task set
 abbrev pub life_of : Shape → ℕ → List Entry → Life
@@ -51,9 +51,9 @@ tally_of d id h = record {
 abbrev pub Counts : Life → Tally → Type 0
 Counts Never tally = (tally.installs ≡ 0) × (tally.lasts ≡ 0) × (tally.total ≡ None)
     × (tally.slot ≡ None)
-Counts (Runs s n) tally = (tally.installs ≡ 1) × (tally.lasts ≡ 0) × (tally.total ≡ Some n)
+Counts (Runs s total) tally = (tally.installs ≡ 1) × (tally.lasts ≡ 0) × (tally.total ≡ Some total)
     × (tally.slot ≡ Some s)
-Counts (Done n) tally = (tally.installs ≡ 1) × (tally.lasts ≡ 1) × (tally.total ≡ Some n)
+Counts (Done total) tally = (tally.installs ≡ 1) × (tally.lasts ≡ 1) × (tally.total ≡ Some total)
     × IsSome tally.slot
 
 -- and so of each task set of a history
@@ -90,7 +90,7 @@ book_of d h = record {
 
 -- the later task sets of its query were never installed
 abbrev pub AreLaterNever : Book → ℕ → Type 0
-AreLaterNever B id = (j : ℕ) → id < j → j / STAGES ≡ id / STAGES → B.life j ≡ Never
+AreLaterNever B id = (jd : ℕ) → id < jd → jd / STAGES ≡ id / STAGES → B.life jd ≡ Never
 
 -- the task set t runs in the slot s, and its claims tile what was claimed of it
 pub record IsRunning (B : Book) (s : ℕ) (t : TaskSet) : Type 0 where

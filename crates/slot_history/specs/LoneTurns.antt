@@ -35,11 +35,11 @@ pub record IsLone (d : Shape) (S : ObjectState) (w : ℕ) : Type 0 where
 abbrev pub needs_another : Act → Bool
 needs_another LookInvalid = true
 needs_another ShutLost = true
-needs_another (LeaveOwe id) = true
-needs_another PayLast = true
-needs_another PayDone = true
 needs_another MarkMarked = true
+needs_another (LeaveOwe id) = true
 needs_another (SweepOthers n) = true
+needs_another PayDone = true
+needs_another PayLast = true
 needs_another _ = false
 
 -- no answer takes another worker

@@ -6,21 +6,17 @@ use Rattle.slot_history.specs.declared.act.Act.{Act}
 use Rattle.slot_history.specs.declared.act.Act.TheVariants.{LookOpen, LeaveOwe, Install}
 use Rattle.slot_history.specs.declared.act.Entry.{Entry}
 use Rattle.slot_history.specs.declared.place.Place.{Place}
-use Rattle.slot_history.specs.declared.place.Place.TheVariants.{Inside, Used, Behind, Leading, Asking, Owing}
+use Rattle.slot_history.specs.declared.place.Place.TheVariants.{Holding}
 use Rattle.slot_history.specs.States.{ObjectState, slot_of, id_at, id_of, has_id}
 use Rattle.slot_history.specs.Steps.{state_after}
+use Rattle.slot_history.specs.Table.{binds}
 use Rattle.slot_history.specs.Bounds.{IsShape}
 use Rattle.slot_history.specs.Histories.{Begins, Morsel, claims_of, installs_of, slot_with}
 
 -- the place names an id
 abbrev pub names_id : Place → Bool
-names_id (Inside s id) = true
-names_id (Used s id) = true
-names_id (Behind s id) = true
-names_id (Leading s id) = true
-names_id (Asking s id asked marked) = true
-names_id (Owing s id) = true
-names_id _ = false
+names_id (Holding s held) = false
+names_id p = binds p
 
 -- the id that a call or its answer names, if it names one
 abbrev pub named_id : Act → Option ℕ

@@ -1,9 +1,9 @@
 -- Functions with one value changed, and sets of workers, which are tests of their numbers.
 use Rattle.std.specs.Prelude.{ℕ, zero, suc, ◌+◌, Bool, cond, eqb}
 
--- f with x at k: all else stays
+-- f with the value `new` at `at`: all else stays
 abbrev pub upd : {A : Type 0} → (ℕ → A) → ℕ → A → ℕ → A
-upd f k x j = cond (eqb j k) x (f j)
+upd f at new k = cond (eqb k at) new (f k)
 
 -- the least number below n that is in the set, or n where there is none
 abbrev pub least : ℕ → (ℕ → Bool) → ℕ

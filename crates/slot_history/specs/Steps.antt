@@ -161,9 +161,9 @@ slot_after d w _ x = x
 -- the notices of one kind after an announcer at this place told one more worker; `again` is the
 -- kind
 abbrev pub told : Bool → Place → (ℕ → ℕ → Bool) → ℕ → ℕ → Bool
-told true (Announcing s true v) f = upd f v (upd (f v) s true)
-told false (Announcing s false v) f = upd f v (upd (f v) s true)
-told again p f = f
+told true (Announcing s true v) notices = upd notices v (upd (notices v) s true)
+told false (Announcing s false v) notices = upd notices v (upd (notices v) s true)
+told again p notices = notices
 
 -- whether a slot is one of the 64 of a mask word
 abbrev pub is_in_part : ℕ → ℕ → Bool
@@ -171,17 +171,17 @@ is_in_part part s = eqb (s / 64) part
 
 -- the notices of a worker with those of one mask word gone
 abbrev pub taken : ℕ → (ℕ → Bool) → ℕ → Bool
-taken part f s = cond (is_in_part part s) false (f s)
+taken part pending s = cond (is_in_part part s) false (pending s)
 
 abbrev pub changes_after : ℕ → Act → Place → (ℕ → ℕ → Bool) → ℕ → ℕ → Bool
-changes_after w Announce p f = told false p f
-changes_after w (TakeChange part bits) p f = upd f w (taken part (f w))
-changes_after w _ p f = f
+changes_after w Announce p changes = told false p changes
+changes_after w (TakeChange part bits) p changes = upd changes w (taken part (changes w))
+changes_after w _ p changes = changes
 
 abbrev pub returns_after : ℕ → Act → Place → (ℕ → ℕ → Bool) → ℕ → ℕ → Bool
-returns_after w Announce p f = told true p f
-returns_after w (TakeReturn part bits) p f = upd f w (taken part (f w))
-returns_after w _ p f = f
+returns_after w Announce p returns = told true p returns
+returns_after w (TakeReturn part bits) p returns = upd returns w (taken part (returns w))
+returns_after w _ p returns = returns
 
 -- ---- notice records
 
@@ -192,7 +192,7 @@ dropped r = record r { active = false }
 -- group is dropped
 abbrev pub looked_group : Option ℕ → ℕ → NoticeRecord → NoticeRecord
 looked_group None q r = record r { group = Some q }
-looked_group (Some g) q r = cond (eqb g q) r (dropped r)
+looked_group (Some group) q r = cond (eqb group q) r (dropped r)
 
 abbrev pub looked : ℕ → NoticeRecord → NoticeRecord
 looked q r = looked_group r.group q r

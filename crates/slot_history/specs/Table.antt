@@ -5,7 +5,7 @@ use Rattle.slot_history.specs.declared.place.Held.{Held}
 use Rattle.slot_history.specs.declared.place.Place.{Place}
 use Rattle.slot_history.specs.declared.place.Place.TheVariants.{Entered, Astray, Inside, Used, Behind, Leading, Asking, Owing, Holding}
 use Rattle.slot_history.specs.Sets.{count_of}
-use Rattle.slot_history.specs.States.{TaskSet, Ending, SlotState, Empty, Reserved, Open, Shut, Finishing, ObjectState, slot_of, id_at}
+use Rattle.slot_history.specs.States.{TaskSet, Ending, SlotState, Empty, Reserved, Open, Shut, Finishing, ObjectState, slot_of, id_at, has_cell}
 use Rattle.slot_history.specs.Steps.{next_asked}
 
 -- what a worker may or must be to a slot
@@ -43,50 +43,42 @@ duty_of (Finishing id w held) v = cond (eqb v w) (Holds held) Visits
 
 -- the places that tie a worker to the task set of the slot that they name
 abbrev pub binds : Place → Bool
-binds (Inside s id) = true
-binds (Used s id) = true
-binds (Behind s id) = true
-binds (Leading s id) = true
 binds (Asking s id asked marked) = true
 binds (Owing s id) = true
 binds (Holding s held) = true
-binds _ = false
+binds p = has_cell p
 
-abbrev pub works : Place → Bool
-works (Inside s id) = true
-works (Used s id) = true
-works _ = false
-
+-- inside, and not the coordinator
 abbrev pub lags : Place → Bool
-lags (Inside s id) = true
-lags (Used s id) = true
-lags (Behind s id) = true
-lags _ = false
+lags (Leading s id) = false
+lags p = has_cell p
+
+-- inside, and has not learned that the task set is shut
+abbrev pub works : Place → Bool
+works (Behind s id) = false
+works p = lags p
 
 -- where a marked worker may be until it has paid
 abbrev pub stays : Place → Bool
 stays (Entered s) = true
 stays (Astray s) = true
-stays (Inside s id) = true
-stays (Used s id) = true
-stays (Behind s id) = true
 stays (Owing s id) = true
-stays _ = false
+stays p = lags p
 
--- the worker that is number n, from 0, among all but c
+-- the worker that is number n, from 0, among all but the coordinator
 abbrev pub nth_other : ℕ → ℕ → ℕ
-nth_other c n = cond (ltb n c) n (n + 1)
+nth_other coordinator n = cond (ltb n coordinator) n (n + 1)
 
--- the coordinator has asked the first n of the others, and marked m of them
-pub record HasAsked (d : Shape) (end : Ending) (n m : ℕ) : Type 0 where
+-- the coordinator has asked so many of the others, the first ones, and marked so many of them
+pub record HasAsked (d : Shape) (end : Ending) (asked marked : ℕ) : Type 0 where
   pub first : (v : ℕ)
-      → end.asked v ≡ (not (eqb v end.coordinator) && ltb v (nth_other end.coordinator n))
-  pub marks : count_of d.workers end.marked ≡ m
-  pub within : n < d.workers
+      → end.asked v ≡ (not (eqb v end.coordinator) && ltb v (nth_other end.coordinator asked))
+  pub marks : count_of d.workers end.marked ≡ marked
+  pub within : asked < d.workers
 
 abbrev pub IsLeading : Shape → Ending → Place → Type 0
 IsLeading d end (Leading s id) = HasAsked d end 0 0
-IsLeading d end (Asking s id n m) = HasAsked d end n m
+IsLeading d end (Asking s id asked marked) = HasAsked d end asked marked
 IsLeading d end _ = ⊥
 
 -- a place at which a worker meets its duty to the slot s
@@ -145,5 +137,5 @@ pub record IsLed (d : Shape) (x : SlotState) (asker : Asker) : Type 0 where
 
 -- of each coordinator that asks
 abbrev pub AreLed : Shape → ObjectState → Type 0
-AreLed d S = (w s id n m : ℕ) → w < d.workers → S.places w ≡ Asking s id n m
-    → IsLed d (S.slots s) (record { worker = w; id = id; asked = n; marked = m })
+AreLed d S = (w s id asked marked : ℕ) → w < d.workers → S.places w ≡ Asking s id asked marked
+    → IsLed d (S.slots s) (record { worker = w; id = id; asked = asked; marked = marked })

@@ -3,7 +3,7 @@ use Rattle.std.proofs.Common.{◌≡◌, ℕ, ◌+◌, ◌/◌, ◌<◌, ◌≤�
 use Rattle.slot_history.specs.declared.shape.Shape.{Shape}
 use Rattle.slot_history.specs.declared.shape.TheConstants.{STAGES, MOST_TOTAL}
 use Rattle.slot_history.specs.declared.act.Act.{Act}
-use Rattle.slot_history.specs.declared.act.Act.TheVariants.{ClaimRange, ClaimUsed, ShutWon, PayLast, PayDone, MarkMarked, MarkMissed, SweepLast, SweepOthers, ReserveGot, AdmitGot, NoteDone, SetTotal, Install, Release}
+use Rattle.slot_history.specs.declared.act.Act.TheVariants.{ReserveGot, AdmitGot, NoteDone, SetTotal, Install, Release}
 use Rattle.slot_history.specs.declared.act.Entry.{Entry}
 use Rattle.slot_history.specs.declared.place.Held.{Held}
 use Rattle.slot_history.specs.declared.place.Place.TheVariants.{Holding}
@@ -16,6 +16,7 @@ use Rattle.slot_history.specs.Bounds.{IsReservation, IsFinalisation, IsSlotSound
 use Rattle.slot_history.proofs.Sets.{upd-cases}
 use Rattle.slot_history.proofs.Duties.{IsHeldBy, held-mine, holding-holds, holds-slot}
 use Rattle.slot_history.proofs.Table.{table}
+use Rattle.slot_history.proofs.SlotSteps.{after-others}
 
 -- the slot of a holder has what its place has
 pub holder-slot : (d : Shape) (S : ObjectState) → IsTable d S → (w s : ℕ) (h : Held) → w < d.workers → S.places w ≡ Holding s h → IsHeldBy w h (S.slots s)
@@ -73,15 +74,6 @@ sound-opened _ id k = k
 
 sound-after : (d : Shape) (S : ObjectState) (w : ℕ) (a : Act) → w < d.workers → IsTable d S → IsAllowed d S w a → IsSlotSound (S.slots (site a (S.places w)))
     → IsSlotSound (slot_after d w a (S.slots (site a (S.places w))))
-sound-after d S w (ClaimRange n from to) low tab ok = sound-claimed (S.slots (slot_of (S.places w))) n
-sound-after d S w (ClaimUsed n) low tab ok = sound-claimed (S.slots (slot_of (S.places w))) n
-sound-after d S w ShutWon low tab ok = sound-shut (S.slots (slot_of (S.places w))) w
-sound-after d S w PayLast low tab ok = sound-last (S.slots (slot_of (S.places w))) w
-sound-after d S w PayDone low tab ok = sound-ended d w PayDone (S.slots (slot_of (S.places w)))
-sound-after d S w MarkMarked low tab ok = sound-ended d w MarkMarked (S.slots (slot_of (S.places w)))
-sound-after d S w MarkMissed low tab ok = sound-ended d w MarkMissed (S.slots (slot_of (S.places w)))
-sound-after d S w SweepLast low tab ok = sound-last (S.slots (slot_of (S.places w))) w
-sound-after d S w (SweepOthers n) low tab ok = sound-ended d w (SweepOthers n) (S.slots (slot_of (S.places w)))
 sound-after d S w (ReserveGot s) low tab ok = λ k. record { again = refl; stage = refl; noted = omega arith; total = omega arith }
 sound-after d S w (AdmitGot q) low tab ok = let at : ok.0 ≡ slot_of (S.places w) = sym (ap slot_of ok.2) in
     subst (λ j. IsSlotSound (S.slots j) → IsSlotSound (held_on (AdmitGot q) (S.slots j))) at
@@ -90,7 +82,8 @@ sound-after d S w (NoteDone n) low tab ok = sound-noted (S.slots (slot_of (S.pla
 sound-after d S w (SetTotal t) low tab ok = sound-total (S.slots (slot_of (S.places w))) t ok.4
 sound-after d S w (Install id) low tab ok = sound-opened (S.slots (slot_of (S.places w))) id
 sound-after d S w Release low tab ok = λ k. tt
-sound-after d S w _ low tab ok = λ k. k
+sound-after d S w a low tab ok = after-others d w (λ x y. IsSlotSound x → IsSlotSound y) (λ x k. k) sound-claimed (λ x. sound-shut x w)
+    (λ x. sound-last x w) (sound-ended d w) a refl (S.slots (site a (S.places w)))
 
 pub sound-next : (d : Shape) (S : ObjectState) (w : ℕ) (a : Act) → w < d.workers → IsTable d S → AreSlotsSound d S → IsAllowed d S w a
     → AreSlotsSound d (next d S w a)

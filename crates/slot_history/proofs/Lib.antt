@@ -12,6 +12,7 @@ pub mod Stations
 pub mod Growth
 pub mod CursorBounds
 pub mod Cursors
+pub mod SlotSteps
 pub mod Holdings
 pub mod NotedSets
 pub mod BookSteps

@@ -43,42 +43,51 @@ pub place-own : (d : Shape) (w : ℕ) (h : List Entry) → place_of d h w ≡ pl
 place-own d w [] = refl
 place-own d w (e ∷ es) = place-own-step d w e es (place-own d w es) (ℕ_discrete w e.worker)
 
--- what only the worker's own calls change, by its place, is given by these
+-- f changes by calls of w alone, by its place: after such a call, after a call of another, and that w's own calls give it
+pub record IsByOwn {A : Type 0} (d : Shape) (w : ℕ) (f : List Entry → A) (after : Act → Place → A → A) : Type 0 where
+  pub mine : (e : Entry) (h : List Entry) → w ≡ e.worker → f (e ∷ h) ≡ after e.act (place_of d h w) (f h)
+  pub other : (e : Entry) (h : List Entry) → w ≢ e.worker → f (e ∷ h) ≡ f h
+  pub own : (h : List Entry) → f h ≡ f (own_calls w h)
+
 module _ {A : Type 0} (d : Shape) (w : ℕ) (f : List Entry → A) (after : Act → Place → A → A)
-    (same-place : (h : List Entry) → place_of d h w ≡ place_of d (own_calls w h) w)
-    (mine : (e : Entry) (h : List Entry) → w ≡ e.worker → f (e ∷ h) ≡ after e.act (place_of d h w) (f h))
-    (other : (e : Entry) (h : List Entry) → w ≢ e.worker → f (e ∷ h) ≡ f h) where
+    (step : (e : Entry) (h : List Entry) → f (e ∷ h) ≡ cond (eqb w e.worker) (after e.act (place_of d h w) (f h)) (f h)) where
+  by-mine-step : (e : Entry) (h : List Entry) → w ≡ e.worker → f (e ∷ h) ≡ after e.act (place_of d h w) (f h)
+  by-mine-step e h same = step e h ∙ by-mine w e.worker (after e.act (place_of d h w) (f h)) (f h) same
+
+  by-other-step : (e : Entry) (h : List Entry) → w ≢ e.worker → f (e ∷ h) ≡ f h
+  by-other-step e h differs = step e h ∙ by-other w e.worker (after e.act (place_of d h w) (f h)) (f h) differs
+
   own-step : (e : Entry) (es : List Entry) → f es ≡ f (own_calls w es) → Dec (w ≡ e.worker) → f (e ∷ es) ≡ f (own_calls w (e ∷ es))
-  own-step e es ih (yes same) = mine e es same ∙ ap₂ (after e.act) (same-place es) ih
-      ∙ sym (ap f (own-mine e es w same) ∙ mine e (own_calls w es) same)
-  own-step e es ih (no differs) = other e es differs ∙ ih ∙ sym (ap f (own-other e es w differs))
+  own-step e es ih (yes same) = by-mine-step e es same ∙ ap₂ (after e.act) (place-own d w es) ih
+      ∙ sym (ap f (own-mine e es w same) ∙ by-mine-step e (own_calls w es) same)
+  own-step e es ih (no differs) = by-other-step e es differs ∙ ih ∙ sym (ap f (own-other e es w differs))
 
   by-own-calls : (h : List Entry) → f h ≡ f (own_calls w h)
   by-own-calls [] = refl
   by-own-calls (e ∷ es) = own-step e es (by-own-calls es) (ℕ_discrete w e.worker)
 
+  by-own : IsByOwn d w f after
+  by-own = record { mine = by-mine-step; other = by-other-step; own = by-own-calls }
+
+-- so are the ranges and the notice records of a worker
+pub ranges-by-own : (d : Shape) (w id : ℕ) → IsByOwn d w (ranges_of d w id) (λ a p rs. ranges_after a p id rs)
+ranges-by-own d w id = by-own d w (ranges_of d w id) (λ a p rs. ranges_after a p id rs) (λ e h. refl)
+
+pub record-by-own : (d : Shape) (w s : ℕ) → IsByOwn d w (own_record d w s) (λ a p r. own_record_after a p s r)
+record-by-own d w s = by-own d w (own_record d w s) (λ a p r. own_record_after a p s r) (λ e h. refl)
+
 pub ranges-mine : (d : Shape) (w id : ℕ) (e : Entry) (h : List Entry) → w ≡ e.worker
     → ranges_of d w id (e ∷ h) ≡ ranges_after e.act (place_of d h w) id (ranges_of d w id h)
-ranges-mine d w id e h same = by-mine w e.worker (ranges_after e.act (place_of d h w) id (ranges_of d w id h)) (ranges_of d w id h) same
+ranges-mine d w id = (ranges-by-own d w id).mine
 
 pub ranges-other : (d : Shape) (w id : ℕ) (e : Entry) (h : List Entry) → w ≢ e.worker → ranges_of d w id (e ∷ h) ≡ ranges_of d w id h
-ranges-other d w id e h other = by-other w e.worker (ranges_after e.act (place_of d h w) id (ranges_of d w id h)) (ranges_of d w id h) other
+ranges-other d w id = (ranges-by-own d w id).other
 
 pub ranges-own : (d : Shape) (w id : ℕ) (h : List Entry) → ranges_of d w id h ≡ ranges_of d w id (own_calls w h)
-ranges-own d w id = by-own-calls d w (ranges_of d w id) (λ a p rs. ranges_after a p id rs) (place-own d w) (ranges-mine d w id) (ranges-other d w id)
-
-pub record-mine : (d : Shape) (w s : ℕ) (e : Entry) (h : List Entry) → w ≡ e.worker
-    → own_record d w s (e ∷ h) ≡ own_record_after e.act (place_of d h w) s (own_record d w s h)
-record-mine d w s e h same = by-mine w e.worker (own_record_after e.act (place_of d h w) s (own_record d w s h)) (own_record d w s h) same
-
-pub record-other : (d : Shape) (w s : ℕ) (e : Entry) (h : List Entry) → w ≢ e.worker → own_record d w s (e ∷ h) ≡ own_record d w s h
-record-other d w s e h other = by-other w e.worker (own_record_after e.act (place_of d h w) s (own_record d w s h)) (own_record d w s h) other
-
-pub record-own : (d : Shape) (w s : ℕ) (h : List Entry) → own_record d w s h ≡ own_record d w s (own_calls w h)
-record-own d w s = by-own-calls d w (own_record d w s) (λ a p r. own_record_after a p s r) (place-own d w) (record-mine d w s) (record-other d w s)
+ranges-own d w id = (ranges-by-own d w id).own
 
 pub own-entries : (d : Shape) (h : List Entry) → OwnEntries d h
-own-entries d h w = record { place = place-own d w h; ranges = λ id. ranges-own d w id h; records = λ s. record-own d w s h }
+own-entries d h w = record { place = place-own d w h; ranges = λ id. ranges-own d w id h; records = λ s. (record-by-own d w s).own h }
 
 -- ---- after a call, by the clause of every call
 
@@ -86,11 +95,15 @@ own-entries d h w = record { place = place-own d w h; ranges = λ id. ranges-own
 pub found-place : (d : Shape) (w : ℕ) (old h : List Entry) → own_calls w h ≡ own_calls w old → place_of d h w ≡ place_of d old w
 found-place d w old h same = place-own d w h ∙ ap (λ l. place_of d l w) same ∙ sym (place-own d w old)
 
+found : {A : Type 0} {f : List Entry → A} {after : Act → Place → A → A} (d : Shape) (w : ℕ) → IsByOwn d w f after → (old h : List Entry)
+    → own_calls w h ≡ own_calls w old → f h ≡ f old
+found {f = f} d w by old h same = by.own h ∙ ap f same ∙ sym (by.own old)
+
 pub found-ranges : (d : Shape) (w id : ℕ) (old h : List Entry) → own_calls w h ≡ own_calls w old → ranges_of d w id h ≡ ranges_of d w id old
-found-ranges d w id old h same = ranges-own d w id h ∙ ap (ranges_of d w id) same ∙ sym (ranges-own d w id old)
+found-ranges d w id old h same = found d w (ranges-by-own d w id) old h same
 
 pub found-record : (d : Shape) (w s : ℕ) (old h : List Entry) → own_calls w h ≡ own_calls w old → own_record d w s h ≡ own_record d w s old
-found-record d w s old h same = record-own d w s h ∙ ap (own_record d w s) same ∙ sym (record-own d w s old)
+found-record d w s old h same = found d w (record-by-own d w s) old h same
 
 pub calls-go-on : CallsGoOn
 calls-go-on d w a old new (h, is, begins, same, legal) =
@@ -101,5 +114,5 @@ calls-go-on d w a old new (h, is, begins, same, legal) =
       ranges = λ id. ap (ranges_of d w id) is ∙ ranges-mine d w id (entry w a) h refl ∙ ap₂
           (λ p rs. ranges_after a p id rs) at (found-ranges d w id old h same);
       allowed = (h, is, before.2, before.0, before.1, at);
-      records = λ s. ap (own_record d w s) is ∙ record-mine d w s (entry w a) h refl ∙ ap₂ (λ p r. own_record_after a p s r) at (found-record d w s old h same);
+      records = λ s. ap (own_record d w s) is ∙ (record-by-own d w s).mine (entry w a) h refl ∙ ap₂ (λ p r. own_record_after a p s r) at (found-record d w s old h same);
     }

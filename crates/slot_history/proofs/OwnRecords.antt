@@ -15,7 +15,7 @@ use Rattle.slot_history.specs.Allowed.{IsAllowed, IsMask}
 use Rattle.slot_history.specs.Histories.{IsLegal, place_of, is_in_mask, own_record, own_record_after}
 use Rattle.slot_history.specs.Laws.{OwnRecords}
 use Rattle.slot_history.proofs.Sets.{pick, upd-cases}
-use Rattle.slot_history.proofs.Own.{record-mine, record-other}
+use Rattle.slot_history.proofs.Own.{record-by-own}
 
 -- a bit that stands for a truth is 1 where that is so
 bit-true : (b : Bool) → eqb (cond b 1 0) 1 ≡ b
@@ -60,5 +60,5 @@ own-records d (e ∷ es) legal w s = let S : ObjectState = state_after d es in
     (λ r. r s ≡ own_record d w s (e ∷ es))
     (λ same. record-step d S e.worker e.act s legal.1
     ∙ ap (λ u. own_record_after e.act (S.places u) s (S.records u s)) (sym same)
-    ∙ ap (own_record_after e.act (place_of d es w) s) (own-records d es legal.2 w s) ∙ sym (record-mine d w s e es same))
-    (λ other. own-records d es legal.2 w s ∙ sym (record-other d w s e es other))
+    ∙ ap (own_record_after e.act (place_of d es w) s) (own-records d es legal.2 w s) ∙ sym ((record-by-own d w s).mine e es same))
+    (λ other. own-records d es legal.2 w s ∙ sym ((record-by-own d w s).other e es other))

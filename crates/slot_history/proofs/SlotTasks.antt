@@ -3,7 +3,7 @@ use Rattle.std.proofs.Common.{◌≡◌, ℕ, ◌<◌, Bool, true, false, cond, 
 use Rattle.std.proofs.lemmas.Bool.{cases_Bool, and_parts}
 use Rattle.slot_history.specs.declared.shape.Shape.{Shape}
 use Rattle.slot_history.specs.declared.act.Act.{Act}
-use Rattle.slot_history.specs.declared.act.Act.TheVariants.{ClaimRange, ClaimUsed, ShutWon, PayLast, PayDone, MarkMarked, MarkMissed, SweepLast, SweepOthers, AdmitGot, NoteDone, SetTotal, Install}
+use Rattle.slot_history.specs.declared.act.Act.TheVariants.{ReserveGot, AdmitGot, NoteDone, SetTotal, Install, Release}
 use Rattle.slot_history.specs.declared.act.Entry.{Entry}
 use Rattle.slot_history.specs.declared.place.Held.{Held}
 use Rattle.slot_history.specs.declared.place.Place.{Place}
@@ -16,20 +16,21 @@ use Rattle.slot_history.specs.Lives.{Never}
 use Rattle.slot_history.proofs.Sets.{upd-cases}
 use Rattle.slot_history.proofs.Duties.{IsHeldBy}
 use Rattle.slot_history.proofs.Table.{table}
+use Rattle.slot_history.proofs.SlotSteps.{after-others}
 use Rattle.slot_history.proofs.Holdings.{holder-slot}
 use Rattle.slot_history.proofs.Counts.{install-never, counts-as}
 
 -- ---- the task set that a slot serves, by its state
 
-at-claimed : (x : SlotState) (n : ℕ) → task_at (claimed x n) ≡ task_at x
+pub at-claimed : (x : SlotState) (n : ℕ) → task_at (claimed x n) ≡ task_at x
 at-claimed (Open t) n = refl
 at-claimed _ n = refl
 
-at-shut : (x : SlotState) (w : ℕ) → task_at (shut_by w x) ≡ task_at x
+pub at-shut : (x : SlotState) (w : ℕ) → task_at (shut_by w x) ≡ task_at x
 at-shut (Open t) w = refl
 at-shut _ w = refl
 
-at-ended : (d : Shape) (w : ℕ) (a : Act) (x : SlotState) → task_at (ended d w a x) ≡ task_at x
+pub at-ended : (d : Shape) (w : ℕ) (a : Act) (x : SlotState) → task_at (ended d w a x) ≡ task_at x
 at-ended d w a (Open t) = refl
 at-ended d w a _ = refl
 
@@ -37,7 +38,7 @@ at-last : (x : SlotState) (w : ℕ) → task_at (finalised_by w x) ≡ task_at x
 at-last (Open t) w = refl
 at-last _ w = refl
 
-at-held : (a : Act) (x : SlotState) → task_at (held_on a x) ≡ task_at x
+pub at-held : (a : Act) (x : SlotState) → task_at (held_on a x) ≡ task_at x
 at-held a (Open t) = refl
 at-held a _ = refl
 
@@ -47,21 +48,15 @@ at-opened x id w h how = ⊎_elim (λ e. ap (λ y. task_at (opened id y)) e) (λ
 -- after a call that is about the slot
 at-after : (d : Shape) (S : ObjectState) (w : ℕ) (a : Act) → w < d.workers → IsTable d S → IsAllowed d S w a
     → let x = S.slots (site a (S.places w)) in task_at (slot_after d w a x) ≡ cond (renews a) (task_given a) (task_at x)
-at-after d S w (ClaimRange n from to) low tab ok = at-claimed (S.slots (slot_of (S.places w))) n
-at-after d S w (ClaimUsed n) low tab ok = at-claimed (S.slots (slot_of (S.places w))) n
-at-after d S w ShutWon low tab ok = at-shut (S.slots (slot_of (S.places w))) w
-at-after d S w PayLast low tab ok = at-last (S.slots (slot_of (S.places w))) w
-at-after d S w PayDone low tab ok = at-ended d w PayDone (S.slots (slot_of (S.places w)))
-at-after d S w MarkMarked low tab ok = at-ended d w MarkMarked (S.slots (slot_of (S.places w)))
-at-after d S w MarkMissed low tab ok = at-ended d w MarkMissed (S.slots (slot_of (S.places w)))
-at-after d S w SweepLast low tab ok = at-last (S.slots (slot_of (S.places w))) w
-at-after d S w (SweepOthers n) low tab ok = at-ended d w (SweepOthers n) (S.slots (slot_of (S.places w)))
 at-after d S w (AdmitGot q) low tab ok = at-held (AdmitGot q) (S.slots (slot_of (S.places w)))
 at-after d S w (NoteDone k) low tab ok = at-held (NoteDone k) (S.slots (slot_of (S.places w)))
 at-after d S w (SetTotal t) low tab ok = at-held (SetTotal t) (S.slots (slot_of (S.places w)))
 at-after d S w (Install id) low tab ok = subst (λ p. task_at (opened id (S.slots (slot_of p))) ≡ Some id) (sym ok.2)
     (at-opened (S.slots ok.0) id w ok.1 (holder-slot d S tab w ok.0 ok.1 low ok.2))
-at-after d S w _ low tab ok = refl
+at-after d S w (ReserveGot s) low tab ok = refl
+at-after d S w Release low tab ok = refl
+at-after d S w a low tab ok = after-others d w (λ x y. task_at y ≡ task_at x) (λ x. refl) at-claimed (λ x. at-shut x w) (λ x. at-last x w)
+    (at-ended d w) a refl (S.slots (site a (S.places w)))
 
 renewed-here : (r here : Bool) (new old : Option ℕ) → here ≡ true → cond (r && here) new old ≡ cond r new old
 renewed-here true here new old e = ap (λ b. cond b new old) e

@@ -1,17 +1,22 @@
 -- What becomes of notices that are pending or still to be told.
-use Rattle.std.proofs.Common.{◌≡◌, ◌≢◌, ℕ, ◌+◌, ◌<◌, ◌≤◌, ◌⊎◌, Bool, true, false, cond, None, refl, sym, ap, ◌∙◌, subst, inl, inr, ne_eqb, ⊎_elim, arith}
+use Rattle.std.proofs.Common.{◌≡◌, ◌≢◌, ℕ, ◌+◌, ◌<◌, ◌≤◌, ◌⊎◌, Bool, true, false, cond, None, refl}
+use Rattle.std.proofs.Common.{sym, ap, ◌∙◌, subst, inl, inr, ne_eqb, ⊎_elim, arith}
 use mathlib.Core.Logic.{dite}
 use mathlib.Core.Bool.{true≢false}
 use native.Mathlib.Decide.{ℕ_discrete}
 use Rattle.std.proofs.lemmas.Bool.{cond_both, and_from}
 use Rattle.slot_history.specs.declared.shape.Shape.{Shape}
 use Rattle.slot_history.specs.declared.act.Act.{Act}
-use Rattle.slot_history.specs.declared.act.Act.TheVariants.{ClaimRange, LeaveLeft, LeaveOwe, ReserveTaken, AdmitLost, Arrivals, Finished, Announce, TakeReturn, TakeChange}
+use Rattle.slot_history.specs.declared.act.Act.TheVariants.{ClaimRange, LeaveLeft, LeaveOwe}
+use Rattle.slot_history.specs.declared.act.Act.TheVariants.{ReserveTaken, AdmitLost, Arrivals}
+use Rattle.slot_history.specs.declared.act.Act.TheVariants.{Finished, Announce, TakeReturn}
+use Rattle.slot_history.specs.declared.act.Act.TheVariants.{TakeChange}
 use Rattle.slot_history.specs.declared.place.Place.{Place}
 use Rattle.slot_history.specs.declared.place.Place.TheVariants.{Free, Announcing}
 use Rattle.slot_history.specs.Sets.{upd}
 use Rattle.slot_history.specs.States.{NoticeRecord, ObjectState, can_leave}
-use Rattle.slot_history.specs.Steps.{moved, is_in_part, taken, told, joined_by_return, joined_by_change, next_at, next}
+use Rattle.slot_history.specs.Steps.{moved, is_in_part, taken, told, joined_by_return}
+use Rattle.slot_history.specs.Steps.{joined_by_change, next_at, next}
 use Rattle.slot_history.specs.Allowed.{IsAllowed}
 use Rattle.slot_history.specs.Notices.{notices_of, IsUntold}
 use Rattle.slot_history.proofs.Sets.{upd-same, upd-else, upd-cases}

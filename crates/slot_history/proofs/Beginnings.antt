@@ -1,10 +1,13 @@
 -- Beginnings of a history: legal, one within another, and the whole by all own calls.
-use Rattle.std.proofs.Common.{◌≡◌, ◌≢◌, ℕ, ◌<◌, ◌⊎◌, List, [], ◌∷◌, ◌++◌, length, length-append, drop, refl, sym, ap, ◌∙◌, subst, inl, inr, append-nil, append_assoc, arith}
+use Rattle.std.proofs.Common.{◌≡◌, ◌≢◌, ℕ, ◌<◌, ◌⊎◌, List, [], ◌∷◌, ◌++◌, length, length-append}
+use Rattle.std.proofs.Common.{drop, refl, sym, ap, ◌∙◌, subst, inl, inr, append-nil, append_assoc}
+use Rattle.std.proofs.Common.{arith}
 use native.Mathlib.Decide.{ℕ_discrete}
 use Rattle.slot_history.specs.declared.shape.Shape.{Shape}
 use Rattle.slot_history.specs.declared.act.Entry.{Entry}
 use Rattle.slot_history.specs.Histories.{IsLegal, Begins, own_calls}
-use Rattle.slot_history.specs.Beginnings.{BeginningsAreLegal, BeginningsNest, WholeByOwnCalls, OwnCallsBetween, OthersLeaveIt}
+use Rattle.slot_history.specs.Beginnings.{BeginningsAreLegal, BeginningsNest, WholeByOwnCalls}
+use Rattle.slot_history.specs.Beginnings.{OwnCallsBetween, OthersLeaveIt}
 use Rattle.slot_history.proofs.Own.{own-mine, own-other, found-place, found-ranges, found-record}
 
 pub legal-early : (d : Shape) (more early : List Entry) → IsLegal d (more ++ early) → IsLegal d early

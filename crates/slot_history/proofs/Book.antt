@@ -1,29 +1,42 @@
 -- The book of task sets holds after every legal history. It rules out an id that is installed
 -- twice, and a query that two slots serve.
-use Rattle.std.proofs.Common.{◌≡◌, ℕ, ◌/◌, ◌<◌, ◌≤◌, true, List, [], ◌∷◌, Some, None, refl, sym, ap, ◌∙◌, subst, ⊎_elim, eq-eqb}
+use Rattle.std.proofs.Common.{◌≡◌, ℕ, ◌/◌, ◌<◌, ◌≤◌, true, List, [], ◌∷◌, Some, None, refl, sym, ap}
+use Rattle.std.proofs.Common.{◌∙◌, subst, ⊎_elim, eq-eqb}
 use Rattle.std.specs.Prelude.{unwrap_or}
 use Rattle.slot_history.specs.declared.shape.Shape.{Shape}
 use Rattle.slot_history.specs.declared.shape.TheConstants.{STAGES}
 use Rattle.slot_history.specs.declared.act.Act.{Act}
-use Rattle.slot_history.specs.declared.act.Act.TheVariants.{Enter, ClaimRange, ClaimUsed, ShutWon, PayLast, PayDone, MarkMarked, MarkMissed, SweepLast, SweepOthers, ReserveGot, ReserveTaken, AdmitGot, NoteDone, SetTotal, Install, Release}
+use Rattle.slot_history.specs.declared.act.Act.TheVariants.{Enter, ClaimRange, ClaimUsed, ShutWon}
+use Rattle.slot_history.specs.declared.act.Act.TheVariants.{PayLast, PayDone, MarkMarked}
+use Rattle.slot_history.specs.declared.act.Act.TheVariants.{MarkMissed, SweepLast, SweepOthers}
+use Rattle.slot_history.specs.declared.act.Act.TheVariants.{ReserveGot, ReserveTaken, AdmitGot}
+use Rattle.slot_history.specs.declared.act.Act.TheVariants.{NoteDone, SetTotal, Install, Release}
 use Rattle.slot_history.specs.declared.act.Entry.{Entry}
 use Rattle.slot_history.specs.declared.place.Held.{Held}
 use Rattle.slot_history.specs.declared.place.Place.{Place}
 use Rattle.slot_history.specs.declared.place.Place.TheVariants.{Asking, Owing}
 use Rattle.slot_history.specs.Sets.{upd}
-use Rattle.slot_history.specs.States.{TaskSet, Ending, SlotState, Empty, Open, Shut, ObjectState, slot_of, task_of, id_of, has_own_cell, is_inside}
-use Rattle.slot_history.specs.Steps.{site, slot_after, claimed, finalised_by, held_on, opened, admitted_after, state_after}
+use Rattle.slot_history.specs.States.{TaskSet, Ending, SlotState, Empty, Open, Shut, ObjectState}
+use Rattle.slot_history.specs.States.{slot_of, task_of, id_of, has_own_cell, is_inside}
+use Rattle.slot_history.specs.Steps.{site, slot_after, claimed, finalised_by, held_on, opened}
+use Rattle.slot_history.specs.Steps.{admitted_after, state_after}
 use Rattle.slot_history.specs.Allowed.{IsAllowed}
 use Rattle.slot_history.specs.Histories.{IsLegal, claims_after}
 use Rattle.slot_history.specs.Table.{duty_of, Meets, IsTable}
 use Rattle.slot_history.specs.Bounds.{IsReservation, IsFinalisation, IsSlotSound, AreSlotsSound}
-use Rattle.slot_history.specs.Lives.{life_after, has_task, Book, book_of, IsSlotBook, IsBook, IsBookOf}
+use Rattle.slot_history.specs.Lives.{life_after, has_task, Book, book_of, IsSlotBook, IsBook}
+use Rattle.slot_history.specs.Lives.{IsBookOf}
 use Rattle.slot_history.proofs.Duties.{asking-leads, leads-slot, owing-owes, owes-slot}
 use Rattle.slot_history.proofs.Table.{table}
 use Rattle.slot_history.proofs.Places.{inside-slots}
 use Rattle.slot_history.proofs.Growth.{open-or-shut}
 use Rattle.slot_history.proofs.Holdings.{holder-slot, slots-sound}
-use Rattle.slot_history.proofs.BookSteps.{claimed_in, one_admitted, installed_in, ended_in, alike-self, alike-shut, alike-ended, alike-held, alike-used, alike-reserved, alike-released, book-alike, book-range, running-low, book-admitted, IsFresh, fresh-reserved, fresh-finishing, book-installed, book-last}
+use Rattle.slot_history.proofs.BookSteps.{claimed_in, one_admitted, installed_in, ended_in}
+use Rattle.slot_history.proofs.BookSteps.{alike-self, alike-shut, alike-ended, alike-held}
+use Rattle.slot_history.proofs.BookSteps.{alike-used, alike-reserved, alike-released, book-alike}
+use Rattle.slot_history.proofs.BookSteps.{book-range, running-low, book-admitted, IsFresh}
+use Rattle.slot_history.proofs.BookSteps.{fresh-reserved, fresh-finishing, book-installed}
+use Rattle.slot_history.proofs.BookSteps.{book-last}
 
 -- ---- any call
 

@@ -1,5 +1,7 @@
 -- What a claim, an admission, an install and a last call make of the book of task sets.
-use Rattle.std.proofs.Common.{◌≡◌, ◌≢◌, ℕ, ◌+◌, ◌*◌, ◌/◌, ◌%◌, ◌<◌, ◌≤◌, true, false, cond, eqb, min, List, [], ◌∷◌, Some, None, refl, sym, ap, ap₂, ◌∙◌, subst, ⊎_elim, arith, eq-eqb, ne_eqb}
+use Rattle.std.proofs.Common.{◌≡◌, ◌≢◌, ℕ, ◌+◌, ◌*◌, ◌/◌, ◌%◌, ◌<◌, ◌≤◌, true, false, cond, eqb}
+use Rattle.std.proofs.Common.{min, List, [], ◌∷◌, Some, None, refl, sym, ap, ap₂, ◌∙◌, subst}
+use Rattle.std.proofs.Common.{⊎_elim, arith, eq-eqb, ne_eqb}
 use Rattle.std.specs.Prelude.{unwrap_or}
 use mathlib.Core.Bool.{true≢false}
 use Rattle.std.proofs.lemmas.Bool.{cases_lt}
@@ -9,12 +11,16 @@ use Rattle.slot_history.specs.declared.act.Act.{Act}
 use Rattle.slot_history.specs.declared.act.Act.TheVariants.{AdmitGot}
 use Rattle.slot_history.specs.declared.place.Held.{Held}
 use Rattle.slot_history.specs.Sets.{upd}
-use Rattle.slot_history.specs.States.{TaskSet, Ending, SlotState, Empty, Reserved, Open, Shut, Finishing, task_of, reservation, finalisation, next_id, is_empty}
-use Rattle.slot_history.specs.Steps.{claimed, grown, shut_by, ended, finalised_by, held_on, held_after}
+use Rattle.slot_history.specs.States.{TaskSet, Ending, SlotState, Empty, Reserved, Open, Shut}
+use Rattle.slot_history.specs.States.{Finishing, task_of, reservation, finalisation, next_id}
+use Rattle.slot_history.specs.States.{is_empty}
+use Rattle.slot_history.specs.Steps.{claimed, grown, shut_by, ended, finalised_by, held_on}
+use Rattle.slot_history.specs.Steps.{held_after}
 use Rattle.slot_history.specs.Allowed.{IsReady}
 use Rattle.slot_history.specs.Histories.{Morsel, Tiles}
 use Rattle.slot_history.specs.Bounds.{IsFinalisation}
-use Rattle.slot_history.specs.Lives.{Life, Never, Runs, Done, done, has_task, query_in, AreLaterNever, Book, IsRunning, IsSlotBook, IsBook}
+use Rattle.slot_history.specs.Lives.{Life, Never, Runs, Done, done, has_task, query_in}
+use Rattle.slot_history.specs.Lives.{AreLaterNever, Book, IsRunning, IsSlotBook, IsBook}
 use Rattle.slot_history.proofs.Duties.{IsHeldBy}
 use Rattle.slot_history.proofs.Sets.{pick, upd-cases, upd-same, some-unwrapped}
 

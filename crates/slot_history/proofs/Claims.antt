@@ -1,6 +1,8 @@
 -- The claims of a task set tile what was claimed of it, and its total in the end. It rules out a claim that is not cut at
 -- the total, and a claim after the last call.
-use Rattle.std.proofs.Common.{◌≡◌, ℕ, ◌<◌, Bool, true, false, cond, eqb, ◌&&◌, min, List, [], ◌∷◌, refl, sym, ap, ◌∙◌, subst, inr, ⊎_elim, arith, eq-eqb, ne_eqb, eqb-true}
+use Rattle.std.proofs.Common.{◌≡◌, ℕ, ◌<◌, Bool, true, false, cond, eqb, ◌&&◌, min, List, [], ◌∷◌}
+use Rattle.std.proofs.Common.{refl, sym, ap, ◌∙◌, subst, inr, ⊎_elim, arith, eq-eqb, ne_eqb}
+use Rattle.std.proofs.Common.{eqb-true}
 use Rattle.std.specs.Prelude.{unwrap_or}
 use Rattle.std.proofs.lemmas.Bool.{cond_both, cases_Bool, and_parts}
 use Rattle.slot_history.specs.declared.shape.Shape.{Shape}
@@ -8,11 +10,15 @@ use Rattle.slot_history.specs.declared.act.Act.{Act}
 use Rattle.slot_history.specs.declared.act.Act.TheVariants.{ClaimRange, PayLast, SweepLast}
 use Rattle.slot_history.specs.declared.act.Entry.{Entry}
 use Rattle.slot_history.specs.declared.place.Place.{Place}
-use Rattle.slot_history.specs.States.{TaskSet, SlotState, Open, Shut, ObjectState, slot_of, id_at, held_at, task_of, is_inside}
+use Rattle.slot_history.specs.States.{TaskSet, SlotState, Open, Shut, ObjectState, slot_of, id_at}
+use Rattle.slot_history.specs.States.{held_at, task_of, is_inside}
 use Rattle.slot_history.specs.Steps.{state_after}
 use Rattle.slot_history.specs.Allowed.{IsAllowed}
-use Rattle.slot_history.specs.Histories.{IsLegal, Morsel, Tiles, claims_of, claims_after, ranges_of, ranges_after, ranges_by, place_of, is_install, is_last, lasts_of}
-use Rattle.slot_history.specs.Lives.{Book, book_of, Life, Never, Runs, Done, done, life_of, has_task, IsSlotBook}
+use Rattle.slot_history.specs.Histories.{IsLegal, Morsel, Tiles, claims_of, claims_after, ranges_of}
+use Rattle.slot_history.specs.Histories.{ranges_after, ranges_by, place_of, is_install, is_last}
+use Rattle.slot_history.specs.Histories.{lasts_of}
+use Rattle.slot_history.specs.Lives.{Book, book_of, Life, Never, Runs, Done, done, life_of}
+use Rattle.slot_history.specs.Lives.{has_task, IsSlotBook}
 use Rattle.slot_history.specs.Laws.{NoEarlyClaims, TilesCursor, TilesTotal, FinishingLast}
 use Rattle.slot_history.proofs.Sets.{pick}
 use Rattle.slot_history.proofs.Table.{table}

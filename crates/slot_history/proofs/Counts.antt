@@ -1,5 +1,7 @@
 -- Each task set is installed once, and each query admitted once. It rules out a shut that two workers win.
-use Rattle.std.proofs.Common.{◌≡◌, ◌≢◌, ℕ, ◌+◌, ◌<◌, ◌≤◌, Bool, true, false, cond, eqb, ◌&&◌, min, List, [], ◌∷◌, Option, Some, None, refl, sym, ap, ◌∙◌, subst, ⊎_elim, arith, eqb-true}
+use Rattle.std.proofs.Common.{◌≡◌, ◌≢◌, ℕ, ◌+◌, ◌<◌, ◌≤◌, Bool, true, false, cond, eqb, ◌&&◌, min}
+use Rattle.std.proofs.Common.{List, [], ◌∷◌, Option, Some, None, refl, sym, ap, ◌∙◌, subst, ⊎_elim}
+use Rattle.std.proofs.Common.{arith, eqb-true}
 use Rattle.std.specs.Prelude.{unwrap_or, IsSome}
 use Rattle.std.proofs.lemmas.Bool.{cases_Bool, cases_lt, and_parts, and_left}
 use Rattle.slot_history.specs.declared.shape.Shape.{Shape}
@@ -7,12 +9,16 @@ use Rattle.slot_history.specs.declared.act.Act.{Act}
 use Rattle.slot_history.specs.declared.act.Act.TheVariants.{PayLast, SweepLast, AdmitGot, Install}
 use Rattle.slot_history.specs.declared.act.Entry.{Entry}
 use Rattle.slot_history.specs.declared.place.Place.{Place}
-use Rattle.slot_history.specs.States.{TaskSet, Ending, Shut, ObjectState, slot_of, id_at, held_at, task_of, is_shut}
+use Rattle.slot_history.specs.States.{TaskSet, Ending, Shut, ObjectState, slot_of, id_at, held_at}
+use Rattle.slot_history.specs.States.{task_of, is_shut}
 use Rattle.slot_history.specs.Steps.{admitted_after, state_after}
 use Rattle.slot_history.specs.Allowed.{IsAllowed}
-use Rattle.slot_history.specs.Histories.{IsLegal, Tiles, claims_of, place_of, is_install, installs_of, is_admit, admits_of, is_last, lasts_of, total_of, slot_with}
+use Rattle.slot_history.specs.Histories.{IsLegal, Tiles, claims_of, place_of, is_install}
+use Rattle.slot_history.specs.Histories.{installs_of, is_admit, admits_of, is_last, lasts_of}
+use Rattle.slot_history.specs.Histories.{total_of, slot_with}
 use Rattle.slot_history.specs.Table.{IsTable}
-use Rattle.slot_history.specs.Lives.{book_of, Life, Never, Runs, Done, Tally, done, life_of, tally_of, Counts, CountsOf, has_task, IsRunning, IsSlotBook}
+use Rattle.slot_history.specs.Lives.{book_of, Life, Never, Runs, Done, Tally, done, life_of}
+use Rattle.slot_history.specs.Lives.{tally_of, Counts, CountsOf, has_task, IsRunning, IsSlotBook}
 use Rattle.slot_history.specs.Laws.{OnlyOnce}
 use Rattle.slot_history.proofs.Sets.{pick, some-unwrapped}
 use Rattle.slot_history.proofs.Table.{table}

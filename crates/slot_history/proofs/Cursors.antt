@@ -1,21 +1,33 @@
 -- How cursors grow: a task set is shut only once its tuples are all claimed, and no cursor wraps. It rules out a claim that
 -- is answered a range past the total.
-use Rattle.std.proofs.Common.{◌≡◌, ◌≢◌, ℕ, ◌+◌, ◌*◌, ◌<◌, ◌≤◌, ◌⊎◌, Bool, true, not, List, [], ◌∷◌, refl, sym, ap, ◌∙◌, subst, inl, inr, ⊎_elim, arith, eq-eqb}
+use Rattle.std.proofs.Common.{◌≡◌, ◌≢◌, ℕ, ◌+◌, ◌*◌, ◌<◌, ◌≤◌, ◌⊎◌, Bool, true, not, List, [], ◌∷◌}
+use Rattle.std.proofs.Common.{refl, sym, ap, ◌∙◌, subst, inl, inr, ⊎_elim, arith, eq-eqb}
 use Rattle.slot_history.specs.declared.shape.Shape.{Shape}
 use Rattle.slot_history.specs.declared.shape.TheConstants.{MOST_CLAIM}
 use Rattle.slot_history.specs.declared.act.Act.{Act}
-use Rattle.slot_history.specs.declared.act.Act.TheVariants.{Enter, LookOpen, LookInvalid, LookVacant, ClaimRange, ClaimUsed, ShutWon, ShutLost, LeaveLeft, LeaveOwe, PayLast, PayDone, MarkMarked, MarkMissed, SweepLast, SweepOthers, ReserveGot, AdmitGot, NoteDone, SetTotal, Install, Release, Announce}
+use Rattle.slot_history.specs.declared.act.Act.TheVariants.{Enter, LookOpen, LookInvalid}
+use Rattle.slot_history.specs.declared.act.Act.TheVariants.{LookVacant, ClaimRange, ClaimUsed}
+use Rattle.slot_history.specs.declared.act.Act.TheVariants.{ShutWon, ShutLost, LeaveLeft, LeaveOwe}
+use Rattle.slot_history.specs.declared.act.Act.TheVariants.{PayLast, PayDone, MarkMarked}
+use Rattle.slot_history.specs.declared.act.Act.TheVariants.{MarkMissed, SweepLast, SweepOthers}
+use Rattle.slot_history.specs.declared.act.Act.TheVariants.{ReserveGot, AdmitGot, NoteDone}
+use Rattle.slot_history.specs.declared.act.Act.TheVariants.{SetTotal, Install, Release, Announce}
 use Rattle.slot_history.specs.declared.act.Entry.{Entry}
 use Rattle.slot_history.specs.declared.place.Place.{Place}
-use Rattle.slot_history.specs.declared.place.Place.TheVariants.{Free, Used, Leading, Asking, Holding, Announcing}
+use Rattle.slot_history.specs.declared.place.Place.TheVariants.{Free, Used, Leading, Asking}
+use Rattle.slot_history.specs.declared.place.Place.TheVariants.{Holding, Announcing}
 use Rattle.slot_history.specs.Sets.{upd, count_of}
-use Rattle.slot_history.specs.States.{SlotState, Empty, Reserved, Open, Shut, Finishing, ObjectState, slot_of, task_of, is_open, is_shut, is_inside, has_own_cell}
-use Rattle.slot_history.specs.Steps.{site, moved, left, told_one, held_after, slot_after, claimed, shut_by, next, state_after}
+use Rattle.slot_history.specs.States.{SlotState, Empty, Reserved, Open, Shut, Finishing}
+use Rattle.slot_history.specs.States.{ObjectState, slot_of, task_of, is_open, is_shut, is_inside}
+use Rattle.slot_history.specs.States.{has_own_cell}
+use Rattle.slot_history.specs.Steps.{site, moved, left, told_one, held_after, slot_after, claimed}
+use Rattle.slot_history.specs.Steps.{shut_by, next, state_after}
 use Rattle.slot_history.specs.Allowed.{IsAllowed}
 use Rattle.slot_history.specs.Histories.{IsLegal}
 use Rattle.slot_history.specs.Table.{IsTable}
 use Rattle.slot_history.specs.Lives.{has_task}
-use Rattle.slot_history.specs.Bounds.{is_used_at, is_claiming_at, IsCursorBound, AreCursors, IsCursorLimit}
+use Rattle.slot_history.specs.Bounds.{is_used_at, is_claiming_at, IsCursorBound, AreCursors}
+use Rattle.slot_history.specs.Bounds.{IsCursorLimit}
 use Rattle.slot_history.proofs.Sets.{pick, upd-same, upd-cases, count-most}
 use Rattle.slot_history.proofs.Table.{table, table-next}
 use Rattle.slot_history.proofs.Places.{inside-slots}

@@ -1,5 +1,6 @@
 -- Duties to a slot: which one a worker has, and what its place says of the slot.
-use Rattle.std.proofs.Common.{◌≡◌, ◌≢◌, ℕ, ◌⊎◌, true, false, cond, eqb, not, ◌&&◌, refl, sym, ap, ◌∙◌, inl, inr, eq-eqb, ne_eqb}
+use Rattle.std.proofs.Common.{◌≡◌, ◌≢◌, ℕ, ◌⊎◌, true, false, cond, eqb, not, ◌&&◌, refl, sym, ap}
+use Rattle.std.proofs.Common.{◌∙◌, inl, inr, eq-eqb, ne_eqb}
 use mathlib.Core.Bool.{true≢false}
 use Rattle.std.proofs.lemmas.Bool.{cond_both, and_parts, and_right}
 use Rattle.slot_history.specs.declared.shape.Shape.{Shape}
@@ -8,9 +9,11 @@ use Rattle.slot_history.specs.declared.act.Act.TheVariants.{PayDone}
 use Rattle.slot_history.specs.declared.place.Held.{Held}
 use Rattle.slot_history.specs.declared.place.Place.TheVariants.{Leading, Asking, Owing, Holding}
 use Rattle.slot_history.specs.Sets.{upd}
-use Rattle.slot_history.specs.States.{TaskSet, Ending, SlotState, Empty, Reserved, Open, Shut, Finishing, id_of, owes}
+use Rattle.slot_history.specs.States.{TaskSet, Ending, SlotState, Empty, Reserved, Open, Shut}
+use Rattle.slot_history.specs.States.{Finishing, id_of, owes}
 use Rattle.slot_history.specs.Steps.{claimed, shut_by, held_on, ending_after}
-use Rattle.slot_history.specs.Table.{Duty, Visits, Works, Unasked, Owes, Leads, Holds, owing, duty_at_end, duty_of, HasAsked, Meets, IsChainOf}
+use Rattle.slot_history.specs.Table.{Duty, Visits, Works, Unasked, Owes, Leads, Holds, owing}
+use Rattle.slot_history.specs.Table.{duty_at_end, duty_of, HasAsked, Meets, IsChainOf}
 use Rattle.slot_history.proofs.Sets.{pick, upd-same, upd-else}
 
 -- ---- the duty to a slot whose task set is shut

@@ -1,15 +1,22 @@
 -- The sets of a shut slot lie within one another after a call.
-use Rattle.std.proofs.Common.{◌≡◌, ◌≢◌, ℕ, ◌+◌, ◌<◌, ◌⊎◌, true, false, not, refl, sym, ap, ◌∙◌, subst, ⊎_elim}
+use Rattle.std.proofs.Common.{◌≡◌, ◌≢◌, ℕ, ◌+◌, ◌<◌, ◌⊎◌, true, false, not, refl, sym, ap, ◌∙◌}
+use Rattle.std.proofs.Common.{subst, ⊎_elim}
 use mathlib.Core.Bool.{true≢false}
 use Rattle.std.proofs.lemmas.Bool.{and_parts}
 use Rattle.slot_history.specs.declared.shape.Shape.{Shape}
 use Rattle.slot_history.specs.declared.act.Act.{Act}
-use Rattle.slot_history.specs.declared.act.Act.TheVariants.{ClaimRange, ClaimUsed, ShutWon, PayLast, PayDone, MarkMarked, MarkMissed, SweepLast, SweepOthers, ReserveGot, AdmitGot, NoteDone, SetTotal, Install, Release}
+use Rattle.slot_history.specs.declared.act.Act.TheVariants.{ClaimRange, ClaimUsed, ShutWon, PayLast}
+use Rattle.slot_history.specs.declared.act.Act.TheVariants.{PayDone, MarkMarked, MarkMissed}
+use Rattle.slot_history.specs.declared.act.Act.TheVariants.{SweepLast, SweepOthers, ReserveGot}
+use Rattle.slot_history.specs.declared.act.Act.TheVariants.{AdmitGot, NoteDone, SetTotal, Install}
+use Rattle.slot_history.specs.declared.act.Act.TheVariants.{Release}
 use Rattle.slot_history.specs.declared.place.Place.{Place}
 use Rattle.slot_history.specs.declared.place.Place.TheVariants.{Asking}
 use Rattle.slot_history.specs.Sets.{upd}
-use Rattle.slot_history.specs.States.{TaskSet, Ending, SlotState, Empty, Reserved, Open, Shut, Finishing, ObjectState, is_swept}
-use Rattle.slot_history.specs.Steps.{site, slot_after, claimed, shut_by, next_asked, ending_after, ended, finalised_by, held_on, opened}
+use Rattle.slot_history.specs.States.{TaskSet, Ending, SlotState, Empty, Reserved, Open, Shut}
+use Rattle.slot_history.specs.States.{Finishing, ObjectState, is_swept}
+use Rattle.slot_history.specs.Steps.{site, slot_after, claimed, shut_by, next_asked, ending_after}
+use Rattle.slot_history.specs.Steps.{ended, finalised_by, held_on, opened}
 use Rattle.slot_history.specs.Allowed.{IsAllowed, debts}
 use Rattle.slot_history.specs.Table.{Owes, owing, duty_of, Meets, IsChain, IsChainOf}
 use Rattle.slot_history.proofs.Sets.{upd-same, upd-cases, some-counted}

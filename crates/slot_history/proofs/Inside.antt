@@ -1,10 +1,12 @@
 -- Whoever is inside with an id is so at the one slot that has it, and of an id that is installed now nobody has claimed.
-use Rattle.std.proofs.Common.{◌≡◌, ℕ, ◌+◌, ◌/◌, ◌<◌, ◌≤◌, true, cond, eqb, List, [], ◌∷◌, Some, refl, ap, ◌∙◌, eq-eqb, arith}
+use Rattle.std.proofs.Common.{◌≡◌, ℕ, ◌+◌, ◌/◌, ◌<◌, ◌≤◌, true, cond, eqb, List, [], ◌∷◌, Some}
+use Rattle.std.proofs.Common.{refl, ap, ◌∙◌, eq-eqb, arith}
 use Rattle.slot_history.specs.declared.shape.Shape.{Shape}
 use Rattle.slot_history.specs.declared.shape.TheConstants.{STAGES}
 use Rattle.slot_history.specs.declared.act.Act.TheVariants.{Install}
 use Rattle.slot_history.specs.declared.act.Entry.{Entry}
-use Rattle.slot_history.specs.States.{SlotState, Open, Shut, Finishing, has_id, id_of, is_inside, has_own_cell}
+use Rattle.slot_history.specs.States.{SlotState, Open, Shut, Finishing, has_id, id_of, is_inside}
+use Rattle.slot_history.specs.States.{has_own_cell}
 use Rattle.slot_history.specs.Steps.{state_after}
 use Rattle.slot_history.specs.Histories.{IsLegal, entry, installs_of, place_of, ranges_of}
 use Rattle.slot_history.specs.Lives.{query_in}

@@ -1,5 +1,6 @@
 -- What a worker knows where nobody has an announcement left to make.
-use Rattle.std.proofs.Common.{◌≡◌, ◌≢◌, ℕ, ◌/◌, Bool, true, false, cond, List, [], ◌∷◌, refl, sym, ap, ◌∙◌, subst, inl, inr, eq-eqb, ⊎_elim}
+use Rattle.std.proofs.Common.{◌≡◌, ◌≢◌, ℕ, ◌/◌, Bool, true, false, cond, List, [], ◌∷◌, refl, sym}
+use Rattle.std.proofs.Common.{ap, ◌∙◌, subst, inl, inr, eq-eqb, ⊎_elim}
 use Rattle.std.proofs.lemmas.Bool.{cases_lt, cond_both}
 use mathlib.Core.Logic.{dite}
 use mathlib.Core.Bool.{true≢false}
@@ -7,7 +8,8 @@ use native.Mathlib.Decide.{ℕ_discrete}
 use Rattle.slot_history.specs.declared.shape.Shape.{Shape}
 use Rattle.slot_history.specs.declared.shape.TheConstants.{STAGES}
 use Rattle.slot_history.specs.declared.act.Act.{Act}
-use Rattle.slot_history.specs.declared.act.Act.TheVariants.{LookOpen, Announce, TakeReturn, TakeChange}
+use Rattle.slot_history.specs.declared.act.Act.TheVariants.{LookOpen, Announce, TakeReturn}
+use Rattle.slot_history.specs.declared.act.Act.TheVariants.{TakeChange}
 use Rattle.slot_history.specs.declared.act.Entry.{Entry}
 use Rattle.slot_history.specs.declared.place.Place.{Place}
 use Rattle.slot_history.specs.declared.place.Place.TheVariants.{Free, Announcing}
@@ -18,7 +20,8 @@ use Rattle.slot_history.specs.Allowed.{IsAllowed}
 use Rattle.slot_history.specs.Histories.{IsLegal}
 use Rattle.slot_history.specs.Bounds.{IsWithin}
 use Rattle.slot_history.specs.Notices.{IsUntold, MayBe}
-use Rattle.slot_history.specs.LoneTurns.{IsLone, IsKnown, LookIsKnown, QuietIsKnown, NoticesStayTaken}
+use Rattle.slot_history.specs.LoneTurns.{IsLone, IsKnown, LookIsKnown, QuietIsKnown}
+use Rattle.slot_history.specs.LoneTurns.{NoticesStayTaken}
 use Rattle.slot_history.proofs.Sets.{upd-same, upd-cases}
 use Rattle.slot_history.proofs.Within.{within}
 use Rattle.slot_history.proofs.Growth.{open-has}

@@ -1,26 +1,38 @@
 -- What a worker meets that calls alone, while all others are free.
-use Rattle.std.proofs.Common.{◌≡◌, ◌≢◌, ℕ, ◌<◌, Bool, true, false, List, [], ◌∷◌, ◌++◌, refl, sym, ap, ◌∙◌, subst, inr, ⊎_elim}
+use Rattle.std.proofs.Common.{◌≡◌, ◌≢◌, ℕ, ◌<◌, Bool, true, false, List, [], ◌∷◌, ◌++◌, refl, sym}
+use Rattle.std.proofs.Common.{ap, ◌∙◌, subst, inr, ⊎_elim}
 use Rattle.std.proofs.lemmas.Bool.{cases_lt, false_from_ne_true}
 use mathlib.Core.Logic.{dite}
 use mathlib.Core.Bool.{true≢false}
 use native.Mathlib.Decide.{ℕ_discrete}
 use Rattle.slot_history.specs.declared.shape.Shape.{Shape}
 use Rattle.slot_history.specs.declared.act.Act.{Act}
-use Rattle.slot_history.specs.declared.act.Act.TheVariants.{ClaimRange, ClaimUsed, ShutWon, LookInvalid, ShutLost, LeaveOwe, PayLast, PayDone, MarkMarked, MarkMissed, SweepLast, SweepOthers, ReserveGot, AdmitGot, NoteDone, SetTotal, Install, Release}
+use Rattle.slot_history.specs.declared.act.Act.TheVariants.{ClaimRange, ClaimUsed, ShutWon}
+use Rattle.slot_history.specs.declared.act.Act.TheVariants.{LookInvalid, ShutLost, LeaveOwe}
+use Rattle.slot_history.specs.declared.act.Act.TheVariants.{PayLast, PayDone, MarkMarked}
+use Rattle.slot_history.specs.declared.act.Act.TheVariants.{MarkMissed, SweepLast, SweepOthers}
+use Rattle.slot_history.specs.declared.act.Act.TheVariants.{ReserveGot, AdmitGot, NoteDone}
+use Rattle.slot_history.specs.declared.act.Act.TheVariants.{SetTotal, Install, Release}
 use Rattle.slot_history.specs.declared.act.Entry.{Entry}
 use Rattle.slot_history.specs.declared.place.Held.{Held}
 use Rattle.slot_history.specs.declared.place.Place.{Place}
-use Rattle.slot_history.specs.declared.place.Place.TheVariants.{Free, Entered, Used, Leading, Asking, Owing, Holding}
-use Rattle.slot_history.specs.States.{TaskSet, Ending, SlotState, Reserved, Shut, Finishing, ObjectState, slot_of, id_of, is_shut, is_tagged, is_at, owes}
-use Rattle.slot_history.specs.Steps.{site, next_asked, slot_after, ended, finalised_by, opened, next, state_after}
+use Rattle.slot_history.specs.declared.place.Place.TheVariants.{Free, Entered, Used, Leading}
+use Rattle.slot_history.specs.declared.place.Place.TheVariants.{Asking, Owing, Holding}
+use Rattle.slot_history.specs.States.{TaskSet, Ending, SlotState, Reserved, Shut, Finishing}
+use Rattle.slot_history.specs.States.{ObjectState, slot_of, id_of, is_shut, is_tagged, is_at, owes}
+use Rattle.slot_history.specs.Steps.{site, next_asked, slot_after, ended, finalised_by, opened}
+use Rattle.slot_history.specs.Steps.{next, state_after}
 use Rattle.slot_history.specs.Allowed.{IsAllowed, debts, next_is_at}
 use Rattle.slot_history.specs.Histories.{IsLegal, entry}
 use Rattle.slot_history.specs.Bounds.{IsWithin}
 use Rattle.slot_history.specs.Notices.{IsQuiet}
-use Rattle.slot_history.specs.Table.{Leads, Owes, duty_of, Meets, IsLeading, IsChain, IsChainOf, IsTable}
-use Rattle.slot_history.specs.LoneTurns.{IsLone, needs_another, StaysLone, EndsQuiet, MeetsNobody, RunMeetsNobody}
+use Rattle.slot_history.specs.Table.{Leads, Owes, duty_of, Meets, IsLeading, IsChain, IsChainOf}
+use Rattle.slot_history.specs.Table.{IsTable}
+use Rattle.slot_history.specs.LoneTurns.{IsLone, needs_another, StaysLone, EndsQuiet, MeetsNobody}
+use Rattle.slot_history.specs.LoneTurns.{RunMeetsNobody}
 use Rattle.slot_history.proofs.Sets.{upd-else, upd-cases, some-counted}
-use Rattle.slot_history.proofs.Duties.{end-leads, owes-duty, owing-owes, owes-slot, owes-claimed, owes-shut, owes-held}
+use Rattle.slot_history.proofs.Duties.{end-leads, owes-duty, owing-owes, owes-slot, owes-claimed}
+use Rattle.slot_history.proofs.Duties.{owes-shut, owes-held}
 use Rattle.slot_history.proofs.Table.{table}
 use Rattle.slot_history.proofs.Within.{within}
 use Rattle.slot_history.proofs.Holdings.{holder-place}

@@ -1,5 +1,6 @@
 -- Where a query is seen, and where the answer Last comes.
-use Rattle.std.proofs.Common.{◌≡◌, ℕ, ◌+◌, ◌/◌, ◌<◌, ◌≤◌, ⊎_elim, ◌&&◌, cond, eqb, true, false, List, [], ◌∷◌, Some, refl, sym, ap, ◌∙◌, subst, arith}
+use Rattle.std.proofs.Common.{◌≡◌, ℕ, ◌+◌, ◌/◌, ◌<◌, ◌≤◌, ⊎_elim, ◌&&◌, cond, eqb, true, false}
+use Rattle.std.proofs.Common.{List, [], ◌∷◌, Some, refl, sym, ap, ◌∙◌, subst, arith}
 use Rattle.std.specs.Prelude.{unwrap_or}
 use Rattle.std.proofs.lemmas.Bool.{cases_Bool}
 use Rattle.slot_history.specs.declared.shape.Shape.{Shape}
@@ -8,12 +9,15 @@ use Rattle.slot_history.specs.declared.act.Act.TheVariants.{LookOpen, Install}
 use Rattle.slot_history.specs.declared.act.Entry.{Entry}
 use Rattle.slot_history.specs.declared.place.Place.{Place}
 use Rattle.slot_history.specs.declared.place.Place.TheVariants.{Entered}
-use Rattle.slot_history.specs.States.{TaskSet, SlotState, Open, Shut, Finishing, ObjectState, slot_of, id_at, id_of, is_open, task_at}
+use Rattle.slot_history.specs.States.{TaskSet, SlotState, Open, Shut, Finishing, ObjectState}
+use Rattle.slot_history.specs.States.{slot_of, id_at, id_of, is_open, task_at}
 use Rattle.slot_history.specs.Steps.{site, state_after}
 use Rattle.slot_history.specs.Allowed.{IsAllowed}
-use Rattle.slot_history.specs.Histories.{IsLegal, entry, place_of, claims_of, installs_of, lasts_of, slot_with, task_in, task_given, renews, is_install}
+use Rattle.slot_history.specs.Histories.{IsLegal, entry, place_of, claims_of, installs_of, lasts_of}
+use Rattle.slot_history.specs.Histories.{slot_with, task_in, task_given, renews, is_install}
 use Rattle.slot_history.specs.Lives.{Runs, query_in}
-use Rattle.slot_history.specs.Looks.{TaskKeepsSlot, LastInSlot, FinishingInSlot, OneSlotSeen, SameQuerySeen, StageBefore}
+use Rattle.slot_history.specs.Looks.{TaskKeepsSlot, LastInSlot, FinishingInSlot, OneSlotSeen}
+use Rattle.slot_history.specs.Looks.{SameQuerySeen, StageBefore}
 use Rattle.slot_history.proofs.Beginnings.{begins-legal, begins-less, begins-cases}
 use Rattle.slot_history.proofs.TaskSetsKept.{installs-grow, not-again, slot-stays, last-stays}
 use Rattle.slot_history.proofs.SlotTasks.{task-at, serving-slot, given-install}

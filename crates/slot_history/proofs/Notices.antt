@@ -1,5 +1,6 @@
 -- No notice of an open slot is lost.
-use Rattle.std.proofs.Common.{◌≡◌, ℕ, ◌+◌, ◌*◌, ◌/◌, ◌<◌, ◌⊎◌, true, false, cond, List, [], ◌∷◌, Some, unwrap_or, refl, sym, ap, ◌∙◌, subst, inl, inr, ⊎_elim, arith}
+use Rattle.std.proofs.Common.{◌≡◌, ℕ, ◌+◌, ◌*◌, ◌/◌, ◌<◌, ◌⊎◌, true, false, cond, List, [], ◌∷◌}
+use Rattle.std.proofs.Common.{Some, unwrap_or, refl, sym, ap, ◌∙◌, subst, inl, inr, ⊎_elim, arith}
 use Rattle.slot_history.specs.declared.shape.Shape.{Shape}
 use Rattle.slot_history.specs.declared.shape.TheConstants.{STAGES}
 use Rattle.slot_history.specs.declared.act.Act.{Act}
@@ -9,7 +10,8 @@ use Rattle.slot_history.specs.declared.place.Held.{Held}
 use Rattle.slot_history.specs.declared.place.Place.{Place}
 use Rattle.slot_history.specs.declared.place.Place.TheVariants.{Holding, Announcing}
 use Rattle.slot_history.specs.Sets.{upd}
-use Rattle.slot_history.specs.States.{Finishing, NoticeRecord, ObjectState, slot_of, held_at, next_id, id_of, has_id, is_open}
+use Rattle.slot_history.specs.States.{Finishing, NoticeRecord, ObjectState, slot_of, held_at}
+use Rattle.slot_history.specs.States.{next_id, id_of, has_id, is_open}
 use Rattle.slot_history.specs.Steps.{site, opened, records_after, next, state_after}
 use Rattle.slot_history.specs.Allowed.{IsReady, IsAllowed}
 use Rattle.slot_history.specs.Histories.{IsLegal}

@@ -1,5 +1,6 @@
 -- The numbers that a history names lie within its shape.
-use Rattle.std.proofs.Common.{◌≡◌, ◌≢◌, ℕ, ◌*◌, ◌/◌, ◌<◌, true, cond, List, [], ◌∷◌, Some, refl, sym, ap, ◌∙◌, subst, eq-eqb, arith}
+use Rattle.std.proofs.Common.{◌≡◌, ◌≢◌, ℕ, ◌*◌, ◌/◌, ◌<◌, true, cond, List, [], ◌∷◌, Some, refl}
+use Rattle.std.proofs.Common.{sym, ap, ◌∙◌, subst, eq-eqb, arith}
 use Rattle.std.specs.Prelude.{All, unwrap_or}
 use Rattle.std.proofs.lemmas.Bool.{cond_both}
 use Rattle.std.proofs.lemmas.List.Elements.{All-nil, All-cons}
@@ -9,15 +10,19 @@ use Rattle.slot_history.specs.declared.act.Act.{Act}
 use Rattle.slot_history.specs.declared.act.Act.TheVariants.{LookOpen, LeaveOwe, ClaimRange, Install}
 use Rattle.slot_history.specs.declared.act.Entry.{Entry}
 use Rattle.slot_history.specs.declared.place.Place.{Place}
-use Rattle.slot_history.specs.declared.place.Place.TheVariants.{Inside, Used, Behind, Leading, Asking, Owing}
-use Rattle.slot_history.specs.States.{SlotState, Open, Shut, Finishing, ObjectState, slot_of, id_at, id_of, has_id, is_open, owes, is_inside, has_own_cell}
+use Rattle.slot_history.specs.declared.place.Place.TheVariants.{Inside, Used, Behind, Leading}
+use Rattle.slot_history.specs.declared.place.Place.TheVariants.{Asking, Owing}
+use Rattle.slot_history.specs.States.{SlotState, Open, Shut, Finishing, ObjectState, slot_of, id_at}
+use Rattle.slot_history.specs.States.{id_of, has_id, is_open, owes, is_inside, has_own_cell}
 use Rattle.slot_history.specs.Steps.{state_after}
 use Rattle.slot_history.specs.Allowed.{IsAllowed}
-use Rattle.slot_history.specs.Histories.{IsLegal, Called, Morsel, entry, place_of, claims_of, claims_after, is_install, installs_of, slot_with}
+use Rattle.slot_history.specs.Histories.{IsLegal, Called, Morsel, entry, place_of, claims_of}
+use Rattle.slot_history.specs.Histories.{claims_after, is_install, installs_of, slot_with}
 use Rattle.slot_history.specs.Lives.{Book, book_of, Never, IsSlotBook, life_of}
 use Rattle.slot_history.specs.Table.{IsTable}
 use Rattle.slot_history.specs.Bounds.{IsPlaceWithin}
-use Rattle.slot_history.specs.Numbers.{names_id, named_id, PlacesNameIds, AreIdsWithin, AreInstallsWithin, AreClaimsWithin}
+use Rattle.slot_history.specs.Numbers.{names_id, named_id, PlacesNameIds, AreIdsWithin}
+use Rattle.slot_history.specs.Numbers.{AreInstallsWithin, AreClaimsWithin}
 use Rattle.slot_history.proofs.Table.{table}
 use Rattle.slot_history.proofs.Within.{within}
 use Rattle.slot_history.proofs.Places.{inside-slots}

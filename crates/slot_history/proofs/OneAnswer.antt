@@ -1,17 +1,34 @@
 -- An allowed call has just one answer. It rules out a shut that two workers win, and any other answer that depends on more
 -- than the state.
-use Rattle.std.proofs.Common.{◌≡◌, ℕ, ◌+◌, ◌<◌, ◌⊎◌, Bool, true, false, cond, eqb, ltb, ◌&&◌, min, refl, sym, ap, ◌∙◌, subst, inl, inr, ⊎_elim, arith, eq-eqb, ne_eqb, eqb-true, pos_of_ne-zero, lt-ltb, le-ltb, ltb-true, ltb-false}
+use Rattle.std.proofs.Common.{◌≡◌, ℕ, ◌+◌, ◌<◌, ◌⊎◌, Bool, true, false, cond, eqb, ltb, ◌&&◌, min}
+use Rattle.std.proofs.Common.{refl, sym, ap, ◌∙◌, subst, inl, inr, ⊎_elim, arith, eq-eqb, ne_eqb}
+use Rattle.std.proofs.Common.{eqb-true, pos_of_ne-zero, lt-ltb, le-ltb, ltb-true, ltb-false}
 use mathlib.Core.Bool.{true≢false}
-use Rattle.std.proofs.lemmas.Bool.{cond_both, cond-true, cond-false, eqb-false, and_from, and_parts, and_left, and_right, false_from_ne_true}
+use Rattle.std.proofs.lemmas.Bool.{cond_both, cond-true, cond-false, eqb-false, and_from, and_parts}
+use Rattle.std.proofs.lemmas.Bool.{and_left, and_right, false_from_ne_true}
 use Rattle.slot_history.specs.declared.shape.Shape.{Shape}
 use Rattle.slot_history.specs.declared.act.Act.{Act}
-use Rattle.slot_history.specs.declared.act.Act.TheVariants.{LookOpen, LookInvalid, LookVacant, ClaimRange, ClaimUsed, ShutWon, ShutLost, LeaveLeft, LeaveOwe, PayLast, PayDone, MarkMarked, MarkMissed, SweepLast, SweepOthers, ReserveGot, ReserveTaken, AdmitGot, AdmitLost, Arrivals, Finished, TakeReturn, TakeChange}
+use Rattle.slot_history.specs.declared.act.Act.TheVariants.{LookOpen, LookInvalid, LookVacant}
+use Rattle.slot_history.specs.declared.act.Act.TheVariants.{ClaimRange, ClaimUsed, ShutWon}
+use Rattle.slot_history.specs.declared.act.Act.TheVariants.{ShutLost, LeaveLeft, LeaveOwe, PayLast}
+use Rattle.slot_history.specs.declared.act.Act.TheVariants.{PayDone, MarkMarked, MarkMissed}
+use Rattle.slot_history.specs.declared.act.Act.TheVariants.{SweepLast, SweepOthers, ReserveGot}
+use Rattle.slot_history.specs.declared.act.Act.TheVariants.{ReserveTaken, AdmitGot, AdmitLost}
+use Rattle.slot_history.specs.declared.act.Act.TheVariants.{Arrivals, Finished, TakeReturn}
+use Rattle.slot_history.specs.declared.act.Act.TheVariants.{TakeChange}
 use Rattle.slot_history.specs.declared.place.Place.TheVariants.{Entered}
-use Rattle.slot_history.specs.States.{SlotState, Empty, Reserved, Open, Shut, Finishing, ObjectState, slot_of, task_of, id_of, is_empty, is_open, is_swept, is_tagged, is_vacant, owes, slot_word, has_own_cell, is_inside}
+use Rattle.slot_history.specs.States.{SlotState, Empty, Reserved, Open, Shut, Finishing}
+use Rattle.slot_history.specs.States.{ObjectState, slot_of, task_of, id_of, is_empty, is_open}
+use Rattle.slot_history.specs.States.{is_swept, is_tagged, is_vacant, owes, slot_word, has_own_cell}
+use Rattle.slot_history.specs.States.{is_inside}
 use Rattle.slot_history.specs.Steps.{ended}
 use Rattle.slot_history.specs.Allowed.{IsAllowed, debts, next_is_at}
 use Rattle.slot_history.specs.Table.{IsTable}
-use Rattle.slot_history.specs.Calls.{Call, Entering, Looking, Claiming, Shutting, Leaving, Paying, MarkingNext, Sweeping, Reserving, Admitting, AskingArrivals, AskingFinished, NotingDone, SettingTotal, Installing, Releasing, AnnouncingNext, TakingReturn, TakingChange, call_of, MayCall, looked_at, answer_at, call_site, reply_of, IsAnswered}
+use Rattle.slot_history.specs.Calls.{Call, Entering, Looking, Claiming, Shutting, Leaving, Paying}
+use Rattle.slot_history.specs.Calls.{MarkingNext, Sweeping, Reserving, Admitting, AskingArrivals}
+use Rattle.slot_history.specs.Calls.{AskingFinished, NotingDone, SettingTotal, Installing}
+use Rattle.slot_history.specs.Calls.{Releasing, AnnouncingNext, TakingReturn, TakingChange, call_of}
+use Rattle.slot_history.specs.Calls.{MayCall, looked_at, answer_at, call_site, reply_of, IsAnswered}
 use Rattle.slot_history.proofs.Records.{shut-closed}
 use Rattle.slot_history.proofs.Masks.{mask-is, mask-only}
 use Rattle.slot_history.proofs.Places.{inside-slots}

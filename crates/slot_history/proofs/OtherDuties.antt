@@ -1,23 +1,41 @@
 -- The other workers meet their duty to the slot of a call.
-use Rattle.std.proofs.Common.{◌≡◌, ◌≢◌, ℕ, ◌+◌, ◌<◌, Bool, true, false, cond, eqb, not, ◌&&◌, refl, sym, ap, ◌∙◌, subst, eq-eqb, eqb-true, ⊎_elim}
+use Rattle.std.proofs.Common.{◌≡◌, ◌≢◌, ℕ, ◌+◌, ◌<◌, Bool, true, false, cond, eqb, not, ◌&&◌, refl}
+use Rattle.std.proofs.Common.{sym, ap, ◌∙◌, subst, eq-eqb, eqb-true, ⊎_elim}
 use mathlib.Core.Logic.{dite}
 use mathlib.Core.Bool.{true≢false}
 use native.Mathlib.Decide.{ℕ_discrete}
 use Rattle.std.proofs.lemmas.Bool.{and_from, and_left, false_from_ne_true}
 use Rattle.slot_history.specs.declared.shape.Shape.{Shape}
 use Rattle.slot_history.specs.declared.act.Act.{Act}
-use Rattle.slot_history.specs.declared.act.Act.TheVariants.{Enter, LookOpen, LookInvalid, LookVacant, ClaimRange, ClaimUsed, ShutWon, ShutLost, LeaveLeft, LeaveOwe, PayLast, PayDone, MarkMarked, MarkMissed, SweepLast, SweepOthers, ReserveGot, ReserveTaken, AdmitGot, AdmitLost, Arrivals, Finished, NoteDone, SetTotal, Install, Release, Announce, TakeReturn, TakeChange}
+use Rattle.slot_history.specs.declared.act.Act.TheVariants.{Enter, LookOpen, LookInvalid}
+use Rattle.slot_history.specs.declared.act.Act.TheVariants.{LookVacant, ClaimRange, ClaimUsed}
+use Rattle.slot_history.specs.declared.act.Act.TheVariants.{ShutWon, ShutLost, LeaveLeft, LeaveOwe}
+use Rattle.slot_history.specs.declared.act.Act.TheVariants.{PayLast, PayDone, MarkMarked}
+use Rattle.slot_history.specs.declared.act.Act.TheVariants.{MarkMissed, SweepLast, SweepOthers}
+use Rattle.slot_history.specs.declared.act.Act.TheVariants.{ReserveGot, ReserveTaken, AdmitGot}
+use Rattle.slot_history.specs.declared.act.Act.TheVariants.{AdmitLost, Arrivals, Finished, NoteDone}
+use Rattle.slot_history.specs.declared.act.Act.TheVariants.{SetTotal, Install, Release, Announce}
+use Rattle.slot_history.specs.declared.act.Act.TheVariants.{TakeReturn, TakeChange}
 use Rattle.slot_history.specs.declared.place.Held.{Held}
 use Rattle.slot_history.specs.declared.place.Place.{Place}
-use Rattle.slot_history.specs.declared.place.Place.TheVariants.{Entered, Astray, Inside, Used, Behind, Leading, Asking, Owing, Holding}
+use Rattle.slot_history.specs.declared.place.Place.TheVariants.{Entered, Astray, Inside, Used}
+use Rattle.slot_history.specs.declared.place.Place.TheVariants.{Behind, Leading, Asking, Owing}
+use Rattle.slot_history.specs.declared.place.Place.TheVariants.{Holding}
 use Rattle.slot_history.specs.Sets.{upd}
-use Rattle.slot_history.specs.States.{TaskSet, Ending, SlotState, Empty, Open, Shut, ObjectState, slot_of, is_empty, is_open, is_swept, is_at, owes, reservation, finalisation}
-use Rattle.slot_history.specs.Steps.{site, slot_after, held_after, shut_by, first_ending, next_asked, ending_after, ended, finalised_by, held_on, opened}
+use Rattle.slot_history.specs.States.{TaskSet, Ending, SlotState, Empty, Open, Shut, ObjectState}
+use Rattle.slot_history.specs.States.{slot_of, is_empty, is_open, is_swept, is_at, owes}
+use Rattle.slot_history.specs.States.{reservation, finalisation}
+use Rattle.slot_history.specs.Steps.{site, slot_after, held_after, shut_by, first_ending}
+use Rattle.slot_history.specs.Steps.{next_asked, ending_after, ended, finalised_by, held_on, opened}
 use Rattle.slot_history.specs.Allowed.{IsAllowed, debts, next_is_at}
-use Rattle.slot_history.specs.Table.{Visits, Unasked, Owes, Holds, owing, duty_at_end, duty_of, works, lags, nth_other, HasAsked, IsLeading, Meets, IsChain, IsChainOf}
+use Rattle.slot_history.specs.Table.{Visits, Unasked, Owes, Holds, owing, duty_at_end, duty_of}
+use Rattle.slot_history.specs.Table.{works, lags, nth_other, HasAsked, IsLeading, Meets, IsChain}
+use Rattle.slot_history.specs.Table.{IsChainOf}
 use Rattle.slot_history.proofs.Sets.{upd-same, upd-else, none-counted}
 use Rattle.slot_history.proofs.Others.{next-is, next-unasked, all-asked}
-use Rattle.slot_history.proofs.Duties.{owing-else, end-cases, end-rests, end-leads, end-owes, end-clear, end-unasked, held-other, asking-leads, owing-owes, holding-holds, leads-slot, owes-slot, holds-slot}
+use Rattle.slot_history.proofs.Duties.{owing-else, end-cases, end-rests, end-leads, end-owes}
+use Rattle.slot_history.proofs.Duties.{end-clear, end-unasked, held-other, asking-leads, owing-owes}
+use Rattle.slot_history.proofs.Duties.{holding-holds, leads-slot, owes-slot, holds-slot}
 use Rattle.slot_history.proofs.OwnDuty.{claims-same}
 
 -- ---- the other workers at the slot of the call

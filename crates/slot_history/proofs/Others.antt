@@ -1,7 +1,10 @@
 -- The others of a worker in ascending order, and which of them were asked.
-use Rattle.std.proofs.Common.{◌≡◌, ◌≢◌, ℕ, ◌+◌, ◌<◌, ◌≤◌, ◌⊎◌, Bool, true, false, eqb, ltb, not, ◌&&◌, refl, sym, ap, ◌∙◌, inl, inr, ne_eqb, ltb-true, ltb-false, lt-ltb, ⊎_elim, arith}
+use Rattle.std.proofs.Common.{◌≡◌, ◌≢◌, ℕ, ◌+◌, ◌<◌, ◌≤◌, ◌⊎◌, Bool, true, false, eqb, ltb, not}
+use Rattle.std.proofs.Common.{◌&&◌, refl, sym, ap, ◌∙◌, inl, inr, ne_eqb, ltb-true, ltb-false}
+use Rattle.std.proofs.Common.{lt-ltb, ⊎_elim, arith}
 use mathlib.Core.Bool.{true≢false}
-use Rattle.std.proofs.lemmas.Bool.{cond_both, and_from, and_parts, not-true, eqb-false, false_from_ne_true}
+use Rattle.std.proofs.lemmas.Bool.{cond_both, and_from, and_parts, not-true, eqb-false}
+use Rattle.std.proofs.lemmas.Bool.{false_from_ne_true}
 use Rattle.std.proofs.lemmas.Bool.Decides.{same_from_decides}
 use Rattle.slot_history.specs.declared.shape.Shape.{Shape}
 use Rattle.slot_history.specs.Sets.{upd}

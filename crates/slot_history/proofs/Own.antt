@@ -1,13 +1,15 @@
 -- A worker's place, with the numbers of its tokens, its claims and its notice records are given by its own entries
 -- alone: no call of another worker changes them.
-use Rattle.std.proofs.Common.{◌≡◌, ◌≢◌, ℕ, cond, eqb, List, [], ◌∷◌, refl, sym, ap, ap₂, ◌∙◌, subst, eq-eqb, ne_eqb}
+use Rattle.std.proofs.Common.{◌≡◌, ◌≢◌, ℕ, cond, eqb, List, [], ◌∷◌, refl, sym, ap, ap₂, ◌∙◌, subst}
+use Rattle.std.proofs.Common.{eq-eqb, ne_eqb}
 use native.Mathlib.Decide.{ℕ_discrete}
 use Rattle.slot_history.specs.declared.shape.Shape.{Shape}
 use Rattle.slot_history.specs.declared.act.Act.{Act}
 use Rattle.slot_history.specs.declared.act.Entry.{Entry}
 use Rattle.slot_history.specs.declared.place.Place.{Place}
 use Rattle.slot_history.specs.Steps.{moved, state_after}
-use Rattle.slot_history.specs.Histories.{IsLegal, entry, own_calls, place_of, ranges_after, ranges_of, own_record, own_record_after}
+use Rattle.slot_history.specs.Histories.{IsLegal, entry, own_calls, place_of, ranges_after}
+use Rattle.slot_history.specs.Histories.{ranges_of, own_record, own_record_after}
 use Rattle.slot_history.specs.Laws.{OwnEntries, CallsGoOn}
 use Rattle.slot_history.proofs.Sets.{upd-else}
 
@@ -114,5 +116,6 @@ calls-go-on d w a old new (h, is, begins, same, legal) =
       ranges = λ id. ap (ranges_of d w id) is ∙ ranges-mine d w id (entry w a) h refl ∙ ap₂
           (λ p rs. ranges_after a p id rs) at (found-ranges d w id old h same);
       allowed = (h, is, before.2, before.0, before.1, at);
-      records = λ s. ap (own_record d w s) is ∙ (record-by-own d w s).mine (entry w a) h refl ∙ ap₂ (λ p r. own_record_after a p s r) at (found-record d w s old h same);
+      records = λ s. ap (own_record d w s) is ∙ (record-by-own d w s).mine (entry w a) h refl ∙ ap₂
+          (λ p r. own_record_after a p s r) at (found-record d w s old h same);
     }

@@ -1,21 +1,41 @@
 -- The worker of a call meets its duty to the slot of the call.
-use Rattle.std.proofs.Common.{◌≡◌, ◌≢◌, ℕ, ◌+◌, ◌<◌, Bool, true, false, eqb, refl, sym, ap, ◌∙◌, subst, ⊎_elim, add-zero, arith}
+use Rattle.std.proofs.Common.{◌≡◌, ◌≢◌, ℕ, ◌+◌, ◌<◌, Bool, true, false, eqb, refl, sym, ap, ◌∙◌}
+use Rattle.std.proofs.Common.{subst, ⊎_elim, add-zero, arith}
 use mathlib.Core.Bool.{true≢false}
 use Rattle.std.proofs.lemmas.Bool.{cond_both, false_from_ne_true}
 use Rattle.slot_history.specs.declared.shape.Shape.{Shape}
 use Rattle.slot_history.specs.declared.act.Act.{Act}
-use Rattle.slot_history.specs.declared.act.Act.TheVariants.{Enter, LookOpen, LookInvalid, LookVacant, ClaimRange, ClaimUsed, ShutWon, ShutLost, LeaveLeft, LeaveOwe, PayLast, PayDone, MarkMarked, MarkMissed, SweepLast, SweepOthers, ReserveGot, ReserveTaken, AdmitGot, AdmitLost, Arrivals, Finished, NoteDone, SetTotal, Install, Release, Announce, TakeReturn, TakeChange}
+use Rattle.slot_history.specs.declared.act.Act.TheVariants.{Enter, LookOpen, LookInvalid}
+use Rattle.slot_history.specs.declared.act.Act.TheVariants.{LookVacant, ClaimRange, ClaimUsed}
+use Rattle.slot_history.specs.declared.act.Act.TheVariants.{ShutWon, ShutLost, LeaveLeft, LeaveOwe}
+use Rattle.slot_history.specs.declared.act.Act.TheVariants.{PayLast, PayDone, MarkMarked}
+use Rattle.slot_history.specs.declared.act.Act.TheVariants.{MarkMissed, SweepLast, SweepOthers}
+use Rattle.slot_history.specs.declared.act.Act.TheVariants.{ReserveGot, ReserveTaken, AdmitGot}
+use Rattle.slot_history.specs.declared.act.Act.TheVariants.{AdmitLost, Arrivals, Finished, NoteDone}
+use Rattle.slot_history.specs.declared.act.Act.TheVariants.{SetTotal, Install, Release, Announce}
+use Rattle.slot_history.specs.declared.act.Act.TheVariants.{TakeReturn, TakeChange}
 use Rattle.slot_history.specs.declared.place.Held.{Held}
 use Rattle.slot_history.specs.declared.place.Place.{Place}
-use Rattle.slot_history.specs.declared.place.Place.TheVariants.{Free, Entered, Astray, Inside, Used, Behind, Leading, Asking, Owing, Holding, Announcing}
+use Rattle.slot_history.specs.declared.place.Place.TheVariants.{Free, Entered, Astray, Inside, Used}
+use Rattle.slot_history.specs.declared.place.Place.TheVariants.{Behind, Leading, Asking, Owing}
+use Rattle.slot_history.specs.declared.place.Place.TheVariants.{Holding, Announcing}
 use Rattle.slot_history.specs.Sets.{upd, count_of}
-use Rattle.slot_history.specs.States.{TaskSet, Ending, SlotState, Empty, Open, Shut, ObjectState, slot_of, id_of, is_open, is_shut, owes, can_leave, reservation, finalisation}
-use Rattle.slot_history.specs.Steps.{site, moved, left, told_one, slot_after, held_after, claimed, shut_by, first_ending, next_asked, ending_after, ended, finalised_by, held_on, opened}
+use Rattle.slot_history.specs.States.{TaskSet, Ending, SlotState, Empty, Open, Shut, ObjectState}
+use Rattle.slot_history.specs.States.{slot_of, id_of, is_open, is_shut, owes, can_leave}
+use Rattle.slot_history.specs.States.{reservation, finalisation}
+use Rattle.slot_history.specs.Steps.{site, moved, left, told_one, slot_after, held_after, claimed}
+use Rattle.slot_history.specs.Steps.{shut_by, first_ending, next_asked, ending_after, ended}
+use Rattle.slot_history.specs.Steps.{finalised_by, held_on, opened}
 use Rattle.slot_history.specs.Allowed.{IsAllowed}
-use Rattle.slot_history.specs.Table.{Duty, Visits, Works, Unasked, Owes, Leads, Holds, duty_of, binds, nth_other, HasAsked, IsLeading, Meets, IsChain, IsChainOf}
+use Rattle.slot_history.specs.Table.{Duty, Visits, Works, Unasked, Owes, Leads, Holds, duty_of}
+use Rattle.slot_history.specs.Table.{binds, nth_other, HasAsked, IsLeading, Meets, IsChain}
+use Rattle.slot_history.specs.Table.{IsChainOf}
 use Rattle.slot_history.proofs.Sets.{count-none, count-more}
-use Rattle.slot_history.proofs.Others.{asked-none, asked-more, next-is, next-unasked, nth-other-within}
-use Rattle.slot_history.proofs.Duties.{paid-clear, end-cases, end-rests, end-leads, end-clear, held-mine, owes-duty, not-owes, asking-leads, leading-leads, owing-owes, holding-holds, leads-slot, owes-slot, holds-slot}
+use Rattle.slot_history.proofs.Others.{asked-none, asked-more, next-is, next-unasked}
+use Rattle.slot_history.proofs.Others.{nth-other-within}
+use Rattle.slot_history.proofs.Duties.{paid-clear, end-cases, end-rests, end-leads, end-clear}
+use Rattle.slot_history.proofs.Duties.{held-mine, owes-duty, not-owes, asking-leads, leading-leads}
+use Rattle.slot_history.proofs.Duties.{owing-owes, holding-holds, leads-slot, owes-slot, holds-slot}
 
 -- ---- moves that keep any duty to the slot
 

@@ -1,18 +1,23 @@
 -- The notice records of a state are those that the workers' own calls give, since the bits that a take answers are the
 -- notices that are pending.
-use Rattle.std.proofs.Common.{◌≡◌, ℕ, ◌+◌, ◌*◌, ◌/◌, ◌%◌, Bool, true, false, cond, eqb, ◌&&◌, None, List, [], ◌∷◌, refl, sym, ap, ◌∙◌, ⊎_elim, eq-eqb, ne_eqb, eqb-true, arith}
+use Rattle.std.proofs.Common.{◌≡◌, ℕ, ◌+◌, ◌*◌, ◌/◌, ◌%◌, Bool, true, false, cond, eqb, ◌&&◌, None}
+use Rattle.std.proofs.Common.{List, [], ◌∷◌, refl, sym, ap, ◌∙◌, ⊎_elim, eq-eqb, ne_eqb, eqb-true}
+use Rattle.std.proofs.Common.{arith}
 use Rattle.std.specs.Int.{bit_at}
 use Rattle.std.proofs.lemmas.Bool.{cond_both, cases_Bool}
 use Rattle.slot_history.specs.declared.shape.Shape.{Shape}
 use Rattle.slot_history.specs.declared.shape.TheConstants.{STAGES}
 use Rattle.slot_history.specs.declared.act.Act.{Act}
-use Rattle.slot_history.specs.declared.act.Act.TheVariants.{LookOpen, LookInvalid, LookVacant, ShutWon, ShutLost, TakeReturn, TakeChange}
+use Rattle.slot_history.specs.declared.act.Act.TheVariants.{LookOpen, LookInvalid, LookVacant}
+use Rattle.slot_history.specs.declared.act.Act.TheVariants.{ShutWon, ShutLost, TakeReturn}
+use Rattle.slot_history.specs.declared.act.Act.TheVariants.{TakeChange}
 use Rattle.slot_history.specs.declared.act.Entry.{Entry}
 use Rattle.slot_history.specs.Sets.{upd}
 use Rattle.slot_history.specs.States.{NoticeRecord, ObjectState, slot_of}
 use Rattle.slot_history.specs.Steps.{is_in_part, dropped, looked, records_after, state_after}
 use Rattle.slot_history.specs.Allowed.{IsAllowed, IsMask}
-use Rattle.slot_history.specs.Histories.{IsLegal, place_of, is_in_mask, own_record, own_record_after}
+use Rattle.slot_history.specs.Histories.{IsLegal, place_of, is_in_mask, own_record}
+use Rattle.slot_history.specs.Histories.{own_record_after}
 use Rattle.slot_history.specs.Laws.{OwnRecords}
 use Rattle.slot_history.proofs.Sets.{pick, upd-cases}
 use Rattle.slot_history.proofs.Own.{record-by-own}

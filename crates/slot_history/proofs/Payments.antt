@@ -1,5 +1,6 @@
 -- What a payment and a mark change in the numbers of a shut slot.
-use Rattle.std.proofs.Common.{◌≡◌, ℕ, ◌+◌, ◌<◌, Bool, true, false, not, ◌&&◌, refl, sym, ap, ◌∙◌, subst}
+use Rattle.std.proofs.Common.{◌≡◌, ℕ, ◌+◌, ◌<◌, Bool, true, false, not, ◌&&◌, refl, sym, ap, ◌∙◌}
+use Rattle.std.proofs.Common.{subst}
 use mathlib.Core.Bool.{true≢false}
 use Rattle.std.proofs.lemmas.Bool.{and_parts, not-true, false_from_ne_true}
 use Rattle.slot_history.specs.declared.shape.Shape.{Shape}
@@ -9,7 +10,8 @@ use Rattle.slot_history.specs.Sets.{upd, count_of}
 use Rattle.slot_history.specs.States.{TaskSet, Ending, Shut, ObjectState, SlotState, slot_of, owes}
 use Rattle.slot_history.specs.Steps.{ended, next_asked, slot_after}
 use Rattle.slot_history.specs.Allowed.{IsAllowed, debts}
-use Rattle.slot_history.specs.Table.{owing, duty_of, Meets, IsChain, IsChainOf, Asker, IsLed, IsTable}
+use Rattle.slot_history.specs.Table.{owing, duty_of, Meets, IsChain, IsChainOf, Asker, IsLed}
+use Rattle.slot_history.specs.Table.{IsTable}
 use Rattle.slot_history.specs.Payments.{IsOnePaid, IsOneMarked, DebtsGoOn}
 use Rattle.slot_history.proofs.Sets.{upd-cases, upd-same, count-more, count-same}
 use Rattle.slot_history.proofs.Duties.{owing-owes, owes-slot, owing-else, paid-clear}

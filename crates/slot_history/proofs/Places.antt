@@ -1,19 +1,29 @@
 -- What the table of places says at once: of quiet states, of who is inside, and of cells. Each rules out a state word that
 -- is published only after the look: a worker that saw a slot open would be inside when its task set is finalised.
-use Rattle.std.proofs.Common.{◌≡◌, ◌≢◌, ℕ, ◌<◌, ◌⊎◌, Bool, true, false, eqb, not, refl, sym, ap, ◌∙◌, subst, inl, inr, ⊎_elim, eq-eqb, eqb-true}
+use Rattle.std.proofs.Common.{◌≡◌, ◌≢◌, ℕ, ◌<◌, ◌⊎◌, Bool, true, false, eqb, not, refl, sym, ap}
+use Rattle.std.proofs.Common.{◌∙◌, subst, inl, inr, ⊎_elim, eq-eqb, eqb-true}
 use mathlib.Core.Bool.{true≢false}
 use Rattle.std.proofs.lemmas.Bool.{and_from, and_parts, false_from_ne_true}
 use Rattle.slot_history.specs.declared.shape.Shape.{Shape}
 use Rattle.slot_history.specs.declared.place.Held.{Held}
 use Rattle.slot_history.specs.declared.place.Place.{Place}
-use Rattle.slot_history.specs.declared.place.Place.TheVariants.{Free, Inside, Used, Behind, Leading, Holding}
-use Rattle.slot_history.specs.States.{TaskSet, Ending, SlotState, Empty, Reserved, Open, Shut, Finishing, ObjectState, slot_of, id_at, id_of, is_empty, is_open, is_shut, owes, has_cell, is_inside, has_own_cell, holds}
+use Rattle.slot_history.specs.declared.place.Place.TheVariants.{Free, Inside, Used, Behind, Leading}
+use Rattle.slot_history.specs.declared.place.Place.TheVariants.{Holding}
+use Rattle.slot_history.specs.States.{TaskSet, Ending, SlotState, Empty, Reserved, Open, Shut}
+use Rattle.slot_history.specs.States.{Finishing, ObjectState, slot_of, id_at, id_of, is_empty}
+use Rattle.slot_history.specs.States.{is_open, is_shut, owes, has_cell, is_inside, has_own_cell}
+use Rattle.slot_history.specs.States.{holds}
 use Rattle.slot_history.specs.Notices.{IsQuiet}
-use Rattle.slot_history.specs.Table.{Duty, Visits, Works, Unasked, Owes, Leads, Holds, owing, duty_at_end, duty_of, binds, Meets, IsChain, IsChainOf, IsTable}
+use Rattle.slot_history.specs.Table.{Duty, Visits, Works, Unasked, Owes, Leads, Holds, owing}
+use Rattle.slot_history.specs.Table.{duty_at_end, duty_of, binds, Meets, IsChain, IsChainOf}
+use Rattle.slot_history.specs.Table.{IsTable}
 use Rattle.slot_history.specs.Bounds.{AreDebtsWithin}
-use Rattle.slot_history.specs.Laws.{QuietSlots, InsideSlots, OneDebt, ShutInside, CoordinatorOwesNothing, OneOwner}
+use Rattle.slot_history.specs.Laws.{QuietSlots, InsideSlots, OneDebt, ShutInside}
+use Rattle.slot_history.specs.Laws.{CoordinatorOwesNothing, OneOwner}
 use Rattle.slot_history.proofs.Sets.{pick, count-split, count-fewer}
-use Rattle.slot_history.proofs.Duties.{IsHeldBy, end-cases, end-leads, end-owes, held-mine, owes-duty, owes-slot, leading-leads, leads-slot, holding-holds, holds-slot}
+use Rattle.slot_history.proofs.Duties.{IsHeldBy, end-cases, end-leads, end-owes, held-mine}
+use Rattle.slot_history.proofs.Duties.{owes-duty, owes-slot, leading-leads, leads-slot}
+use Rattle.slot_history.proofs.Duties.{holding-holds, holds-slot}
 
 -- ---- who is inside, by its place
 

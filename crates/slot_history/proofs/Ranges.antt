@@ -1,5 +1,6 @@
 -- Ranges of one id share no tuple, and each begins where those before ended or later.
-use Rattle.std.proofs.Common.{◌≡◌, ℕ, zero, suc, ◌<◌, ◌≤◌, eqb, min, List, [], ◌∷◌, refl, sym, ap, ◌∙◌, subst, eq-eqb, eqb-true, arith}
+use Rattle.std.proofs.Common.{◌≡◌, ℕ, zero, suc, ◌<◌, ◌≤◌, eqb, min, List, [], ◌∷◌, refl, sym, ap}
+use Rattle.std.proofs.Common.{◌∙◌, subst, eq-eqb, eqb-true, arith}
 use Rattle.std.specs.Prelude.{All, AllPairs}
 use Rattle.std.proofs.lemmas.Bool.{cond_both}
 use Rattle.std.proofs.lemmas.List.Elements.{All-nil, All-cons, All-head, All-tail}
@@ -12,7 +13,8 @@ use Rattle.slot_history.specs.declared.place.Place.TheVariants.{Inside}
 use Rattle.slot_history.specs.States.{TaskSet, ObjectState, task_of, is_inside, has_own_cell}
 use Rattle.slot_history.specs.Steps.{state_after}
 use Rattle.slot_history.specs.Allowed.{IsAllowed}
-use Rattle.slot_history.specs.Histories.{IsLegal, Morsel, Tiles, entry, place_of, claims_of, claims_after, ranges_by}
+use Rattle.slot_history.specs.Histories.{IsLegal, Morsel, Tiles, entry, place_of, claims_of}
+use Rattle.slot_history.specs.Histories.{claims_after, ranges_by}
 use Rattle.slot_history.specs.Laws.{ClaimsGoOn, RangesGoOn, AreApart}
 use Rattle.slot_history.proofs.Own.{found-place, found-ranges}
 use Rattle.slot_history.proofs.Table.{table}

@@ -1,14 +1,19 @@
 -- What a worker's calls do to its notice records.
-use Rattle.std.proofs.Common.{◌≡◌, ℕ, ◌/◌, Bool, true, false, eqb, ◌&&◌, None, refl, sym, ap, ◌∙◌, subst, inl, inr}
+use Rattle.std.proofs.Common.{◌≡◌, ℕ, ◌/◌, Bool, true, false, eqb, ◌&&◌, None, refl, sym, ap, ◌∙◌}
+use Rattle.std.proofs.Common.{subst, inl, inr}
 use Rattle.std.proofs.lemmas.Bool.{cond_both}
 use Rattle.slot_history.specs.declared.shape.Shape.{Shape}
 use Rattle.slot_history.specs.declared.shape.TheConstants.{STAGES}
 use Rattle.slot_history.specs.declared.act.Act.{Act}
-use Rattle.slot_history.specs.declared.act.Act.TheVariants.{LookOpen, LookInvalid, LookVacant, ShutWon, ShutLost, TakeReturn, TakeChange}
+use Rattle.slot_history.specs.declared.act.Act.TheVariants.{LookOpen, LookInvalid, LookVacant}
+use Rattle.slot_history.specs.declared.act.Act.TheVariants.{ShutWon, ShutLost, TakeReturn}
+use Rattle.slot_history.specs.declared.act.Act.TheVariants.{TakeChange}
 use Rattle.slot_history.specs.declared.place.Place.{Place}
 use Rattle.slot_history.specs.Sets.{upd}
-use Rattle.slot_history.specs.States.{SlotState, Open, NoticeRecord, ObjectState, slot_of, is_open, is_shut, is_tagged, is_vacant}
-use Rattle.slot_history.specs.Steps.{shut_by, is_in_part, dropped, looked_group, looked, records_after, next}
+use Rattle.slot_history.specs.States.{SlotState, Open, NoticeRecord, ObjectState, slot_of, is_open}
+use Rattle.slot_history.specs.States.{is_shut, is_tagged, is_vacant}
+use Rattle.slot_history.specs.Steps.{shut_by, is_in_part, dropped, looked_group, looked}
+use Rattle.slot_history.specs.Steps.{records_after, next}
 use Rattle.slot_history.specs.Allowed.{IsAllowed}
 use Rattle.slot_history.specs.Notices.{MayBe}
 use Rattle.slot_history.proofs.Sets.{pick, upd-same, upd-else, upd-cases}

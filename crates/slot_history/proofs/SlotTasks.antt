@@ -1,16 +1,21 @@
 -- The task set that a slot serves is the one that its state has, and was installed there.
-use Rattle.std.proofs.Common.{◌≡◌, ℕ, ◌<◌, Bool, true, false, cond, eqb, ◌&&◌, List, [], ◌∷◌, Option, Some, None, refl, sym, ap, ◌∙◌, subst, ⊎_elim, eq-eqb, ne_eqb, eqb-true}
+use Rattle.std.proofs.Common.{◌≡◌, ℕ, ◌<◌, Bool, true, false, cond, eqb, ◌&&◌, List, [], ◌∷◌}
+use Rattle.std.proofs.Common.{Option, Some, None, refl, sym, ap, ◌∙◌, subst, ⊎_elim, eq-eqb, ne_eqb}
+use Rattle.std.proofs.Common.{eqb-true}
 use Rattle.std.proofs.lemmas.Bool.{cases_Bool, and_parts}
 use Rattle.slot_history.specs.declared.shape.Shape.{Shape}
 use Rattle.slot_history.specs.declared.act.Act.{Act}
-use Rattle.slot_history.specs.declared.act.Act.TheVariants.{ReserveGot, AdmitGot, NoteDone, SetTotal, Install, Release}
+use Rattle.slot_history.specs.declared.act.Act.TheVariants.{ReserveGot, AdmitGot, NoteDone}
+use Rattle.slot_history.specs.declared.act.Act.TheVariants.{SetTotal, Install, Release}
 use Rattle.slot_history.specs.declared.act.Entry.{Entry}
 use Rattle.slot_history.specs.declared.place.Held.{Held}
 use Rattle.slot_history.specs.declared.place.Place.{Place}
 use Rattle.slot_history.specs.States.{SlotState, Open, ObjectState, slot_of, task_at}
-use Rattle.slot_history.specs.Steps.{site, slot_after, claimed, shut_by, ended, finalised_by, held_on, opened, state_after}
+use Rattle.slot_history.specs.Steps.{site, slot_after, claimed, shut_by, ended, finalised_by}
+use Rattle.slot_history.specs.Steps.{held_on, opened, state_after}
 use Rattle.slot_history.specs.Allowed.{IsAllowed}
-use Rattle.slot_history.specs.Histories.{IsLegal, place_of, is_install, slot_with, renews, task_given, task_in}
+use Rattle.slot_history.specs.Histories.{IsLegal, place_of, is_install, slot_with, renews}
+use Rattle.slot_history.specs.Histories.{task_given, task_in}
 use Rattle.slot_history.specs.Table.{IsTable}
 use Rattle.slot_history.specs.Lives.{Never}
 use Rattle.slot_history.proofs.Sets.{upd-cases}

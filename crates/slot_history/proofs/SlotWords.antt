@@ -5,8 +5,10 @@ use Rattle.slot_history.specs.declared.act.Act.{Act}
 use Rattle.slot_history.specs.declared.act.Act.TheVariants.{PayDone}
 use Rattle.slot_history.specs.declared.place.Held.{Held}
 use Rattle.slot_history.specs.declared.place.Place.{Place}
-use Rattle.slot_history.specs.declared.place.Place.TheVariants.{Entered, Astray, Inside, Used, Behind, Leading}
-use Rattle.slot_history.specs.States.{SlotState, Empty, Shut, slot_of, slot_word, is_at, is_empty, owes, can_leave}
+use Rattle.slot_history.specs.declared.place.Place.TheVariants.{Entered, Astray, Inside, Used}
+use Rattle.slot_history.specs.declared.place.Place.TheVariants.{Behind, Leading}
+use Rattle.slot_history.specs.States.{SlotState, Empty, Shut, slot_of, slot_word, is_at, is_empty}
+use Rattle.slot_history.specs.States.{owes, can_leave}
 use Rattle.slot_history.specs.Steps.{left, claimed, ended, held_on, finalised_by}
 use Rattle.slot_history.proofs.Duties.{IsHeldBy, owing-else}
 

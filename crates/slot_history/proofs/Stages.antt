@@ -1,6 +1,8 @@
 -- Stages come in order, and a query keeps its slot. It rules out a finisher that installs a stage past the next, or in
 -- another slot.
-use Rattle.std.proofs.Common.{◌≡◌, ◌≢◌, ℕ, ◌+◌, ◌-◌, ◌*◌, ◌/◌, ◌%◌, ◌<◌, ◌≤◌, cond, eqb, ◌&&◌, List, [], ◌∷◌, Some, refl, sym, ap, ap₂, ◌∙◌, subst, ⊎_elim, arith, eqb-true}
+use Rattle.std.proofs.Common.{◌≡◌, ◌≢◌, ℕ, ◌+◌, ◌-◌, ◌*◌, ◌/◌, ◌%◌, ◌<◌, ◌≤◌, cond, eqb, ◌&&◌, List}
+use Rattle.std.proofs.Common.{[], ◌∷◌, Some, refl, sym, ap, ap₂, ◌∙◌, subst, ⊎_elim, arith}
+use Rattle.std.proofs.Common.{eqb-true}
 use Rattle.std.specs.Prelude.{unwrap_or}
 use mathlib.Core.Logic.{dite}
 use native.Mathlib.Decide.{ℕ_discrete}
@@ -15,7 +17,8 @@ use Rattle.slot_history.specs.declared.place.Place.{Place}
 use Rattle.slot_history.specs.States.{Finishing, ObjectState, slot_of, next_id, task_at}
 use Rattle.slot_history.specs.Steps.{site, state_after}
 use Rattle.slot_history.specs.Allowed.{IsAllowed}
-use Rattle.slot_history.specs.Histories.{IsLegal, Begins, place_of, installs_of, lasts_of, slot_with, renews, task_given, task_in}
+use Rattle.slot_history.specs.Histories.{IsLegal, Begins, place_of, installs_of, lasts_of}
+use Rattle.slot_history.specs.Histories.{slot_with, renews, task_given, task_in}
 use Rattle.slot_history.specs.Table.{IsTable}
 use Rattle.slot_history.specs.Bounds.{IsReservation, IsFinalisation, IsSlotSound, AreSlotsSound}
 use Rattle.slot_history.specs.Lives.{book_of, Never, life_of}

@@ -1,5 +1,6 @@
 -- A history of a subject shows the subject's task sets.
-use Rattle.std.proofs.Common.{◌≡◌, ℕ, ◌<◌, true, cond, List, ◌∷◌, Option, Some, refl, sym, ap, ◌∙◌, subst, eq-eqb}
+use Rattle.std.proofs.Common.{◌≡◌, ℕ, ◌<◌, true, cond, List, ◌∷◌, Option, Some, refl, sym, ap, ◌∙◌}
+use Rattle.std.proofs.Common.{subst, eq-eqb}
 use Rattle.std.specs.Prelude.{unwrap_or, IsSome}
 use Rattle.std.proofs.lemmas.Bool.{cond_both}
 use Rattle.slot_history.specs.declared.shape.Shape.{Shape}
@@ -8,9 +9,11 @@ use Rattle.slot_history.specs.declared.act.Act.TheVariants.{Install}
 use Rattle.slot_history.specs.declared.act.Entry.{Entry}
 use Rattle.slot_history.specs.States.{held_at, task_of}
 use Rattle.slot_history.specs.Steps.{state_after}
-use Rattle.slot_history.specs.Histories.{IsLegal, IsOfTotals, entry, place_of, is_install, installs_of, total_of}
+use Rattle.slot_history.specs.Histories.{IsLegal, IsOfTotals, entry, place_of, is_install}
+use Rattle.slot_history.specs.Histories.{installs_of, total_of}
 use Rattle.slot_history.specs.Lives.{has_task}
-use Rattle.slot_history.specs.Subject.{InstallsOf, EntryIsOf, SubjectShows, SubjectGoesOn, SubjectBegins}
+use Rattle.slot_history.specs.Subject.{InstallsOf, EntryIsOf, SubjectShows, SubjectGoesOn}
+use Rattle.slot_history.specs.Subject.{SubjectBegins}
 use Rattle.slot_history.proofs.Sets.{some-unwrapped}
 use Rattle.slot_history.proofs.Beginnings.{begins-legal}
 use Rattle.slot_history.proofs.TaskSetsKept.{total-stays}

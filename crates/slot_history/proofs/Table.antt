@@ -1,20 +1,28 @@
 -- The table of places holds in every state of every legal history. It rules out a sweep before the last worker was asked,
 -- a mark that carries no id, a leave that forgets the debt, and a shut that two workers win: after each of these a worker
 -- would be at a place that its duty to the slot does not allow.
-use Rattle.std.proofs.Common.{◌≡◌, ◌≢◌, ℕ, ◌<◌, ◌⊎◌, true, List, [], ◌∷◌, refl, sym, ap, ◌∙◌, subst, inl, inr, ⊎_elim}
+use Rattle.std.proofs.Common.{◌≡◌, ◌≢◌, ℕ, ◌<◌, ◌⊎◌, true, List, [], ◌∷◌, refl, sym, ap, ◌∙◌, subst}
+use Rattle.std.proofs.Common.{inl, inr, ⊎_elim}
 use mathlib.Core.Bool.{true≢false}
 use Rattle.slot_history.specs.declared.shape.Shape.{Shape}
 use Rattle.slot_history.specs.declared.act.Act.{Act}
-use Rattle.slot_history.specs.declared.act.Act.TheVariants.{Enter, LookInvalid, LookVacant, LeaveLeft, PayDone, MarkMarked, MarkMissed, SweepOthers, ReserveGot, ReserveTaken, AdmitGot, NoteDone, SetTotal, Install, Release, Announce}
+use Rattle.slot_history.specs.declared.act.Act.TheVariants.{Enter, LookInvalid, LookVacant}
+use Rattle.slot_history.specs.declared.act.Act.TheVariants.{LeaveLeft, PayDone, MarkMarked}
+use Rattle.slot_history.specs.declared.act.Act.TheVariants.{MarkMissed, SweepOthers, ReserveGot}
+use Rattle.slot_history.specs.declared.act.Act.TheVariants.{ReserveTaken, AdmitGot, NoteDone}
+use Rattle.slot_history.specs.declared.act.Act.TheVariants.{SetTotal, Install, Release, Announce}
 use Rattle.slot_history.specs.declared.act.Entry.{Entry}
 use Rattle.slot_history.specs.declared.place.Place.{Place}
-use Rattle.slot_history.specs.declared.place.Place.TheVariants.{Free, Leading, Asking, Holding, Announcing}
+use Rattle.slot_history.specs.declared.place.Place.TheVariants.{Free, Leading, Asking, Holding}
+use Rattle.slot_history.specs.declared.place.Place.TheVariants.{Announcing}
 use Rattle.slot_history.specs.Sets.{upd}
 use Rattle.slot_history.specs.States.{SlotState, ObjectState, slot_of}
-use Rattle.slot_history.specs.Steps.{site, moved, left, told_one, slot_after, asked_one, holding_after, next, state_after}
+use Rattle.slot_history.specs.Steps.{site, moved, left, told_one, slot_after, asked_one}
+use Rattle.slot_history.specs.Steps.{holding_after, next, state_after}
 use Rattle.slot_history.specs.Allowed.{IsAllowed}
 use Rattle.slot_history.specs.Histories.{IsLegal}
-use Rattle.slot_history.specs.Table.{Duty, Visits, Works, Unasked, Owes, Leads, Holds, duty_of, binds, stays, IsLeading, Meets, IsChainOf, IsTable}
+use Rattle.slot_history.specs.Table.{Duty, Visits, Works, Unasked, Owes, Leads, Holds, duty_of}
+use Rattle.slot_history.specs.Table.{binds, stays, IsLeading, Meets, IsChainOf, IsTable}
 use Rattle.slot_history.proofs.Sets.{upd-cases}
 use Rattle.slot_history.proofs.OwnDuty.{told-loose, mine}
 use Rattle.slot_history.proofs.OtherDuties.{theirs}

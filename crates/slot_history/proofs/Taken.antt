@@ -1,5 +1,6 @@
 -- What a worker knows once it took its notices while all workers were free.
-use Rattle.std.proofs.Common.{Bool, ◌≡◌, ◌≢◌, ℕ, ◌/◌, true, false, List, [], ◌∷◌, ◌++◌, refl, sym, ap, ◌∙◌, subst, inl, inr, append_assoc}
+use Rattle.std.proofs.Common.{Bool, ◌≡◌, ◌≢◌, ℕ, ◌/◌, true, false, List, [], ◌∷◌, ◌++◌, refl, sym}
+use Rattle.std.proofs.Common.{ap, ◌∙◌, subst, inl, inr, append_assoc}
 use mathlib.Core.Bool.{true≢false}
 use Rattle.slot_history.specs.declared.shape.Shape.{Shape}
 use Rattle.slot_history.specs.declared.act.Act.{Act}
@@ -11,7 +12,8 @@ use Rattle.slot_history.specs.States.{ObjectState}
 use Rattle.slot_history.specs.Steps.{moved, state_after}
 use Rattle.slot_history.specs.Histories.{entry}
 use Rattle.slot_history.specs.Notices.{notices_of, take_of, IsQuiet}
-use Rattle.slot_history.specs.LoneTurns.{TellsNobody, IsKnown, is_take, AreTakes, Took, LetsIn, TakenIsKnown}
+use Rattle.slot_history.specs.LoneTurns.{TellsNobody, IsKnown, is_take, AreTakes, Took, LetsIn}
+use Rattle.slot_history.specs.LoneTurns.{TakenIsKnown}
 use Rattle.slot_history.proofs.Sets.{upd-cases}
 use Rattle.slot_history.proofs.Known.{quiet-is-known, notices-taken}
 

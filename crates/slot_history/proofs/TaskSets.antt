@@ -1,15 +1,20 @@
 -- A task set is finalised once, and in place. It rules out a shut that two workers win, a state word that is published after
 -- the look, and a sweep before the last worker was asked, by which a worker would be inside a task set that is finalised.
-use Rattle.std.proofs.Common.{◌≡◌, ℕ, ◌<◌, ◌≤◌, ◌⊎◌, true, false, eqb, List, ◌∷◌, Some, refl, sym, ap, ◌∙◌, subst, inl, inr, ⊎_elim, arith, eqb-true}
+use Rattle.std.proofs.Common.{◌≡◌, ℕ, ◌<◌, ◌≤◌, ◌⊎◌, true, false, eqb, List, ◌∷◌, Some, refl, sym}
+use Rattle.std.proofs.Common.{ap, ◌∙◌, subst, inl, inr, ⊎_elim, arith, eqb-true}
 use mathlib.Core.Bool.{true≢false}
 use Rattle.std.proofs.lemmas.Bool.{cases_lt, false_from_ne_true}
 use Rattle.slot_history.specs.declared.shape.Shape.{Shape}
 use Rattle.slot_history.specs.declared.act.Act.{Act}
-use Rattle.slot_history.specs.declared.act.Act.TheVariants.{LookOpen, ClaimRange, ClaimUsed, ShutWon, ShutLost, MarkMarked, MarkMissed, ReserveGot, Install, Release}
+use Rattle.slot_history.specs.declared.act.Act.TheVariants.{LookOpen, ClaimRange, ClaimUsed}
+use Rattle.slot_history.specs.declared.act.Act.TheVariants.{ShutWon, ShutLost, MarkMarked}
+use Rattle.slot_history.specs.declared.act.Act.TheVariants.{MarkMissed, ReserveGot, Install}
+use Rattle.slot_history.specs.declared.act.Act.TheVariants.{Release}
 use Rattle.slot_history.specs.declared.act.Entry.{Entry}
 use Rattle.slot_history.specs.declared.place.Held.{Held}
 use Rattle.slot_history.specs.declared.place.Place.TheVariants.{Inside, Used, Asking}
-use Rattle.slot_history.specs.States.{SlotState, Empty, ObjectState, slot_of, id_at, task_of, is_empty, is_inside}
+use Rattle.slot_history.specs.States.{SlotState, Empty, ObjectState, slot_of, id_at, task_of}
+use Rattle.slot_history.specs.States.{is_empty, is_inside}
 use Rattle.slot_history.specs.Steps.{site, state_after}
 use Rattle.slot_history.specs.Allowed.{IsAllowed}
 use Rattle.slot_history.specs.Histories.{IsLegal, place_of, lasts_of, slot_with, touches, renews}

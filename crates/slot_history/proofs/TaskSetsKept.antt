@@ -1,10 +1,12 @@
 -- What a beginning says of a task set stays: its total and slot from its install on, and its claims from its last call on.
-use Rattle.std.proofs.Common.{◌≡◌, ℕ, ◌+◌, ◌<◌, ◌≤◌, false, cond, List, [], ◌∷◌, ◌++◌, Option, Some, refl, sym, ap, ◌∙◌, subst, arith}
+use Rattle.std.proofs.Common.{◌≡◌, ℕ, ◌+◌, ◌<◌, ◌≤◌, false, cond, List, [], ◌∷◌, ◌++◌, Option, Some}
+use Rattle.std.proofs.Common.{refl, sym, ap, ◌∙◌, subst, arith}
 use Rattle.std.proofs.lemmas.Bool.{false_from_ne_true}
 use Rattle.slot_history.specs.declared.shape.Shape.{Shape}
 use Rattle.slot_history.specs.declared.act.Entry.{Entry}
 use Rattle.slot_history.specs.States.{slot_of, held_at}
-use Rattle.slot_history.specs.Histories.{IsLegal, place_of, claims_of, ranges_by, is_install, installs_of, lasts_of, total_of, slot_with}
+use Rattle.slot_history.specs.Histories.{IsLegal, place_of, claims_of, ranges_by, is_install}
+use Rattle.slot_history.specs.Histories.{installs_of, lasts_of, total_of, slot_with}
 use Rattle.slot_history.specs.Beginnings.{KeepsTaskSets, TaskSetsStay}
 use Rattle.slot_history.proofs.Counts.{counts-most, only-once, total-installed, slot-installed}
 use Rattle.slot_history.proofs.Claims.{ranges-claims, done-claims}

@@ -5,7 +5,9 @@ use Rattle.slot_history.specs.declared.act.Entry.{Entry}
 use Rattle.slot_history.specs.declared.place.Held.{Held}
 use Rattle.slot_history.specs.declared.place.Place.TheVariants.{Holding}
 use Rattle.slot_history.specs.States.{finalised_id}
-use Rattle.slot_history.specs.Histories.{IsLegal, Begins, own_calls, place_of, ranges_of, own_record, claims_of, lasts_of, total_of, slot_with, Tiles}
+use Rattle.slot_history.specs.Histories.{IsLegal, Begins, own_calls, place_of, ranges_of}
+use Rattle.slot_history.specs.Histories.{own_record, claims_of, lasts_of, total_of, slot_with}
+use Rattle.slot_history.specs.Histories.{Tiles}
 
 -- the calls that were added leave the place, the ranges and the notice records of w
 pub record StaysWithoutCalls (d : Shape) (w : ℕ) (more early : List Entry) : Type 0 where

@@ -1,12 +1,15 @@
 -- The ranges of the numbers in a state.
-use Rattle.std.specs.Prelude.{◌≡◌, ℕ, ◌+◌, ◌-◌, ◌*◌, ◌/◌, ◌%◌, ◌<◌, ◌≤◌, Bool, true, false, cond, not, eqb, Some, is_some, unwrap_or}
+use Rattle.std.specs.Prelude.{◌≡◌, ℕ, ◌+◌, ◌-◌, ◌*◌, ◌/◌, ◌%◌, ◌<◌, ◌≤◌, Bool, true, false, cond}
+use Rattle.std.specs.Prelude.{not, eqb, Some, is_some, unwrap_or}
 use Rattle.slot_history.specs.declared.shape.Shape.{Shape}
-use Rattle.slot_history.specs.declared.shape.TheConstants.{MOST_SLOTS, MOST_WORKERS, MOST_QUERIES, MOST_CLAIM, MOST_TOTAL, STAGES}
+use Rattle.slot_history.specs.declared.shape.TheConstants.{MOST_SLOTS, MOST_WORKERS, MOST_QUERIES}
+use Rattle.slot_history.specs.declared.shape.TheConstants.{MOST_CLAIM, MOST_TOTAL, STAGES}
 use Rattle.slot_history.specs.Sets.{count_of, sum_below}
 use Rattle.slot_history.specs.declared.place.Held.{Held}
 use Rattle.slot_history.specs.declared.place.Place.{Place}
 use Rattle.slot_history.specs.declared.place.Place.TheVariants.{Free, Inside, Used, Announcing}
-use Rattle.slot_history.specs.States.{TaskSet, Ending, SlotState, Empty, Reserved, Open, Shut, Finishing, ObjectState, slot_of, task_of, is_empty, is_shut}
+use Rattle.slot_history.specs.States.{TaskSet, Ending, SlotState, Empty, Reserved, Open, Shut}
+use Rattle.slot_history.specs.States.{Finishing, ObjectState, slot_of, task_of, is_empty, is_shut}
 use Rattle.slot_history.specs.Allowed.{debts}
 
 -- the numbers of an object are within their limits

@@ -1,13 +1,25 @@
 -- Calls without their answers: where each is allowed, and which answer it has there.
-use Rattle.std.specs.Prelude.{◌≡◌, ℕ, ◌+◌, ◌*◌, ◌^◌, ◌<◌, ◌≤◌, ◌⊎◌, zero, suc, Bool, true, cond, eqb, ltb, ◌&&◌, min, None, IsSome}
+use Rattle.std.specs.Prelude.{◌≡◌, ℕ, ◌+◌, ◌*◌, ◌^◌, ◌<◌, ◌≤◌, ◌⊎◌, zero, suc, Bool, true, cond}
+use Rattle.std.specs.Prelude.{eqb, ltb, ◌&&◌, min, None, IsSome}
 use Rattle.slot_history.specs.declared.shape.Shape.{Shape}
 use Rattle.slot_history.specs.declared.shape.TheConstants.{STAGES, PARTS, MOST_CLAIM, MOST_TOTAL}
 use Rattle.slot_history.specs.declared.act.Act.{Act}
-use Rattle.slot_history.specs.declared.act.Act.TheVariants.{Enter, LookOpen, LookInvalid, LookVacant, ClaimRange, ClaimUsed, ShutWon, ShutLost, LeaveLeft, LeaveOwe, PayLast, PayDone, MarkMarked, MarkMissed, SweepLast, SweepOthers, ReserveGot, ReserveTaken, AdmitGot, AdmitLost, Arrivals, Finished, NoteDone, SetTotal, Install, Release, Announce, TakeReturn, TakeChange}
+use Rattle.slot_history.specs.declared.act.Act.TheVariants.{Enter, LookOpen, LookInvalid}
+use Rattle.slot_history.specs.declared.act.Act.TheVariants.{LookVacant, ClaimRange, ClaimUsed}
+use Rattle.slot_history.specs.declared.act.Act.TheVariants.{ShutWon, ShutLost, LeaveLeft, LeaveOwe}
+use Rattle.slot_history.specs.declared.act.Act.TheVariants.{PayLast, PayDone, MarkMarked}
+use Rattle.slot_history.specs.declared.act.Act.TheVariants.{MarkMissed, SweepLast, SweepOthers}
+use Rattle.slot_history.specs.declared.act.Act.TheVariants.{ReserveGot, ReserveTaken, AdmitGot}
+use Rattle.slot_history.specs.declared.act.Act.TheVariants.{AdmitLost, Arrivals, Finished, NoteDone}
+use Rattle.slot_history.specs.declared.act.Act.TheVariants.{SetTotal, Install, Release, Announce}
+use Rattle.slot_history.specs.declared.act.Act.TheVariants.{TakeReturn, TakeChange}
 use Rattle.slot_history.specs.declared.place.Held.{Held}
 use Rattle.slot_history.specs.declared.place.Place.{Place}
-use Rattle.slot_history.specs.declared.place.Place.TheVariants.{Free, Entered, Inside, Used, Asking, Owing, Holding, Announcing}
-use Rattle.slot_history.specs.States.{SlotState, Empty, Reserved, Open, Shut, Finishing, ObjectState, slot_of, task_of, id_of, is_empty, is_open, is_swept, owes, slot_word, can_leave, next_id}
+use Rattle.slot_history.specs.declared.place.Place.TheVariants.{Free, Entered, Inside, Used, Asking}
+use Rattle.slot_history.specs.declared.place.Place.TheVariants.{Owing, Holding, Announcing}
+use Rattle.slot_history.specs.States.{SlotState, Empty, Reserved, Open, Shut, Finishing}
+use Rattle.slot_history.specs.States.{ObjectState, slot_of, task_of, id_of, is_empty, is_open}
+use Rattle.slot_history.specs.States.{is_swept, owes, slot_word, can_leave, next_id}
 use Rattle.slot_history.specs.Steps.{ended}
 use Rattle.slot_history.specs.Allowed.{IsAllowed, IsReady, debts, next_is_at}
 

@@ -2,10 +2,20 @@
 use Rattle.std.specs.Prelude.{◌≡◌, ℕ, List, [], ◌∷◌, ◌++◌}
 use Rattle.slot_history.specs.declared.shape.Shape.{Shape}
 use Rattle.slot_history.specs.declared.act.Act.{Act}
-use Rattle.slot_history.specs.declared.act.Act.TheVariants.{Enter, LookOpen, LookInvalid, LookVacant, ClaimRange, ClaimUsed, ShutWon, LeaveLeft, LeaveOwe, PayLast, PayDone, MarkMarked, MarkMissed, SweepLast, SweepOthers, ReserveGot, ReserveTaken, AdmitGot, Arrivals, NoteDone, SetTotal, Install, Release, Announce, TakeReturn, TakeChange}
+use Rattle.slot_history.specs.declared.act.Act.TheVariants.{Enter, LookOpen, LookInvalid}
+use Rattle.slot_history.specs.declared.act.Act.TheVariants.{LookVacant, ClaimRange, ClaimUsed}
+use Rattle.slot_history.specs.declared.act.Act.TheVariants.{ShutWon, LeaveLeft, LeaveOwe, PayLast}
+use Rattle.slot_history.specs.declared.act.Act.TheVariants.{PayDone, MarkMarked, MarkMissed}
+use Rattle.slot_history.specs.declared.act.Act.TheVariants.{SweepLast, SweepOthers, ReserveGot}
+use Rattle.slot_history.specs.declared.act.Act.TheVariants.{ReserveTaken, AdmitGot, Arrivals}
+use Rattle.slot_history.specs.declared.act.Act.TheVariants.{NoteDone, SetTotal, Install, Release}
+use Rattle.slot_history.specs.declared.act.Act.TheVariants.{Announce, TakeReturn, TakeChange}
 use Rattle.slot_history.specs.States.{ObjectState, opening}
 use Rattle.slot_history.specs.Steps.{next}
-use Rattle.slot_history.specs.Calls.{Call, Entering, Looking, Claiming, Shutting, Leaving, Paying, MarkingNext, Sweeping, Reserving, Admitting, AskingArrivals, NotingDone, SettingTotal, Installing, Releasing, AnnouncingNext, TakingReturn, TakingChange, reply_of}
+use Rattle.slot_history.specs.Calls.{Call, Entering, Looking, Claiming, Shutting, Leaving, Paying}
+use Rattle.slot_history.specs.Calls.{MarkingNext, Sweeping, Reserving, Admitting, AskingArrivals}
+use Rattle.slot_history.specs.Calls.{NotingDone, SettingTotal, Installing, Releasing}
+use Rattle.slot_history.specs.Calls.{AnnouncingNext, TakingReturn, TakingChange, reply_of}
 
 -- the answers to calls, each with its worker, from a state on
 abbrev pub answers_from : Shape → ObjectState → List (ℕ × Call) → List Act
@@ -46,8 +56,8 @@ abbrev pub BothPayBeforeSweep : Type 0
 BothPayBeforeSweep =
     answers_of 3 (opened_calls ++ ((0, AnnouncingNext) ∷ (0, AnnouncingNext) ∷ (0, AnnouncingNext)
     ∷ (0, Entering 0) ∷ (0, Looking) ∷ (0, Claiming 16) ∷ (1, Entering 0) ∷ (2, Entering 0)
-    ∷ (0, Shutting) ∷ (0, Leaving) ∷ (0, MarkingNext) ∷ (0, MarkingNext) ∷ (1, Looking) ∷ (2, Looking)
-    ∷ (1, Leaving) ∷ (1, Paying) ∷ (2, Leaving) ∷ (2, Paying) ∷ (0, Sweeping) ∷ []))
+    ∷ (0, Shutting) ∷ (0, Leaving) ∷ (0, MarkingNext) ∷ (0, MarkingNext) ∷ (1, Looking)
+    ∷ (2, Looking) ∷ (1, Leaving) ∷ (1, Paying) ∷ (2, Leaving) ∷ (2, Paying) ∷ (0, Sweeping) ∷ []))
     ≡ opened_answers ++ (Announce ∷ Announce ∷ Announce ∷ Enter 0 ∷ LookOpen 0 ∷ ClaimUsed 16
     ∷ Enter 0 ∷ Enter 0 ∷ ShutWon ∷ LeaveLeft ∷ MarkMarked ∷ MarkMarked ∷ LookInvalid ∷ LookInvalid
     ∷ LeaveOwe 0 ∷ PayDone ∷ LeaveOwe 0 ∷ PayDone ∷ SweepLast ∷ [])
@@ -57,8 +67,8 @@ BothPayBeforeSweep =
 abbrev pub StrayPaysLast : Type 0
 StrayPaysLast =
     answers_of 2 ((1, Entering 0) ∷ (1, Looking) ∷ (pair_calls ++ ((0, Entering 0) ∷ (0, Looking)
-    ∷ (0, Claiming 16) ∷ (0, Shutting) ∷ (0, Leaving) ∷ (0, MarkingNext) ∷ (0, Sweeping) ∷ (1, Leaving)
-    ∷ (1, Paying) ∷ (1, NotingDone 1) ∷ (1, Releasing) ∷ [])))
+    ∷ (0, Claiming 16) ∷ (0, Shutting) ∷ (0, Leaving) ∷ (0, MarkingNext) ∷ (0, Sweeping)
+    ∷ (1, Leaving) ∷ (1, Paying) ∷ (1, NotingDone 1) ∷ (1, Releasing) ∷ [])))
     ≡ Enter 0 ∷ LookVacant ∷ (pair_answers ++ (Enter 0 ∷ LookOpen 0 ∷ ClaimUsed 16 ∷ ShutWon
     ∷ LeaveLeft ∷ MarkMarked ∷ SweepOthers 1 ∷ LeaveOwe 0 ∷ PayLast ∷ NoteDone 1 ∷ Release ∷ []))
 
@@ -90,8 +100,8 @@ NoticesCross =
     ∷ (2, Leaving) ∷ (2, MarkingNext) ∷ (2, MarkingNext) ∷ (2, Sweeping) ∷ (2, NotingDone 1)
     ∷ (2, Releasing) ∷ (0, Reserving 0) ∷ (0, Admitting 1) ∷ (0, SettingTotal 0) ∷ (0, Installing 8)
     ∷ (0, AnnouncingNext) ∷ (0, AnnouncingNext) ∷ (1, TakingChange 0) ∷ (1, Entering 0)
-    ∷ (1, Looking) ∷ (1, Claiming 16) ∷ (1, Shutting) ∷ (1, Leaving) ∷ (1, MarkingNext) ∷ (1, MarkingNext)
-    ∷ (1, Sweeping) ∷ (1, NotingDone 1) ∷ (1, SettingTotal 0) ∷ (1, Installing 9)
+    ∷ (1, Looking) ∷ (1, Claiming 16) ∷ (1, Shutting) ∷ (1, Leaving) ∷ (1, MarkingNext)
+    ∷ (1, MarkingNext) ∷ (1, Sweeping) ∷ (1, NotingDone 1) ∷ (1, SettingTotal 0) ∷ (1, Installing 9)
     ∷ (1, AnnouncingNext) ∷ (1, AnnouncingNext) ∷ (1, AnnouncingNext) ∷ (2, TakingReturn 0)
     ∷ (2, TakingChange 0) ∷ (2, Entering 0) ∷ (2, Looking) ∷ (2, Leaving) ∷ (0, AnnouncingNext)
     ∷ (2, TakingChange 0) ∷ (2, AskingArrivals) ∷ []))

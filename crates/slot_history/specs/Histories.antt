@@ -1,11 +1,17 @@
 -- Legal histories, what a trail knows of them, and what they did with each task set. Newest entries
 -- come first.
-use Rattle.std.specs.Prelude.{◌≡◌, ℕ, ◌+◌, ◌/◌, ◌%◌, ◌<◌, Bool, true, false, cond, eqb, ◌&&◌, List, [], ◌∷◌, ◌++◌, Option, Some, None, IsSome}
+use Rattle.std.specs.Prelude.{◌≡◌, ℕ, ◌+◌, ◌/◌, ◌%◌, ◌<◌, Bool, true, false, cond, eqb, ◌&&◌, List}
+use Rattle.std.specs.Prelude.{[], ◌∷◌, ◌++◌, Option, Some, None, IsSome}
 use Rattle.std.specs.Int.{bit_at}
 use Rattle.slot_history.specs.declared.shape.Shape.{Shape}
 use Rattle.slot_history.specs.declared.shape.TheConstants.{STAGES}
 use Rattle.slot_history.specs.declared.act.Act.{Act}
-use Rattle.slot_history.specs.declared.act.Act.TheVariants.{LookOpen, LookInvalid, LookVacant, ClaimRange, ClaimUsed, ShutWon, ShutLost, PayLast, MarkMarked, MarkMissed, SweepLast, ReserveGot, AdmitGot, Install, Release, TakeReturn, TakeChange}
+use Rattle.slot_history.specs.declared.act.Act.TheVariants.{LookOpen, LookInvalid, LookVacant}
+use Rattle.slot_history.specs.declared.act.Act.TheVariants.{ClaimRange, ClaimUsed, ShutWon}
+use Rattle.slot_history.specs.declared.act.Act.TheVariants.{ShutLost, PayLast, MarkMarked}
+use Rattle.slot_history.specs.declared.act.Act.TheVariants.{MarkMissed, SweepLast, ReserveGot}
+use Rattle.slot_history.specs.declared.act.Act.TheVariants.{AdmitGot, Install, Release, TakeReturn}
+use Rattle.slot_history.specs.declared.act.Act.TheVariants.{TakeChange}
 use Rattle.slot_history.specs.declared.act.Entry.{Entry}
 use Rattle.slot_history.specs.declared.place.Place.{Place}
 use Rattle.slot_history.specs.States.{NoticeRecord, slot_of, id_at, held_at, is_inside}
@@ -34,8 +40,8 @@ place_of d h w = (state_after d h).places w
 abbrev pub Begins : List Entry → List Entry → Type 0
 Begins h early = (more : List Entry) × (h ≡ more ++ early)
 
--- After the call e of a worker, its trail `new` ends with this call and begins with the trail `old`;
--- of the worker it has just the worker's own calls, and it is a legal history.
+-- After the call e of a worker, its trail `new` ends with this call, and begins with the trail
+-- `old`. Of the worker it has just the worker's own calls, and it is a legal history.
 abbrev pub Called : Shape → Entry → List Entry → List Entry → Type 0
 Called d e old new = (h : List Entry) × (new ≡ e ∷ h) × Begins h old
     × (own_calls e.worker h ≡ own_calls e.worker old) × IsLegal d new

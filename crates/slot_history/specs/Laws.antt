@@ -1,14 +1,20 @@
 -- The laws of legal histories, as the functions of module `laws` state them.
-use Rattle.std.specs.Prelude.{◌≡◌, ◌≢◌, ℕ, ◌+◌, ◌/◌, ◌%◌, ◌<◌, ◌≤◌, ◌⊎◌, true, false, List, [], ◌∷◌, min, Some, All, AllPairs}
+use Rattle.std.specs.Prelude.{◌≡◌, ◌≢◌, ℕ, ◌+◌, ◌/◌, ◌%◌, ◌<◌, ◌≤◌, ◌⊎◌, true, false, List, [], ◌∷◌}
+use Rattle.std.specs.Prelude.{min, Some, All, AllPairs}
 use Rattle.slot_history.specs.declared.shape.Shape.{Shape}
 use Rattle.slot_history.specs.declared.shape.TheConstants.{STAGES}
 use Rattle.slot_history.specs.declared.act.Act.{Act}
 use Rattle.slot_history.specs.declared.act.Act.TheVariants.{ClaimRange, LeaveOwe, Install}
 use Rattle.slot_history.specs.declared.act.Entry.{Entry}
-use Rattle.slot_history.specs.States.{TaskSet, Ending, Shut, Finishing, task_of, ObjectState, slot_of, id_of, is_empty, is_open, is_shut, owes, is_inside, has_own_cell, HasCell}
+use Rattle.slot_history.specs.States.{TaskSet, Ending, Shut, Finishing, task_of, ObjectState}
+use Rattle.slot_history.specs.States.{slot_of, id_of, is_empty, is_open, is_shut, owes, is_inside}
+use Rattle.slot_history.specs.States.{has_own_cell, HasCell}
 use Rattle.slot_history.specs.Steps.{moved, state_after}
 use Rattle.slot_history.specs.Allowed.{IsAllowed}
-use Rattle.slot_history.specs.Histories.{IsLegal, Called, entry, own_calls, place_of, ranges_of, ranges_after, ranges_by, own_record, own_record_after, Morsel, claims_of, Tiles, installs_of, admits_of, lasts_of, total_of, FinalisedOnce, slot_with, task_in, Begins}
+use Rattle.slot_history.specs.Histories.{IsLegal, Called, entry, own_calls, place_of, ranges_of}
+use Rattle.slot_history.specs.Histories.{ranges_after, ranges_by, own_record, own_record_after}
+use Rattle.slot_history.specs.Histories.{Morsel, claims_of, Tiles, installs_of, admits_of, lasts_of}
+use Rattle.slot_history.specs.Histories.{total_of, FinalisedOnce, slot_with, task_in, Begins}
 use Rattle.slot_history.specs.declared.place.Held.{Held}
 use Rattle.slot_history.specs.declared.place.Place.TheVariants.{Inside, Leading}
 use Rattle.slot_history.specs.Lives.{has_task}

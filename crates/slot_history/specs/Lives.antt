@@ -1,13 +1,16 @@
 -- What became of each task set, and what each slot knows of it.
-use Rattle.std.specs.Prelude.{◌≡◌, ℕ, ◌/◌, ◌<◌, ◌≤◌, Bool, true, false, cond, eqb, ◌&&◌, min, List, [], ◌∷◌, Option, Some, None, IsSome, unwrap_or}
+use Rattle.std.specs.Prelude.{◌≡◌, ℕ, ◌/◌, ◌<◌, ◌≤◌, Bool, true, false, cond, eqb, ◌&&◌, min, List}
+use Rattle.std.specs.Prelude.{[], ◌∷◌, Option, Some, None, IsSome, unwrap_or}
 use Rattle.slot_history.specs.declared.shape.Shape.{Shape}
 use Rattle.slot_history.specs.declared.shape.TheConstants.{STAGES}
 use Rattle.slot_history.specs.declared.act.Act.{Act}
 use Rattle.slot_history.specs.declared.act.Entry.{Entry}
 use Rattle.slot_history.specs.declared.place.Place.{Place}
-use Rattle.slot_history.specs.States.{TaskSet, SlotState, Empty, Reserved, Open, Shut, Finishing, slot_of, id_at, held_at, task_of}
+use Rattle.slot_history.specs.States.{TaskSet, SlotState, Empty, Reserved, Open, Shut, Finishing}
+use Rattle.slot_history.specs.States.{slot_of, id_at, held_at, task_of}
 use Rattle.slot_history.specs.Steps.{state_after}
-use Rattle.slot_history.specs.Histories.{Morsel, Tiles, claims_of, is_install, is_last, place_of, installs_of, lasts_of, total_of, slot_with}
+use Rattle.slot_history.specs.Histories.{Morsel, Tiles, claims_of, is_install, is_last, place_of}
+use Rattle.slot_history.specs.Histories.{installs_of, lasts_of, total_of, slot_with}
 
 -- a task set was never installed, or runs in a slot with a total, or was finalised, with the total
 -- that it had

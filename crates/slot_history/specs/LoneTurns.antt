@@ -3,7 +3,10 @@ use Rattle.std.specs.Prelude.{◌≡◌, ◌≢◌, ℕ, ◌/◌, ◌<◌, ◌�
 use Rattle.slot_history.specs.declared.shape.Shape.{Shape}
 use Rattle.slot_history.specs.declared.shape.TheConstants.{STAGES}
 use Rattle.slot_history.specs.declared.act.Act.{Act}
-use Rattle.slot_history.specs.declared.act.Act.TheVariants.{LookOpen, LookInvalid, ShutLost, LeaveOwe, PayLast, PayDone, MarkMarked, SweepOthers, AdmitLost, Arrivals, Announce, TakeReturn, TakeChange}
+use Rattle.slot_history.specs.declared.act.Act.TheVariants.{LookOpen, LookInvalid, ShutLost}
+use Rattle.slot_history.specs.declared.act.Act.TheVariants.{LeaveOwe, PayLast, PayDone, MarkMarked}
+use Rattle.slot_history.specs.declared.act.Act.TheVariants.{SweepOthers, AdmitLost, Arrivals}
+use Rattle.slot_history.specs.declared.act.Act.TheVariants.{Announce, TakeReturn, TakeChange}
 use Rattle.slot_history.specs.declared.act.Entry.{Entry}
 use Rattle.slot_history.specs.declared.place.Place.TheVariants.{Free}
 use Rattle.slot_history.specs.States.{ObjectState, slot_of, id_of, is_open, owes}

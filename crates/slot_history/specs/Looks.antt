@@ -9,7 +9,9 @@ use Rattle.slot_history.specs.declared.place.Held.{Held}
 use Rattle.slot_history.specs.declared.place.Place.TheVariants.{Entered, Holding}
 use Rattle.slot_history.specs.States.{Finishing, slot_of, id_at, finalised_id, task_at}
 use Rattle.slot_history.specs.Steps.{state_after}
-use Rattle.slot_history.specs.Histories.{IsLegal, Begins, Tiles, entry, place_of, claims_of, is_last, installs_of, lasts_of, finisher_of, total_of, slot_with, task_in}
+use Rattle.slot_history.specs.Histories.{IsLegal, Begins, Tiles, entry, place_of, claims_of}
+use Rattle.slot_history.specs.Histories.{is_last, installs_of, lasts_of, finisher_of, total_of}
+use Rattle.slot_history.specs.Histories.{slot_with, task_in}
 use Rattle.slot_history.specs.Beginnings.{IsTiled}
 
 -- ---- the laws, as the functions of module `laws::slots` state them

@@ -6,7 +6,8 @@ use Rattle.slot_history.specs.declared.act.Act.TheVariants.{Install}
 use Rattle.slot_history.specs.declared.act.Entry.{Entry}
 use Rattle.slot_history.specs.States.{held_at, task_of}
 use Rattle.slot_history.specs.Steps.{state_after}
-use Rattle.slot_history.specs.Histories.{IsLegal, IsOfTotals, Begins, place_of, installs_of, total_of}
+use Rattle.slot_history.specs.Histories.{IsLegal, IsOfTotals, Begins, place_of, installs_of}
+use Rattle.slot_history.specs.Histories.{total_of}
 use Rattle.slot_history.specs.Lives.{has_task}
 use Rattle.slot_history.specs.Numbers.{named_id}
 

@@ -4,14 +4,23 @@
 //! that it stands on. Most laws say which fault of the protocol they rule out.
 
 ghost use Rattle.std.specs.Prelude.{◌≡◌, ◌*◌};
-ghost use Rattle.slot_history.specs.Laws.{Always, AfterAll, QuietSlots, InsideSlots, OneDebt, ShutInside, CoordinatorOwesNothing, CoordinatorLeaves, OneOwner, OwnEntries, OwnRecords, CallsGoOn, OnlyOnce, RangesOfClaims, ClaimsGoOn, RangesGoOn, AreApart, NoEarlyClaims, TilesCursor, TilesTotal, FinishingLast, OnceInPlace, StagesInOrder, QueryKeepsSlot};
+ghost use Rattle.slot_history.specs.Laws.{Always, AfterAll, QuietSlots, InsideSlots, OneDebt};
+ghost use Rattle.slot_history.specs.Laws.{ShutInside, CoordinatorOwesNothing, CoordinatorLeaves};
+ghost use Rattle.slot_history.specs.Laws.{OneOwner, OwnEntries, OwnRecords, CallsGoOn, OnlyOnce};
+ghost use Rattle.slot_history.specs.Laws.{RangesOfClaims, ClaimsGoOn, RangesGoOn, AreApart};
+ghost use Rattle.slot_history.specs.Laws.{NoEarlyClaims, TilesCursor, TilesTotal, FinishingLast};
+ghost use Rattle.slot_history.specs.Laws.{OnceInPlace, StagesInOrder, QueryKeepsSlot};
 ghost use Rattle.slot_history.specs.Lives.{IsBookOf, CountsOf};
 ghost use Rattle.slot_history.specs.Table.{IsTable, AreLed};
-ghost use Rattle.slot_history.specs.Bounds.{IsWithin, AreCursors, IsCursorLimit, AreDebtsWithin, AreSlotsSound, IsFinishedBound};
+ghost use Rattle.slot_history.specs.Bounds.{IsWithin, AreCursors, IsCursorLimit, AreDebtsWithin};
+ghost use Rattle.slot_history.specs.Bounds.{AreSlotsSound, IsFinishedBound};
 ghost use Rattle.slot_history.specs.Calls.{IsAnswered};
-ghost use Rattle.slot_history.specs.Numbers.{PlacesNameIds, AreIdsWithin, IdsAreSmall, AreInstallsWithin, AreClaimsWithin};
+ghost use Rattle.slot_history.specs.Numbers.{PlacesNameIds, AreIdsWithin, IdsAreSmall};
+ghost use Rattle.slot_history.specs.Numbers.{AreInstallsWithin, AreClaimsWithin};
 ghost use Rattle.slot_history.specs.Payments.{DebtsGoOn};
-ghost use Rattle.slot_history.specs.declared.shape.TheConstants.{MOST_SLOTS, PARTS, MOST_WORKERS, MOST_QUERIES, STAGES, MOST_CLAIM, MOST_TOTAL};
+ghost use Rattle.slot_history.specs.declared.shape.TheConstants.{MOST_SLOTS, PARTS, MOST_WORKERS};
+ghost use Rattle.slot_history.specs.declared.shape.TheConstants.{MOST_QUERIES, STAGES, MOST_CLAIM};
+ghost use Rattle.slot_history.specs.declared.shape.TheConstants.{MOST_TOTAL};
 
 pub mod beginnings;
 pub mod examples;

@@ -1,6 +1,8 @@
 //! Beginnings of a history: what a worker that knows one knows of the whole.
 
-ghost use Rattle.slot_history.specs.Beginnings.{BeginningsAreLegal, BeginningsNest, WholeByOwnCalls, OwnCallsBetween, OthersLeaveIt, TaskSetsStay, HolderTiles, HolderHasClaims};
+ghost use Rattle.slot_history.specs.Beginnings.{BeginningsAreLegal, BeginningsNest};
+ghost use Rattle.slot_history.specs.Beginnings.{WholeByOwnCalls, OwnCallsBetween, OthersLeaveIt};
+ghost use Rattle.slot_history.specs.Beginnings.{TaskSetsStay, HolderTiles, HolderHasClaims};
 
 /// A beginning of a legal history is legal. Of two beginnings of one history, one begins the other.
 ///

@@ -1,6 +1,7 @@
 //! Worked examples: the answers that the definitions give to calls.
 
-ghost use Rattle.slot_history.specs.Examples.{PaysBeforeSweep, BothPayBeforeSweep, StrayPaysLast, SlotIsTaken, SlotIsFilledAgain, NoticesCross};
+ghost use Rattle.slot_history.specs.Examples.{PaysBeforeSweep, BothPayBeforeSweep, StrayPaysLast};
+ghost use Rattle.slot_history.specs.Examples.{SlotIsTaken, SlotIsFilledAgain, NoticesCross};
 
 /// The answers to the calls of six short histories, each in one order of its workers.
 pub fn answers()

@@ -2,7 +2,9 @@
 //! these laws.
 
 ghost use Rattle.slot_history.specs.Laws.{Always};
-ghost use Rattle.slot_history.specs.LoneTurns.{StaysLone, EndsQuiet, MeetsNobody, RunMeetsNobody, LookIsKnown, QuietIsKnown, NoticesStayTaken, ArrivalsStay, AdmitIsGot, TakenIsKnown};
+ghost use Rattle.slot_history.specs.LoneTurns.{StaysLone, EndsQuiet, MeetsNobody, RunMeetsNobody};
+ghost use Rattle.slot_history.specs.LoneTurns.{LookIsKnown, QuietIsKnown, NoticesStayTaken};
+ghost use Rattle.slot_history.specs.LoneTurns.{ArrivalsStay, AdmitIsGot, TakenIsKnown};
 
 /// From a quiet state on, while only one worker calls, the others stay free and it is marked
 /// nowhere. Once it is free too, the state is quiet again.

@@ -1,7 +1,10 @@
 //! The slot of a task set and of a query.
 
 ghost use Rattle.slot_history.specs.Laws.{AfterAll};
-ghost use Rattle.slot_history.specs.Looks.{TaskInSlot, ServingSlot, TaskKeepsSlot, LastInSlot, FinishingInSlot, OneSlotSeen, SameQuerySeen, StageBefore, HasFinisher, HolderIsFinisher, FinisherStays};
+ghost use Rattle.slot_history.specs.Looks.{TaskInSlot, ServingSlot, TaskKeepsSlot, LastInSlot};
+ghost use Rattle.slot_history.specs.Looks.{FinishingInSlot, OneSlotSeen, SameQuerySeen};
+ghost use Rattle.slot_history.specs.Looks.{StageBefore, HasFinisher, HolderIsFinisher};
+ghost use Rattle.slot_history.specs.Looks.{FinisherStays};
 
 /// The task set that a slot serves, by the history, is the one that its state has, and was
 /// installed in this slot. The slot has served it at each moment since.

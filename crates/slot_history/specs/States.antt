@@ -79,12 +79,12 @@ slot_of (Announcing s again told) = s
 
 -- the id that a place names, else 0
 abbrev pub id_at : Place → ℕ
+id_at (Asking s id asked marked) = id
+id_at (Owing s id) = id
 id_at (Inside s id) = id
 id_at (Used s id) = id
 id_at (Behind s id) = id
 id_at (Leading s id) = id
-id_at (Asking s id asked marked) = id
-id_at (Owing s id) = id
 id_at _ = 0
 
 -- what the holder of a slot has when it reserved the slot

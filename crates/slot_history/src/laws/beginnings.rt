@@ -1,15 +1,13 @@
 //! Beginnings of a history: what a worker that knows one knows of the whole.
 
-ghost use Rattle.slot_history.specs.Beginnings.{BeginningsAreLegal, BeginningsNest};
-ghost use Rattle.slot_history.specs.Beginnings.{WholeByOwnCalls, OwnCallsBetween, OthersLeaveIt};
-ghost use Rattle.slot_history.specs.Beginnings.{TaskSetsStay, HolderTiles, HolderHasClaims};
+ghost use Rattle.slot_history.specs.Beginnings as law;
 
 /// A beginning of a legal history is legal. Of two beginnings of one history, one begins the other.
 ///
 /// Ruled out: a call that was allowed only because of a later one.
 pub fn beginnings_nest()
-    ensures legal { BeginningsAreLegal }
-    ensures nest { BeginningsNest }
+    ensures legal { law.BeginningsAreLegal }
+    ensures nest { law.BeginningsNest }
 {}
 
 /// A beginning that has all own calls of every worker is the whole history. What lies between a
@@ -17,15 +15,15 @@ pub fn beginnings_nest()
 ///
 /// Ruled out: a call by no worker of the shape.
 pub fn whole_by_own_calls()
-    ensures whole { WholeByOwnCalls }
-    ensures between { OwnCallsBetween }
+    ensures whole { law.WholeByOwnCalls }
+    ensures between { law.OwnCallsBetween }
 {}
 
 /// Calls of others leave a worker's place, its ranges and its notice records as they are.
 ///
 /// Ruled out: a mark that moves the worker that is marked.
 pub fn others_leave_it()
-    ensures { OthersLeaveIt }
+    ensures { law.OthersLeaveIt }
 {}
 
 /// What a beginning says of a task set stays: its total and its slot from its install on, and from
@@ -33,7 +31,7 @@ pub fn others_leave_it()
 ///
 /// Ruled out: a second install of one task set, and a claim after its last call.
 pub fn task_sets_stay()
-    ensures { TaskSetsStay }
+    ensures { law.TaskSetsStay }
 {}
 
 /// The task set that a worker finalises had its last call, and its claims tile the total of its
@@ -42,6 +40,6 @@ pub fn task_sets_stay()
 ///
 /// Ruled out: a worker that finalises before it has seen every claim of its task set.
 pub fn holder_has_claims()
-    ensures tiles { HolderTiles }
-    ensures claims { HolderHasClaims }
+    ensures tiles { law.HolderTiles }
+    ensures claims { law.HolderHasClaims }
 {}

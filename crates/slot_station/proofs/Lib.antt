@@ -3,6 +3,7 @@ pub mod CellSteps
 pub mod CellsKept
 pub mod Exchanges
 pub mod ExchangesKept
+pub mod ExchangesSeen
 pub mod Memos
 pub mod Follows
 pub mod Lists

@@ -20,7 +20,22 @@ use Rattle.slot_station.specs.declared.reply.Mark.TheVariants as mark
 use Rattle.slot_station.specs.declared.reply.Admit.{Admit}
 use Rattle.slot_station.specs.declared.reply.Admit.TheVariants as admit
 use Rattle.slot_station.specs.Replies.{mark_act, admit_act, admitted_holder, marked_more}
-use Rattle.slot_station.specs.Tokens.{IsHolder, IsCoordinator, IsAnnouncer, opens, last_opened}
+use Rattle.slot_station.specs.Tokens.{IsHolder, HoldsAs, IsCoordinator, IsAnnouncer, opens, last_opened}
+use Rattle.slot_station.specs.Answers.{announcer_of}
+
+-- a holder's fields, by its place
+pub token-of : (d : Shape) (w : ℕ) (p : Place) (h : Holder) → IsHolder d w p h → HoldsAs d w p h
+token-of d w p h ok = record {
+  worker = ok.worker;
+  slot = sym (ap slot_of ok.place);
+  query = sym (ap (λ q. (held_at q).query) ok.place);
+  stage = sym (ap (λ q. (held_at q).stage) ok.place);
+  again = sym (ap (λ q. (held_at q).again) ok.place);
+}
+
+-- what a holder that installs becomes
+pub announcer-is : (d : Shape) (w : ℕ) (p r : Place) (id : ℕ) → r ≡ moved d (Install id) p → IsAnnouncer d w r (announcer_of w p d)
+announcer-is d w p r id goes = record { worker = refl; workers = refl; place = goes }
 
 -- a holder after it admitted a query, noted or set a total; where the admission is lost it is the same
 pub admit-holds : (d : Shape) (w : ℕ) (p r : Place) (h : Holder) (q : ℕ) (a : Admit) → IsHolder d w p h → r ≡ moved d (admit_act q a) p

@@ -3,7 +3,8 @@ use Rattle.std.specs.Prelude.{ℕ, ◌/◌, ◌%◌, Bool, true, false, cond, eq
 use Rattle.slot_history.specs.declared.shape.Shape.{Shape}
 use Rattle.slot_history.specs.declared.shape.TheConstants.{STAGES}
 use Rattle.slot_history.specs.declared.place.Place.{Place}
-use Rattle.slot_history.specs.States.{SlotState, slot_of, id_at, is_empty, slot_word}
+use Rattle.slot_history.specs.States.{SlotState, slot_of, id_at, held_at, is_empty, slot_word}
+use Rattle.slot_station.specs.declared.token.Announcer.{Announcer}
 use Rattle.slot_station.specs.declared.token.Holder.{Holder}
 use Rattle.slot_station.specs.declared.reply.Claim.{Claim}
 use Rattle.slot_station.specs.declared.reply.Claim.TheVariants as claim
@@ -46,6 +47,15 @@ module _ (w : ℕ) (p : Place) where
     query = Some (id_at p / STAGES);
     stage = id_at p % STAGES;
     again = true;
+  }
+
+  abbrev pub announcer_of : Shape → Announcer
+  announcer_of d = record {
+    worker = w;
+    slot = slot_of p;
+    workers = d.workers;
+    told = 0;
+    again = (held_at p).again;
   }
 
   -- where so many workers have to pay

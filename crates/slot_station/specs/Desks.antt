@@ -1,5 +1,5 @@
 -- A worker's desk, what a station shows of itself, and what a call or an exchange changes of that.
-use Rattle.std.specs.Prelude.{◌≡◌, ◌≢◌, ℕ, ◌<◌, true, List, Option}
+use Rattle.std.specs.Prelude.{◌≡◌, ◌≢◌, ℕ, ◌<◌, List, Option}
 use Rattle.slot_history.specs.declared.shape.Shape.{Shape}
 use Rattle.slot_history.specs.declared.act.Act.{Act}
 use Rattle.slot_history.specs.declared.act.Entry.{Entry}
@@ -12,8 +12,7 @@ use Rattle.slot_history.specs.Histories.{Called, IsOfTotals, entry, place_of, ra
 use Rattle.slot_station.specs.declared.reply.Leave.{Leave}
 use Rattle.slot_station.specs.declared.reply.Leave.TheVariants.{Left}
 use Rattle.slot_station.specs.declared.note.Note.{Note}
-use Rattle.slot_station.specs.declared.note.Note.TheVariants.{Kept}
-use Rattle.slot_station.specs.Cells.{has_cell, noted, NoteSays, FitsNext, FitsFinalised}
+use Rattle.slot_station.specs.Cells.{Caller, noted, NoteSays, FitsNext, FitsFinalised}
 
 -- what no call of a station changes: whose it is, how large the object is, and the subject that the
 -- object serves
@@ -59,9 +58,14 @@ module _ {O Sub : Type 0} where
   abbrev pub own_total : (Sub → ℕ → Option ℕ) → Seen O Sub → Option ℕ
   own_total total seen = totals_of total seen (id_at (own_place seen))
 
-  -- the total that was set in this holding is that of the subject's task set of this id
-  abbrev pub HasTotal : (Sub → ℕ → Option ℕ) → Seen O Sub → ℕ → Type 0
-  HasTotal total seen id = (own_holding seen).total ≡ totals_of total seen id
+  -- the worker as one that calls
+  abbrev pub caller_of : Seen O Sub → Caller
+  caller_of seen = record {
+    shape = seen.desk.shape;
+    worker = seen.desk.worker;
+    place = own_place seen;
+    notes = seen.notes;
+  }
 
   -- whoever shut the task set leaves without a debt
   abbrev pub LeaderOwesNothing : Seen O Sub → Leave → Type 0
@@ -71,14 +75,6 @@ module _ {O Sub : Type 0} where
   -- place
   abbrev pub Owns : {X : Type 0} → (Shape → ℕ → Place → X → Type 0) → Seen O Sub → X → Type 0
   Owns Is seen token = Is seen.desk.shape seen.desk.worker (own_place seen) token
-
-  -- every cell that is with the worker has this note
-  abbrev pub AllNoted : Note → Seen O Sub → Type 0
-  AllNoted note seen = (v : ℕ) → v < seen.desk.shape.workers → seen.notes v ≡ note
-
-  -- a worker that has its own cell has kept it
-  abbrev pub KeptOwn : Seen O Sub → Type 0
-  KeptOwn seen = has_cell (own_place seen) ≡ true → seen.notes seen.desk.worker ≡ Kept
 
   -- The worker made this call. Its trail went on by what it had not seen and ends with the call;
   -- it is a legal history of the subject, and of the worker it has just its own calls. The notes

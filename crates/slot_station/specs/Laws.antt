@@ -1,20 +1,27 @@
 -- The laws of stations and of cells, as the functions of module `laws` state them.
-use Rattle.std.specs.Prelude.{◌≡◌, ◌≢◌, ◌↔◌, ℕ, ◌<◌, List, ◌∷◌, Option, Some, IsSome, IfSome}
+use Rattle.std.specs.Prelude.{◌≡◌, ◌≢◌, ◌↔◌, ℕ, ◌<◌, true, List, ◌∷◌, Option, Some, IsSome, IfSome}
 use Rattle.slot_history.specs.declared.act.Act.{Act}
 use Rattle.slot_history.specs.declared.act.Act.TheVariants.{TakeReturn, TakeChange}
-use Rattle.slot_history.specs.declared.place.Place.TheVariants.{Inside}
-use Rattle.slot_history.specs.Steps.{moved}
+use Rattle.slot_history.specs.declared.place.Held.{Held}
+use Rattle.slot_history.specs.declared.place.Place.TheVariants.{Inside, Holding}
+use Rattle.slot_history.specs.States.{HasCell, has_cell, slot_of}
+use Rattle.slot_history.specs.Steps.{moved, state_after}
 use Rattle.slot_history.specs.Calls.{Call, call_of}
 use Rattle.slot_history.specs.Histories.{IsLegal, entry}
 use Rattle.slot_history.specs.Numbers.{named_id}
+use Rattle.slot_station.specs.declared.note.Note.{Note}
 use Rattle.slot_station.specs.declared.reply.Claim.{Claim}
 use Rattle.slot_station.specs.declared.reply.Leave.{Leave}
 use Rattle.slot_station.specs.declared.reply.Look.{Look}
-use Rattle.slot_station.specs.declared.log.Exchange.{Exchange}
-use Rattle.slot_station.specs.Cells.{Moment, Cell, CellOf, NoteSays, place_then, ranges_then, Caller, caller_then, CellsAllow, NotesAllow, after_call}
-use Rattle.slot_station.specs.Exchanges.{IsExchange, own_slot, exchanged_cell, after_exchange, put_note, FitsKept, FitsFresh, FitsPut}
-use Rattle.slot_station.specs.Desks.{Seen, Makes, LeaderOwesNothing, own_place, own_ranges, own_total, totals_of}
-use Rattle.slot_station.specs.Replies.{look_act, claim_act, leave_act, SeesTaskSet, IsCutRange, LiesPast, OwesTaskSet, NamesSlots}
+use Rattle.slot_station.specs.Cells.{Moment, Cell, CellOf, Caller, CellsAllow, NotesAllow}
+use Rattle.slot_station.specs.Cells.{caller_then, after_call, kept_note, fresh_note}
+use Rattle.slot_station.specs.Exchanges.{IsSeenAt, MayExchange, HoldsNoted, MayPut}
+use Rattle.slot_station.specs.Exchanges.{cell_here, exchange_here, after_exchange, put_note}
+use Rattle.slot_station.specs.Desks.{Seen, Makes, LeaderOwesNothing, OwnFits, NextFits}
+use Rattle.slot_station.specs.Desks.{OwnCellSays, CellSays, own_place, own_ranges, own_total}
+use Rattle.slot_station.specs.Desks.{totals_of, caller_of}
+use Rattle.slot_station.specs.Replies.{look_act, claim_act, leave_act, SeesTaskSet, IsCutRange}
+use Rattle.slot_station.specs.Replies.{LiesPast, OwesTaskSet, NamesSlots}
 
 -- what follows for a caller from the call that a worker made
 pub record RepliesFollow {Sub : Type 0} (total : Sub → ℕ → Option ℕ) (O : Type 0) : Type 0 where
@@ -39,35 +46,62 @@ pub record RepliesFollow {Sub : Type 0} (total : Sub → ℕ → Option ℕ) (O 
       → NamesSlots old.desk.shape.slots part bits
 
 -- A call that its worker's notes allow keeps what is known of each cell: what the notes before say
--- of it, those after the call say. Values of the cell's worker meet `fits`.
-abbrev pub CellsGoOn : {B : Type 0} → (ℕ → List (ℕ × ℕ) → B → Type 0) → Type 0
+-- of it, those after the call say. Values of a cell meet `fits`, by its worker.
+abbrev pub CellsGoOn : {B : Type 0} → (ℕ → ℕ → List (ℕ × ℕ) → B → Type 0) → Type 0
 CellsGoOn {B = B} fits = (totals : ℕ → Option ℕ) (moment : Moment) (w : ℕ) (a : Act)
     → IsLegal moment.shape (entry w a ∷ moment.history)
     → NotesAllow totals (caller_then moment w) a
     → (cell : Cell B) → cell.worker < moment.shape.workers
-    → CellOf fits moment cell → CellOf fits (after_call w a moment) cell
+    → CellOf (fits cell.worker) moment cell
+    → CellOf (fits cell.worker) (after_call w a moment) cell
 
 -- whether a worker's notes allow a call does not depend on its reply
 abbrev pub RepliesAllowed : Type 0
 RepliesAllowed = (totals : ℕ → Option ℕ) (caller : Caller) (call : Call) (a : Act)
     → call_of a ≡ call → CellsAllow totals caller call ↔ NotesAllow totals caller a
 
--- An exchange by a worker that has the cell keeps what is known of each cell. The worker finds
--- what its note says. If the value that it puts fits, the cell is as the new note says. What is
--- known of the other cells stays. Values of the cell's worker meet `fits`.
-pub record ExchangesGoOn {B : Type 0} (fits : ℕ → List (ℕ × ℕ) → B → Type 0) : Type 0 where
-  pub found : (moment : Moment) (exchange : Exchange) → IsExchange moment exchange
-      → (value : Option B) → CellOf fits moment (exchanged_cell moment exchange value)
-      → let ranges = ranges_then moment exchange.cell in
-      let place = place_then moment exchange.worker in
-      NoteSays (FitsKept fits ranges place) (FitsFresh fits ranges place)
-      (moment.notes exchange.worker exchange.cell) value
-  pub put : (moment : Moment) (exchange : Exchange) → IsExchange moment exchange
-      → (value : Option B) → exchange.note ≡ put_note (place_then moment exchange.worker) value
-      → let ranges = ranges_then moment exchange.cell in
-      IfSome value (FitsPut fits ranges (place_then moment exchange.worker))
-      → CellOf fits (after_exchange exchange moment) (exchanged_cell moment exchange value)
-  pub others : (moment : Moment) (exchange : Exchange) → IsExchange moment exchange
-      → (cell : Cell B)
-      → (cell.slot ≡ own_slot moment exchange.worker → cell.worker ≢ exchange.cell)
-      → CellOf fits moment cell → CellOf fits (after_exchange exchange moment) cell
+-- What an exchange of the cell of v does, by the station of a worker that may make it. The cell is
+-- one of the object's and with the worker, which has none at another slot. The worker finds what its
+-- note says. If the value that it puts fits, the cell is as the new note says. What is known of the
+-- other cells stays.
+module _ {B Sub : Type 0} (fits : Sub → ℕ → ℕ → List (ℕ × ℕ) → B → Type 0) (O : Type 0) where
+  pub record ExchangeKeeps (moment : Moment) (subject : Sub) (seen : Seen O Sub) (v : ℕ)
+      : Type 0 where
+    pub in_slots : slot_of (own_place seen) < moment.shape.slots
+    pub in_workers : v < moment.shape.workers
+    pub has : HasCell (state_after moment.shape moment.history) (slot_of (own_place seen)) v
+        seen.desk.worker
+    pub only : (s u : ℕ) → HasCell (state_after moment.shape moment.history) s u seen.desk.worker
+        → s ≡ slot_of (own_place seen)
+    pub found : (value : Option B) → CellOf (fits subject v) moment (cell_here seen v value)
+        → HoldsNoted seen v fits value
+    pub put : (value : Option B) → IfSome value (MayPut seen v fits)
+        → (note : Note) → note ≡ put_note (own_place seen) value
+        → CellOf (fits subject v) (after_exchange (exchange_here seen v note) moment)
+        (cell_here seen v value)
+    pub others : (note : Note) (cell : Cell B)
+        → (cell.slot ≡ slot_of (own_place seen) → cell.worker ≢ v)
+        → CellOf (fits subject cell.worker) moment cell
+        → CellOf (fits subject cell.worker) (after_exchange (exchange_here seen v note) moment)
+        cell
+
+  -- an exchange keeps what is known of each cell, whoever sees how much of the history
+  abbrev pub ExchangesGoOn : Type 0
+  ExchangesGoOn = (moment : Moment) (subject : Sub) (seen : Seen O Sub)
+      → IsSeenAt moment subject seen → (v : ℕ) → MayExchange (caller_of seen) v
+      → ExchangeKeeps moment subject seen v
+
+-- What is found and put by place, in the words of a station's two exchanges: of the own cell while
+-- the worker is inside, and of each cell while it holds a slot.
+pub record ExchangesSay {B Sub : Type 0} (fits : Sub → ℕ → ℕ → List (ℕ × ℕ) → B → Type 0)
+    (O : Type 0) : Type 0 where
+  pub own : (seen : Seen O Sub) → has_cell (own_place seen) ≡ true → (value : Option B)
+      → let w = seen.desk.worker in
+      (HoldsNoted seen w fits value → OwnCellSays fits seen value)
+      × (IfSome value (OwnFits fits seen) → IfSome value (MayPut seen w fits))
+      × (put_note (own_place seen) value ≡ kept_note value)
+  pub held : (seen : Seen O Sub) (s : ℕ) (held : Held) → own_place seen ≡ Holding s held
+      → (v : ℕ) (value : Option B)
+      → (HoldsNoted seen v fits value → CellSays fits seen v value)
+      × (IfSome value (NextFits fits seen v) → IfSome value (MayPut seen v fits))
+      × (put_note (own_place seen) value ≡ fresh_note value)

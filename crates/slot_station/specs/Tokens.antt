@@ -66,6 +66,14 @@ module _ (d : Shape) (w : ℕ) (p : Place) where
       total = total;
     })
 
+  -- the token's fields are those of what the worker holds
+  pub record HoldsAs (token : Holder) : Type 0 where
+    pub worker : token.worker ≡ w
+    pub slot : token.slot ≡ slot_of p
+    pub query : token.query ≡ (held_at p).query
+    pub stage : token.stage ≡ (held_at p).stage
+    pub again : token.again ≡ (held_at p).again
+
   -- the worker opened the slot, and told so many workers
   pub record IsAnnouncer (token : Announcer) : Type 0 where
     pub worker : token.worker ≡ w

@@ -4,11 +4,12 @@ ghost use Rattle.std.specs.Prelude.{◌≡◌, ℕ, ◌+◌, ◌*◌, ◌/◌, �
 ghost use Rattle.slot_history.specs.declared.shape.TheConstants.{PARTS, MOST_WORKERS};
 ghost use Rattle.slot_history.specs.declared.place.Place.TheVariants.{Asking};
 ghost use Rattle.slot_history.specs.Table.{nth_other};
-ghost use Rattle.slot_station.specs.Answers.{claim_of, shut_of, leave_of, finaliser_of};
+ghost use Rattle.slot_station.specs.Answers.{claim_of, shut_of, leave_of};
+ghost use Rattle.slot_station.specs.Answers.{reserver_of, finaliser_of, announcer_of};
 
-use crate::moves::{id_at, slot_at};
+use crate::moves::{held_at, id_at, slot_at};
 use crate::reply::{Claim, Leave, Shut};
-use crate::token::{Coordinator, Debt, Holder, Spent};
+use crate::token::{Announcer, Coordinator, Debt, Holder, Spent};
 use slot_history::place::Place;
 use slot_history::shape::{PARTS, STAGES, Shape};
 
@@ -82,6 +83,19 @@ pub fn next_to_ask(worker: u32, place: &Place) -> u32
     if asked < worker { asked } else { asked + 1 }
 }
 
+/// The holder that a worker becomes where it reserves a slot.
+pub fn reserver(worker: u32, slot: u32) -> Holder
+    ensures { result ≡ reserver_of worker slot }
+{
+    Holder {
+        worker,
+        slot,
+        query: None,
+        stage: 0,
+        again: false,
+    }
+}
+
 /// The holder that a worker at this place becomes where it finalises.
 pub fn finaliser(worker: u32, place: &Place) -> Holder
     ensures { result ≡ finaliser_of worker place.now }
@@ -93,5 +107,18 @@ pub fn finaliser(worker: u32, place: &Place) -> Holder
         query: Some(id / STAGES),
         stage: id % STAGES,
         again: true,
+    }
+}
+
+/// The announcer that a worker at this place becomes where it installs.
+pub fn announcer(worker: u32, place: &Place, shape: &Shape) -> Announcer
+    ensures { result ≡ announcer_of worker place.now shape.now }
+{
+    Announcer {
+        worker,
+        slot: slot_at(place),
+        workers: shape.workers,
+        told: 0,
+        again: held_at(place).again,
     }
 }

@@ -1,5 +1,6 @@
 //! Laws that hold of every station, and of the cells of every form of the object.
-ghost use Rattle.slot_station.specs.Laws.{RepliesFollow, CellsGoOn, RepliesAllowed, ExchangesGoOn};
+ghost use Rattle.slot_station.specs.Laws.{RepliesFollow, CellsGoOn, RepliesAllowed};
+ghost use Rattle.slot_station.specs.Laws.{ExchangesGoOn, ExchangesSay};
 
 use crate::station::{Fits, Station};
 
@@ -13,8 +14,8 @@ pub fn replies_follow<B: Fits, S: Station<B>>()
 {}
 
 /// A call that the notes of its worker allow keeps what is known of every cell.
-pub fn cells_go_on<B: Fits>(subject: &B::Subject, worker: u32)
-    ensures { CellsGoOn (B.fits subject.now worker) }
+pub fn cells_go_on<B: Fits>()
+    ensures { (subject : B.Subject) → CellsGoOn (B.fits subject) }
 {}
 
 /// Whether a worker's notes allow a call does not depend on its reply.
@@ -24,9 +25,17 @@ pub fn replies_allowed()
     ensures { RepliesAllowed }
 {}
 
-/// An exchange by a worker that has the cell keeps what is known of every cell. The worker finds
-/// what its note says. If what it puts fits, the cell is as the new note says. What is known of the
-/// other cells stays.
-pub fn exchanges_go_on<B: Fits>(subject: &B::Subject, worker: u32)
-    ensures { ExchangesGoOn (B.fits subject.now worker) }
+/// An exchange of a cell keeps what is known of every cell. It is said of what a station shows, whose
+/// trail need only begin the history, if it has all of its worker's own calls.
+///
+/// The worker finds what its note says. If what it puts fits, the cell is as the new note says. What
+/// is known of the other cells stays.
+pub fn exchanges_go_on<B: Fits, S: Station<B>>()
+    ensures { ExchangesGoOn B.fits S.Origin }
+{}
+
+/// What an exchange finds and puts by the worker's place, in the words of `Station::own_cell` and
+/// `Station::cell`.
+pub fn exchanges_say<B: Fits, S: Station<B>>()
+    ensures { ExchangesSay B.fits S.Origin }
 {}

@@ -39,9 +39,10 @@ pub trait Station<B: Fits> {
     ghost use Rattle.slot_history.specs.declared.place.Place.TheVariants.{Free, Entered, Inside};
     ghost use Rattle.slot_history.specs.States.{can_leave, next_id};
     ghost use Rattle.slot_history.specs.Allowed.{IsReady};
+    ghost use Rattle.slot_history.specs.Subject.{InstallsOf};
     ghost use Rattle.slot_station.specs.declared.note.Note.TheVariants.{Empty, Fresh};
-    ghost use Rattle.slot_station.specs.Desks.{Seen, IsDesk, own_place, own_holding, own_ranges, own_total, totals_of, Owns, AllNoted, KeptOwn, Makes, Exchanges, ExchangesOwn, OwnFits, NextFits, OwnCellSays, CellSays, HasTotal, LeaderOwesNothing};
-    ghost use Rattle.slot_station.specs.Cells.{has_cell, kept_note, fresh_note};
+    ghost use Rattle.slot_station.specs.Desks.{Seen, IsDesk, own_place, own_holding, own_ranges, own_total, totals_of, Owns, caller_of, Makes, Exchanges, ExchangesOwn, OwnFits, NextFits, OwnCellSays, CellSays, LeaderOwesNothing};
+    ghost use Rattle.slot_station.specs.Cells.{has_cell, kept_note, fresh_note, HasNoted, LeavesKept};
     ghost use Rattle.slot_station.specs.Tokens.{IsSpent, IsDebt, IsCoordinator, IsHolder, IsAnnouncer, IsDone, ClaimGives, ShutGives, LeaveGives, SweepGives, PayGives, ReserveGives};
     ghost use Rattle.slot_station.specs.Replies.{look_act, claim_act, shut_act, leave_act, mark_act, sweep_act, pay_act, reserve_act, admit_act, SeesTaskSet, IsCutRange, LiesPast, OwesTaskSet, marked_coordinator, admitted_holder, NamesSlots};
 
@@ -118,7 +119,7 @@ pub trait Station<B: Fits> {
     /// Allowed at Astray, Inside, Behind and Leading; see `docs/PROTOCOL.md`.
     fn leave<L: Ledger>(&mut self, steps: &mut Steps<L>) -> Leave
         requires place { can_leave (own_place (seen self.old)) ≡ true }
-        requires cell { KeptOwn (seen self.old) }
+        requires cell { LeavesKept (caller_of (seen self.old)) }
         ensures made { Makes B.total (leave_act result) (seen self.old) (seen self.new) }
         ensures task_set { OwesTaskSet (totals_of B.total (seen self.old)) result }
         ensures coordinator { LeaderOwesNothing (seen self.old) result }
@@ -234,8 +235,9 @@ pub trait Station<B: Fits> {
         requires holder { Owns IsHolder (seen self.old) holder }
         requires ready { IsReady (own_holding (seen self.old)) }
         requires id { id ≡ next_id (own_holding (seen self.old)) }
-        requires total { HasTotal B.total (seen self.old) id }
-        requires cells { AllNoted Fresh (seen self.old) }
+        requires total { InstallsOf (totals_of B.total (seen self.old)) (Install id)
+            (own_holding (seen self.old)).total }
+        requires cells { HasNoted Fresh (caller_of (seen self.old)) }
         ensures made { Makes B.total (Install id) (seen self.old) (seen self.new) }
         ensures announcer { Owns IsAnnouncer (seen self.new) result }
         ensures ticks { steps.new ≡ steps.old + 1 };
@@ -247,7 +249,7 @@ pub trait Station<B: Fits> {
     fn release<L: Ledger>(&mut self, holder: Holder, steps: &mut Steps<L>)
         requires holder { Owns IsHolder (seen self.old) holder }
         requires noted { (holder.query ≡ None) ⊎ (0 < (own_holding (seen self.old)).noted) }
-        requires cells { AllNoted Empty (seen self.old) }
+        requires cells { HasNoted Empty (caller_of (seen self.old)) }
         ensures made { Makes B.total Release (seen self.old) (seen self.new) }
         ensures ticks { steps.new ≡ steps.old + 1 };
 

@@ -1,5 +1,5 @@
-use Rattle.slot_station.proofs.ExchangesKept.{exchanges-go-on}
+use Rattle.slot_station.proofs.ExchangesSeen.{exchanges-go-on}
 use Rattle.slot_station.proofs.laws.exchanges_go_on.Goals as goal
 
 pub returns : goal.returns
-returns g c = exchanges-go-on (g.B.Fits.fits c.args.subject.now c.args.worker)
+returns g c = exchanges-go-on g.B.Fits.fits g.S.Station.Origin

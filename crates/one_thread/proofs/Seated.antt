@@ -1,22 +1,19 @@
 -- A call over a seat of a table.
-use Rattle.std.proofs.Common.{◌≡◌, ℕ, ◌+◌, ◌<◌, IsSome, true, false, cond, ◌&&◌, List, ◌∷◌, All, Option, Some, None, slice_get, refl, sym, ap, ap₂, ◌∙◌, subst, eq-eqb}
+use Rattle.std.proofs.Common.{◌≡◌, ℕ, ◌+◌, ◌<◌, false, cond, ◌&&◌, List, ◌∷◌, All, Option, Some, None, slice_get, refl, sym, ap, ap₂, ◌∙◌, subst, eq-eqb}
 use Rattle.std.proofs.lemmas.Option.{get_or_from_slice_get, slice_get_within}
 use Rattle.slot_history.specs.declared.shape.Shape.{Shape}
 use Rattle.slot_history.specs.declared.act.Act.{Act}
-use Rattle.slot_history.specs.declared.act.Act.TheVariants.{Install, Release, Announce}
+use Rattle.slot_history.specs.declared.act.Act.TheVariants.{Announce}
 use Rattle.slot_history.specs.declared.act.Entry.{Entry}
 use Rattle.slot_history.specs.declared.place.Place.{Place}
 use Rattle.slot_history.specs.declared.place.Place.TheVariants.{Free, Announcing}
 use Rattle.slot_history.specs.States.{held_at, slot_of}
 use Rattle.slot_history.specs.Steps.{moved}
-use Rattle.slot_history.specs.Allowed.{IsReady}
-use Rattle.slot_history.specs.Calls.{Call, MayAt}
-use Rattle.slot_history.specs.Histories.{IsLegal, IsOfTotals, Called, entry, place_of}
+use Rattle.slot_history.specs.Calls.{Call, Leaving, MayAt}
+use Rattle.slot_history.specs.Histories.{IsLegal, IsOfTotals, Called, Begins, own_calls, entry, place_of}
 use Rattle.slot_history.proofs.Sets.{upd-same}
 use Rattle.slot_history.proofs.Own.{place-mine}
 use Rattle.slot_station.specs.declared.note.Note.{Note}
-use Rattle.slot_station.specs.declared.note.Note.TheVariants.{Kept, Fresh}
-use Rattle.slot_station.specs.declared.note.Note.TheVariants as note
 use Rattle.slot_station.specs.declared.token.Announcer.{Announcer}
 use Rattle.slot_station.specs.declared.reply.Look.{Look}
 use Rattle.slot_station.specs.declared.reply.Look.TheVariants as look
@@ -41,17 +38,18 @@ use Rattle.slot_station.specs.declared.station.Fits.{Ghosts}
 use Rattle.one_thread.specs.declared.object.SlotObject as core
 use Rattle.one_thread.specs.declared.seat.OneSeat.{OneSeat}
 use Rattle.one_thread.specs.declared.table.OneTable.TheInside.{Inside}
-use Rattle.slot_station.specs.Cells.{has_cell, noted}
+use Rattle.slot_station.specs.Cells.{noted}
 use Rattle.slot_station.specs.Replies.{look_act, leave_act, claim_act, shut_act, mark_act, sweep_act, pay_act, reserve_act, admit_act}
-use Rattle.slot_station.specs.Desks.{Desk, Seen, own_place, own_holding, AllNoted, KeptOwn, Makes}
-use Rattle.slot_station.specs.Log.{calls_of, note_in, call}
+use Rattle.slot_station.specs.Desks.{Desk, Seen, own_place, caller_of, totals_of, Makes}
+use Rattle.slot_station.specs.Exchanges.{IsSeenAt}
+use Rattle.slot_station.specs.Log.{calls_of, moment_of, note_in, call}
 use Rattle.one_thread.specs.Tables.{TableStory, IsTableKept, table_of}
 use Rattle.one_thread.specs.Stories.{Story, MayMake, MakesCall, place_in, state_in}
 use Rattle.slot_station.specs.Tokens.{IsAnnouncer, IsDone, last_opened}
 use Rattle.slot_station.proofs.TokensKept.{announcer-opened}
 use Rattle.one_thread.specs.Seats.{desk_over, trail_in, seen_by, shown_by}
 use Rattle.one_thread.proofs.Trails.{own-trail, place-trail, begins}
-use Rattle.slot_station.specs.Cells.{Caller, NotesAllow}
+use Rattle.slot_station.specs.Cells.{Caller, CellsAllow, NotesAllow, LeavesKept}
 use Rattle.one_thread.proofs.TablesKept.{table-call}
 
 -- a call of w is the last that its trail has
@@ -210,57 +208,40 @@ module _ {B Sub : Type 0} {b : Ghosts B Sub} (x : Seat b) where
   pub may-make : (c : Call) → MayAt start.shape place c → MayMake object worker c
   may-make c h = record { below = own-below; may = token-old (λ d p. MayAt d p c) h }
 
-  -- a fact of desk and log, of the seat and of the object
-  desk-same : desk_over now worker ≡ desk
-  desk-same = ap₂ (λ (d : Shape) (u : Sub). let D : Desk Sub = record { worker = worker; shape = d; subject = u } in D) x.same_shape x.same_subject
+  log-same : object.log ≡ now.log
+  log-same = ap (λ (t : TableStory Sub). t.log) x.view
 
-  pub to-object : (P : Desk Sub → List Logged → Type 0) → P desk now.log
-      → P (record { worker = worker; shape = object.shape; subject = subject }) object.log
-  to-object P h = subst (λ (t : TableStory Sub). P (desk_over t worker) t.log) (sym x.view) (subst (λ D. P D now.log) (sym desk-same) h)
-
-  pub to-seat : (P : Desk Sub → List Logged → Type 0) → P (record { worker = worker; shape = object.shape; subject = subject }) object.log → P desk now.log
-  to-seat P h = subst (λ D. P D now.log) desk-same (subst (λ (t : TableStory Sub). P (desk_over t worker) t.log) x.view h)
+  -- what the seat shows, the object's log gives
+  pub seen-at : IsLegal object.shape (calls_of object.log) → IsSeenAt (moment_of object.shape object.log) subject shown
+  seen-at legal = record {
+    legal = legal;
+    shape_is = sym object-shape;
+    subject_is = sym table-subject;
+    below = own-below;
+    begins = subst (λ l. Begins (calls_of object.log) (trail_in worker (calls_of l))) log-same (begins worker (calls_of object.log));
+    own = sym (own-trail worker (calls_of object.log)) ∙ ap (λ l. own_calls worker (trail_in worker (calls_of l))) log-same;
+    notes = λ v. ap (λ l. note_in l worker v) log-same;
+  }
 
   -- ---- what the notes and the subject allow
 
-  -- the seat's worker, that calls
+  -- the object's worker, as one that calls
   abbrev caller : Caller
-  caller = record {
-    shape = object.shape;
-    worker = worker;
-    place = place_of object.shape (trail_in worker (calls_of object.log)) worker;
-    notes = note_in object.log worker;
-  }
+  caller = caller_of (shown_by (record { worker = worker; shape = object.shape; subject = subject }) object.log)
 
   abbrev pub Allows : Act → Type 0
   Allows a = NotesAllow (b.total subject) caller a
 
-  own-trail-place : place_of object.shape (trail_in worker (calls_of object.log)) worker ≡ place
-  own-trail-place = place-trail object.shape worker (calls_of object.log) ∙ place-of
+  pub call-allows : (c : Call) → CellsAllow (totals_of b.total shown) (caller_of shown) c → CellsAllow (b.total subject) caller c
+  call-allows c h =
+      let P : Desk Sub → List Logged → Type 0 = λ D l. CellsAllow (b.total D.subject) (caller_of (shown_by D l)) c in
+      let desk-same : desk_over now worker ≡ desk = ap₂ (λ (d : Shape) (u : Sub). let D : Desk Sub = record { worker = worker; shape = d; subject = u } in D)
+      x.same_shape x.same_subject in
+      subst (λ (t : TableStory Sub). P (desk_over t worker) t.log) (sym x.view) (subst (λ D. P D now.log) (sym desk-same) h)
 
-  all-cells : (n : Note) → AllNoted n shown → (v : ℕ) → v < object.shape.workers → note_in object.log worker v ≡ n
-  all-cells n cells v low = notes-for (λ f. f v ≡ n) (cells v (subst (λ (d : Shape). v < d.workers) object-shape low))
-
-  -- who leaves has kept its own cell, as a leave asks
-  leave-kept : KeptOwn shown → has_cell (place_of object.shape (trail_in worker (calls_of object.log)) worker) ≡ true
-      → note_in object.log worker worker ≡ Kept
-  leave-kept h k = notes-for (λ n. n worker ≡ Kept) (h (subst (λ p. has_cell p ≡ true) own-trail-place k))
-
-  pub leave-allows : (l : Leave) → KeptOwn shown → Allows (leave_act l)
-  leave-allows leave.Left h = leave-kept h
-  leave-allows (leave.Owe y) h = leave-kept h
-
-  pub install-allows : (id : ℕ) → IsReady (own_holding shown) → (own_holding shown).total ≡ b.total start.subject id
-      → AllNoted Fresh shown → Allows (Install id)
-  install-allows id ready set cells =
-      let totals = ap (λ u. b.total u id) table-subject ∙ sym set in (
-        all-cells Fresh cells,
-        subst (λ p. IsSome (held_at p).total × (b.total subject id ≡ (held_at p).total)) (sym own-trail-place)
-            (ready.has_total, totals),
-      )
-
-  pub release-allows : AllNoted note.Empty shown → Allows Release
-  release-allows cells = all-cells note.Empty cells
+  pub leave-allows : (l : Leave) → LeavesKept (caller_of shown) → Allows (leave_act l)
+  leave-allows leave.Left = call-allows Leaving
+  leave-allows (leave.Owe y) = call-allows Leaving
 
   -- ---- what a call makes of the seat
 

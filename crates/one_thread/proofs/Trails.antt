@@ -1,14 +1,10 @@
 -- What the trail of a worker of a one-thread form says of the history.
-use Rattle.std.proofs.Common.{◌≡◌, ◌≢◌, ℕ, ◌<◌, true, cond, List, [], ◌∷◌, ◌++◌, refl, sym, ap, ◌∙◌, eq-eqb, ne_eqb}
+use Rattle.std.proofs.Common.{◌≡◌, ◌≢◌, ℕ, cond, List, [], ◌∷◌, ◌++◌, refl, sym, ap, ◌∙◌, eq-eqb, ne_eqb}
 use native.Mathlib.Decide.{ℕ_discrete}
 use Rattle.slot_history.specs.declared.shape.Shape.{Shape}
 use Rattle.slot_history.specs.declared.act.Entry.{Entry}
-use Rattle.slot_history.specs.declared.place.Held.{Held}
-use Rattle.slot_history.specs.declared.place.Place.TheVariants.{Holding}
-use Rattle.slot_history.specs.Histories.{IsLegal, Begins, own_calls, place_of, ranges_of}
-use Rattle.slot_history.proofs.Holders.{holder-has-claims}
-use Rattle.slot_history.proofs.Own.{own-other, place-own, ranges-own}
-use Rattle.slot_history.specs.States.{finalised_id}
+use Rattle.slot_history.specs.Histories.{Begins, own_calls, place_of}
+use Rattle.slot_history.proofs.Own.{own-other, place-own}
 use Rattle.one_thread.specs.Seats.{trail_in}
 
 trail-mine : (e : Entry) (h : List Entry) (w : ℕ) → w ≡ e.worker → trail_in w (e ∷ h) ≡ e ∷ h
@@ -27,12 +23,9 @@ pub own-trail : (w : ℕ) (h : List Entry) → own_calls w (trail_in w h) ≡ ow
 own-trail w [] = refl
 own-trail w (e ∷ es) = own-trail-step w e es (own-trail w es) (ℕ_discrete w e.worker)
 
--- and so gives its place and its own ranges
+-- and so gives its place
 pub place-trail : (d : Shape) (w : ℕ) (h : List Entry) → place_of d (trail_in w h) w ≡ place_of d h w
 place-trail d w h = place-own d w (trail_in w h) ∙ ap (λ k. place_of d k w) (own-trail w h) ∙ sym (place-own d w h)
-
-pub ranges-trail : (d : Shape) (w id : ℕ) (h : List Entry) → ranges_of d w id (trail_in w h) ≡ ranges_of d w id h
-ranges-trail d w id h = ranges-own d w id (trail_in w h) ∙ ap (ranges_of d w id) (own-trail w h) ∙ sym (ranges-own d w id h)
 
 -- the trail is a beginning of the history
 begins-step : (w : ℕ) (e : Entry) (es : List Entry) → Begins es (trail_in w es) → Dec (w ≡ e.worker) → Begins (e ∷ es) (trail_in w (e ∷ es))
@@ -46,8 +39,3 @@ begins-step w e es ih (no other) = (
 pub begins : (w : ℕ) (h : List Entry) → Begins h (trail_in w h)
 begins w [] = ([], refl)
 begins w (e ∷ es) = begins-step w e es (begins w es) (ℕ_discrete w e.worker)
-
--- the trail of a holder after a finalisation has all claims of the task set that it finalises
-pub ranges-finalised : (d : Shape) (w s : ℕ) (k : Held) → k.again ≡ true → (h : List Entry) → IsLegal d h → w < d.workers → place_of d h w ≡ Holding s k
-    → (v : ℕ) → ranges_of d v (finalised_id k) (trail_in w h) ≡ ranges_of d v (finalised_id k) h
-ranges-finalised d w s k again h legal low at v = (holder-has-claims d w s k h (trail_in w h) legal (begins w h) low at again (sym (own-trail w h))).1 v

@@ -1,5 +1,5 @@
--- An exchange of a cell: what a worker sees of a moment, who may make the exchange, what a value that
--- is found or put has to fit, and what is known of cells after it.
+-- An exchange of a cell: what a worker sees of a moment, who may make the exchange, what a value
+-- that is found or put has to fit, and what is known of cells after it.
 use Rattle.std.specs.Prelude.{◌≡◌, ◌⊎◌, ℕ, ◌<◌, true, cond, eqb, ◌&&◌, List, Option}
 use Rattle.slot_history.specs.declared.place.Held.{Held}
 use Rattle.slot_history.specs.declared.place.Place.{Place}
@@ -12,9 +12,9 @@ use Rattle.slot_station.specs.Cells.{Moment, Cell, Caller, kept_note, fresh_note
 use Rattle.slot_station.specs.Cells.{FitsNext, FitsFinalised, FitsClaims}
 use Rattle.slot_station.specs.Desks.{Seen, own_place}
 
--- What a station shows is seen at this moment, of an object that serves this subject: the history is
--- legal, the worker's trail begins it and has all of its own calls, and its notes are those of the
--- moment.
+-- What a station shows is seen at this moment, of an object that serves this subject: the history
+-- is legal, the worker's trail begins it and has all of its own calls, and its notes are those of
+-- the moment.
 pub record IsSeenAt {O Sub : Type 0} (moment : Moment) (subject : Sub) (seen : Seen O Sub)
     : Type 0 where
   pub legal : IsLegal moment.shape moment.history
@@ -25,8 +25,8 @@ pub record IsSeenAt {O Sub : Type 0} (moment : Moment) (subject : Sub) (seen : S
   pub own : own_calls seen.desk.worker moment.history ≡ own_calls seen.desk.worker seen.trail
   pub notes : (v : ℕ) → moment.notes seen.desk.worker v ≡ seen.notes v
 
--- The worker may exchange the cell of v, of the slot at which it is: its own while it is inside, and
--- that of each worker while it holds the slot.
+-- The worker may exchange the cell of v, of the slot at which it is: its own while it is inside,
+-- and that of each worker while it holds the slot.
 abbrev pub MayExchange : Caller → ℕ → Type 0
 MayExchange caller v = ((v ≡ caller.worker) × (has_cell caller.place ≡ true))
     ⊎ ((s : ℕ) × (held : Held) × (caller.place ≡ Holding s held) × (v < caller.shape.workers))

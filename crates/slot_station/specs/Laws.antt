@@ -61,9 +61,9 @@ RepliesAllowed = (totals : ℕ → Option ℕ) (caller : Caller) (call : Call) (
     → call_of a ≡ call → CellsAllow totals caller call ↔ NotesAllow totals caller a
 
 -- What an exchange of the cell of v does, by the station of a worker that may make it. The cell is
--- one of the object's and with the worker, which has none at another slot. The worker finds what its
--- note says. If the value that it puts fits, the cell is as the new note says. What is known of the
--- other cells stays.
+-- one of the object's and with the worker, which has none at another slot. The worker finds what
+-- its note says. If the value that it puts fits, the cell is as the new note says. What is known of
+-- the other cells stays.
 module _ {B Sub : Type 0} (fits : Sub → ℕ → ℕ → List (ℕ × ℕ) → B → Type 0) (O : Type 0) where
   pub record ExchangeKeeps (moment : Moment) (subject : Sub) (seen : Seen O Sub) (v : ℕ)
       : Type 0 where

@@ -25,11 +25,11 @@ pub fn replies_allowed()
     ensures { RepliesAllowed }
 {}
 
-/// An exchange of a cell keeps what is known of every cell. It is said of what a station shows, whose
+/// An exchange of a cell keeps what is known of every cell. It is said of what a station shows: its
 /// trail need only begin the history, if it has all of its worker's own calls.
 ///
-/// The worker finds what its note says. If what it puts fits, the cell is as the new note says. What
-/// is known of the other cells stays.
+/// The worker finds what its note says. If what it puts fits, the cell is as the new note says.
+/// What is known of the other cells stays.
 pub fn exchanges_go_on<B: Fits, S: Station<B>>()
     ensures { ExchangesGoOn B.fits S.Origin }
 {}

@@ -1,14 +1,16 @@
-//! The calls that fill a slot and tell of it on the shared board.
+//! The calls that fill a slot and tell of it on the shared board, and the seat of a worker at it.
 //!
-//! It stands on `board_rule`, and on `slot_proto`, which reads a call's answer in the word that its
-//! step finds.
+//! It stands on `board_rule`, on `slot_proto`, which reads a call's answer in the word that its
+//! step finds, and on `board_visit` and `board_finish`, which have the other calls.
 //!
-//! The layers above may use one fact: each call has the contract of the call of this name of a
-//! `Station`, over a board and a pass that is of it.
+//! The layers above may use one fact: a `BoardSeat`, which is a board by reference and a pass of
+//! it, is a `Station`.
 #![tactic(auto)]
 
 pub mod fill;
+pub mod seat;
 pub mod tell;
 
 pub use fill::{admit, install, note_done, release, reserve, set_total};
+pub use seat::BoardSeat;
 pub use tell::{announce, arrivals, finished, take_change, take_return};

@@ -7,9 +7,9 @@ ghost use Rattle.slot_station.specs.Replies.{shut_act, mark_act, sweep_act, pay_
 ghost use Rattle.slot_station.specs.Tokens.{IsCoordinator, IsDebt, IsHolder, IsSpent, PayGives, ShutGives, SweepGives};
 ghost use Rattle.board_rule.specs.Passes.{IsPassOf, seen_of};
 
+use board_rule::atomic::{WordOperation, step};
 use board_rule::board::{Board, Pass};
 use board_rule::exchange::exchange_cell;
-use board_rule::steps::{compare_exchange, fetch_add, fetch_decrement, fetch_or};
 use slot_proto::reading::{mark_read, marked_at, next_to_ask, pay_read, shut_read, sweep_read};
 use slot_station::moves::{id_at, place_after, slot_at};
 use slot_station::reply::{Mark, Pay, Shut, Sweep};
@@ -36,9 +36,8 @@ pub fn shut<B: Fits, L: Ledger>(
     ensures first { Owns ShutGives (seen_of board.now pass.new) result }
     ensures ticks { steps.new ≡ steps.old + 1 }
 {
-    steps.tick();
     let state = Address::StateOf(slot_at(&pass.place));
-    let found = fetch_or::<Brand, B>(board, pass, state, 1);
+    let found = step::<Brand, B, L>(board, pass, state, WordOperation::SetBits(1), steps);
     let shut = shut_read(found, pass.worker, &pass.place, &board.shape);
     pass.place = place_after(&board.shape, &shut.act(), pass.place);
     drop(spent);
@@ -64,12 +63,14 @@ pub fn mark_next<B: Fits, L: Ledger>(
     ensures coordinator { Owns IsCoordinator (seen_of board.now pass.new) coordinator.new }
     ensures ticks { steps.new ≡ steps.old + 1 }
 {
-    steps.tick();
     let slot = slot_at(&pass.place);
     let other = Address::WorkerOf(next_to_ask(pass.worker, &pass.place));
     let there = at_word(slot);
-    let asks = marked(there, id_at(&pass.place));
-    let found = compare_exchange::<Brand, B>(board, pass, other, there, asks);
+    let asks = WordOperation::CompareExchange {
+        old: there,
+        new: marked(there, id_at(&pass.place)),
+    };
+    let found = step::<Brand, B, L>(board, pass, other, asks, steps);
     let mark = mark_read(found, slot);
     pass.place = place_after(&board.shape, &mark.act(), pass.place);
     coordinator.count(mark);
@@ -92,10 +93,9 @@ pub fn sweep<B: Fits, L: Ledger>(
     ensures holder { Owns SweepGives (seen_of board.now pass.new) result }
     ensures ticks { steps.new ≡ steps.old + 1 }
 {
-    steps.tick();
     let counter = Address::CounterOf(slot_at(&pass.place));
     let marks = marked_at(&pass.place);
-    let found = fetch_add::<Brand, B>(board, pass, counter, u64::from(marks));
+    let found = step::<Brand, B, L>(board, pass, counter, WordOperation::Add(u64::from(marks)), steps);
     let sweep = sweep_read(found, marks, pass.worker, &pass.place);
     pass.place = place_after(&board.shape, &sweep.act(), pass.place);
     drop(coordinator);
@@ -117,9 +117,8 @@ pub fn pay<B: Fits, L: Ledger>(
     ensures holder { Owns PayGives (seen_of board.now pass.new) result }
     ensures ticks { steps.new ≡ steps.old + 1 }
 {
-    steps.tick();
     let counter = Address::CounterOf(slot_at(&pass.place));
-    let found = fetch_decrement::<Brand, B>(board, pass, counter);
+    let found = step::<Brand, B, L>(board, pass, counter, WordOperation::Decrement, steps);
     let pay = pay_read(found, pass.worker, &pass.place);
     pass.place = place_after(&board.shape, &pay.act(), pass.place);
     drop(debt);
@@ -146,6 +145,5 @@ pub fn cell<B: Fits, L: Ledger>(
     ensures same { _holder.new ≡ _holder.old }
     ensures ticks { steps.new ≡ steps.old + 1 }
 {
-    steps.tick();
-    exchange_cell(board, pass, worker, new)
+    exchange_cell(board, pass, worker, new, steps)
 }

@@ -12,8 +12,8 @@ ghost use Rattle.slot_station.specs.Replies.{reserve_act, admit_act, admitted_ho
 ghost use Rattle.slot_station.specs.Tokens.{IsAnnouncer, IsHolder, ReserveGives};
 ghost use Rattle.board_rule.specs.Passes.{IsPassOf, seen_of};
 
+use board_rule::atomic::{WordOperation, step};
 use board_rule::board::{Board, Pass};
-use board_rule::steps::{compare_exchange, fetch_add, store};
 use slot_history::act::Act;
 use slot_proto::reading::{admit_read, reserve_read};
 use slot_station::moves::{held_at, place_after, slot_at};
@@ -42,8 +42,8 @@ pub fn reserve<B: Fits, L: Ledger>(
     ensures holder { Owns ReserveGives (seen_of board.now pass.new) result }
     ensures ticks { steps.new ≡ steps.old + 1 }
 {
-    steps.tick();
-    let found = compare_exchange::<Brand, B>(board, pass, Address::StateOf(s), 0, 1);
+    let takes = WordOperation::CompareExchange { old: 0, new: 1 };
+    let found = step::<Brand, B, L>(board, pass, Address::StateOf(s), takes, steps);
     let reserve = reserve_read(found, pass.worker, s);
     pass.place = place_after(&board.shape, &reserve.act(s), pass.place);
     reserve
@@ -68,9 +68,12 @@ pub fn admit<B: Fits, L: Ledger>(
     ensures holder { Owns IsHolder (seen_of board.now pass.new) holder.new }
     ensures ticks { steps.new ≡ steps.old + 1 }
 {
-    steps.tick();
     let due = u64::from(q);
-    let found = compare_exchange::<Brand, B>(board, pass, Address::ArrivalsAt, due, due + 1);
+    let admits = WordOperation::CompareExchange {
+        old: due,
+        new: due + 1,
+    };
+    let found = step::<Brand, B, L>(board, pass, Address::ArrivalsAt, admits, steps);
     let admit = admit_read(found, q);
     pass.place = place_after(&board.shape, &admit.act(q), pass.place);
     holder.admit(q, admit);
@@ -97,8 +100,8 @@ pub fn note_done<B: Fits, L: Ledger>(
     ensures holder { Owns IsHolder (seen_of board.now pass.new) _holder.new }
     ensures ticks { steps.new ≡ steps.old + 1 }
 {
-    steps.tick();
-    fetch_add::<Brand, B>(board, pass, Address::FinishedAt, u64::from(k));
+    let adds = WordOperation::Add(u64::from(k));
+    step::<Brand, B, L>(board, pass, Address::FinishedAt, adds, steps);
     pass.place = place_after(&board.shape, &Act::NoteDone(k), pass.place);
 }
 
@@ -121,9 +124,8 @@ pub fn set_total<B: Fits, L: Ledger>(
     ensures holder { Owns IsHolder (seen_of board.now pass.new) _holder.new }
     ensures ticks { steps.new ≡ steps.old + 1 }
 {
-    steps.tick();
     let cursor = Address::CursorOf(slot_at(&pass.place));
-    store::<Brand, B>(board, pass, cursor, cursor_word(total, 0));
+    step::<Brand, B, L>(board, pass, cursor, WordOperation::Store(cursor_word(total, 0)), steps);
     pass.place = place_after(&board.shape, &Act::SetTotal(total), pass.place);
 }
 
@@ -147,7 +149,6 @@ pub fn install<B: Fits, L: Ledger>(
     ensures announcer { Owns IsAnnouncer (seen_of board.now pass.new) result }
     ensures ticks { steps.new ≡ steps.old + 1 }
 {
-    steps.tick();
     let announcer = Announcer {
         worker: pass.worker,
         slot: slot_at(&pass.place),
@@ -156,7 +157,7 @@ pub fn install<B: Fits, L: Ledger>(
         again: held_at(&pass.place).again,
     };
     let state = Address::StateOf(slot_at(&pass.place));
-    store::<Brand, B>(board, pass, state, open_word(id));
+    step::<Brand, B, L>(board, pass, state, WordOperation::Store(open_word(id)), steps);
     pass.place = place_after(&board.shape, &Act::Install(id), pass.place);
     drop(holder);
     announcer
@@ -179,9 +180,8 @@ pub fn release<B: Fits, L: Ledger>(
         (seen_of board.now pass.old) (seen_of board.now pass.new) }
     ensures ticks { steps.new ≡ steps.old + 1 }
 {
-    steps.tick();
     let state = Address::StateOf(slot_at(&pass.place));
-    store::<Brand, B>(board, pass, state, 0);
+    step::<Brand, B, L>(board, pass, state, WordOperation::Store(0), steps);
     pass.place = place_after(&board.shape, &Act::Release, pass.place);
     drop(holder);
 }

@@ -1,5 +1,5 @@
 //! The calls of a worker that tells of a slot, takes its notices, or asks for the two numbers. Each
-//! but `told_all` makes one atomic step; none takes memory or waits.
+//! makes one atomic step, takes no memory and never waits.
 ghost use Rattle.std.specs.Prelude.{◌≡◌, ◌+◌, ◌<◌};
 ghost use Rattle.slot_history.specs.declared.act.Act.TheVariants.{Arrivals, Finished, Announce, TakeReturn, TakeChange};
 ghost use Rattle.slot_history.specs.declared.shape.TheConstants.{PARTS};
@@ -8,8 +8,8 @@ ghost use Rattle.slot_station.specs.Replies.{NamesSlots};
 ghost use Rattle.slot_station.specs.Tokens.{IsAnnouncer, IsDone};
 ghost use Rattle.board_rule.specs.Passes.{IsPassOf, seen_of};
 
+use board_rule::atomic::{WordOperation, step};
 use board_rule::board::{Board, Pass};
-use board_rule::steps::{fetch_or, load, swap};
 use slot_history::act::Act;
 use slot_proto::reading::mask_told;
 use slot_station::moves::{place_after, slot_at};
@@ -40,10 +40,9 @@ pub fn announce<B: Fits, L: Ledger>(
         → IsDone (seen_of board.now pass.new) announcer.new }
     ensures ticks { steps.new ≡ steps.old + 1 }
 {
-    steps.tick();
     let mask = mask_told(&pass.place);
     let bit = 1 << (slot_at(&pass.place) % 64);
-    fetch_or::<Brand, B>(board, pass, mask, bit);
+    step::<Brand, B, L>(board, pass, mask, WordOperation::SetBits(bit), steps);
     pass.place = place_after(&board.shape, &Act::Announce, pass.place);
     announcer.told += 1;
 }
@@ -63,9 +62,8 @@ pub fn take_return<B: Fits, L: Ledger>(
     ensures slots { NamesSlots (seen_of board.now pass.old).desk.shape.slots part result }
     ensures ticks { steps.new ≡ steps.old + 1 }
 {
-    steps.tick();
     let mask = Address::ReturnOf(pass.worker, part);
-    swap::<Brand, B>(board, pass, mask, 0)
+    step::<Brand, B, L>(board, pass, mask, WordOperation::Swap(0), steps)
 }
 
 /// `Station::take_change`: a swap of an own change mask with 0.
@@ -83,9 +81,8 @@ pub fn take_change<B: Fits, L: Ledger>(
     ensures slots { NamesSlots (seen_of board.now pass.old).desk.shape.slots part result }
     ensures ticks { steps.new ≡ steps.old + 1 }
 {
-    steps.tick();
     let mask = Address::ChangeOf(pass.worker, part);
-    swap::<Brand, B>(board, pass, mask, 0)
+    step::<Brand, B, L>(board, pass, mask, WordOperation::Swap(0), steps)
 }
 
 /// `Station::arrivals`: a load of the arrivals.
@@ -100,8 +97,7 @@ pub fn arrivals<B: Fits, L: Ledger>(
         (seen_of board.now pass.old) (seen_of board.now pass.new) }
     ensures ticks { steps.new ≡ steps.old + 1 }
 {
-    steps.tick();
-    load::<Brand, B>(board, pass, Address::ArrivalsAt) as u32
+    step::<Brand, B, L>(board, pass, Address::ArrivalsAt, WordOperation::Load, steps) as u32
 }
 
 /// `Station::finished`: a load of the number of task sets noted as done.
@@ -116,6 +112,5 @@ pub fn finished<B: Fits, L: Ledger>(
         (seen_of board.now pass.old) (seen_of board.now pass.new) }
     ensures ticks { steps.new ≡ steps.old + 1 }
 {
-    steps.tick();
-    load::<Brand, B>(board, pass, Address::FinishedAt) as u32
+    step::<Brand, B, L>(board, pass, Address::FinishedAt, WordOperation::Load, steps) as u32
 }

@@ -1,6 +1,5 @@
 -- A step that is a call is allowed by the extension law.
 use Rattle.std.proofs.Common.{◌≡◌, ℕ, List, ◌∷◌, Option, Some, slice_index, refl, sym, ◌∙◌, subst}
-use Rattle.atomic_table.specs.Table as table
 use Rattle.atomic_table.specs.Table.{Me, Allows, keeps}
 use Rattle.slot_history.specs.declared.act.Act.{Act}
 use Rattle.slot_history.specs.declared.act.Entry.{Entry}
@@ -11,7 +10,7 @@ use Rattle.slot_words.specs.Addresses.{index}
 use Rattle.slot_words.specs.Steps.{address_of, change_of, answer_of}
 use Rattle.board_rule.specs.declared.view.View.{View}
 use Rattle.board_rule.specs.Rule.{Terms, RunningRule, known_after}
-use Rattle.board_rule.specs.Steps.{MayStep, HasCalled, IsCall}
+use Rattle.board_rule.specs.Steps.{MayStep, HasCalled}
 use Rattle.board_rule.specs.Views.{number, place_in, grown}
 use Rattle.board_rule.proofs.Extends.{extended}
 
@@ -43,11 +42,11 @@ module _ {B Sub : Type 0} (terms : Terms B Sub) (slots i : ℕ) (v : View Sub) (
       )
 
   -- the same, as the caller of a step owes it
-  pub call-allowed : (word : ℕ) → word ≡ at_word → (f : ℕ → ℕ) → ((n : ℕ) → f n ≡ change_of c p n) → (s : table.Step (Option B))
+  pub call-allowed : (word : ℕ) → word ≡ at_word → (f : ℕ → ℕ) → ((n : ℕ) → f n ≡ change_of c p n)
       → (found : ℕ → ℕ) → ((n : ℕ) → answer_of c p (found n) ≡ answer_of c p n)
-      → Allows (RunningRule terms) slots i (v, cells) word f (λ n. IsCall terms.total c s (v, cells) (found n))
-  call-allowed word is f changes s found finds =
-      let then : ℕ → Me (Option B) (View Sub) → Type 0 = λ n. IsCall terms.total c s (v, cells) (found n) in
+      → Allows (RunningRule terms) slots i (v, cells) word f (λ n. HasCalled terms.total (answer_of c p (found n)) (v, cells))
+  call-allowed word is f changes found finds =
+      let then : ℕ → Me (Option B) (View Sub) → Type 0 = λ n. HasCalled terms.total (answer_of c p (found n)) (v, cells) in
       let f_is : change_of c p ≡ f = λ j n. sym (changes n) j in
       subst (λ j. Allows (RunningRule terms) slots i (v, cells) j f then) (sym is)
       (subst (λ g. Allows (RunningRule terms) slots i (v, cells) at_word g then) f_is

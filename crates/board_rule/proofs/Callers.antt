@@ -14,7 +14,7 @@ use Rattle.slot_history.specs.Steps.{moved}
 use Rattle.slot_history.specs.Histories.{place_of}
 use Rattle.slot_history.proofs.Own.{calls-go-on}
 use Rattle.slot_station.specs.declared.token.Announcer.{Announcer}
-use Rattle.slot_station.specs.Desks.{Makes, Owns, own_place}
+use Rattle.slot_station.specs.Desks.{Makes, Owns, Seen, own_place}
 use Rattle.slot_station.specs.Places.{IsCounted}
 use Rattle.slot_station.specs.Tokens.{IsAnnouncer, IsDone, last_opened}
 use Rattle.slot_station.proofs.Follows.{place-after}
@@ -40,30 +40,28 @@ pass-counted board p ours = ∥∥₁_elim ours.10 (counted-prop p.place) (λ le
 pub slot-read : {B Sub : Type 0} → (board : Board B Sub) (s word : ℕ) → s < (shape_of board).slots → (s < MOST_SLOTS → slot_in word ≡ s) → slot_in word ≡ s
 slot-read board s word low reads = reads (let most = (subst IsShape (sym board.shape_is) board.bounded).slots.1 in omega arith)
 
-module _ {B Sub : Type 0} (board : Board B Sub) (old mid : Pass B Sub) (ours : IsPassOf board old) {b : Act} (st : HasStepped board b old mid) where
+-- the same call
+pub made-as : {O Sub : Type 0} {total : Sub → ℕ → Option ℕ} {a b : Act} {x y : Seen O Sub} → b ≡ a → Makes total a x y → Makes total b x y
+made-as {total = total} {x = x} {y = y} is m = subst (λ c. Makes total c x y) (sym is) m
+
+module _ {B Sub : Type 0} {board : Board B Sub} {old mid : Pass B Sub} {a : Act} (st : HasStepped board a old mid) where
   abbrev d : Shape
   d = shape_of board
 
-  pub counted : IsCounted mid.place
-  counted = subst IsCounted (sym st.place) (pass-counted board old ours)
-
   -- the pass, once its place is moved
-  pub placed : {a : Act} → a ≡ b → (q : Place) → q ≡ moved board.shape a mid.place → IsSeatOf board mid.worker q mid.seat
-  placed is q moves = subst (λ m. IsSeatOf board m q mid.seat) (sym st.worker)
-      (subst (λ r. IsSeatOf board old.worker r mid.seat) (sym (moves ∙ ap₂ (moved board.shape) is st.place)) st.seat)
+  pub placed : {b : Act} → b ≡ a → {q : Place} → q ≡ moved board.shape b mid.place → IsSeatOf board mid.worker q mid.seat
+  placed is moves = subst (λ q. IsSeatOf board mid.worker q mid.seat) (sym (moves ∙ ap (λ b. moved board.shape b mid.place) is)) st.seat
 
-  module _ {total : Sub → ℕ → Option ℕ} {a : Act} (m : Makes total a (seen_of board old) (seen_of board mid)) where
-    pub new-place : own_place (seen_of board mid) ≡ moved d a (own_place (seen_of board old))
-    new-place = place-after m
+  -- what a reply brings, by the place to which the call moves its worker
+  pub brings : {b : Act} → b ≡ a → {X : Type 0} → (Is : Shape → ℕ → Place → X → Type 0) (x : X) → Is d mid.worker (moved d b mid.place) x
+      → Owns Is (seen_of board mid) x
+  brings is Is x gives = subst (λ q. Is d mid.worker q x)
+      (ap (λ b. moved d b mid.place) is ∙ ap (λ e. moved e a mid.place) board.shape_is ∙ sym st.seat.6) gives
 
-    -- what a reply brings, by the place to which the call moves its worker
-    pub brings : {X : Type 0} → (Is : Shape → ℕ → Place → X → Type 0) (x : X) → Is d mid.worker (moved d a mid.place) x → Owns Is (seen_of board mid) x
-    brings Is x is = subst (λ q. Is d mid.worker q x) (sym (new-place ∙ ap (moved d a) (ours.6 ∙ sym st.place))) is
-
-    -- a token of its worker, by the place after the call
-    pub token-of : {X : Type 0} → (Is : Shape → ℕ → Place → X → Type 0) (x : X) → Is d old.worker (own_place (seen_of board mid)) x
-        → Owns Is (seen_of board mid) x
-    token-of Is x is = subst (λ w. Is d w (own_place (seen_of board mid)) x) (sym st.worker) is
+  -- a token of its worker, by the place after the call
+  pub token-of : {X : Type 0} → (Is : Shape → ℕ → Place → X → Type 0) (x : X) → Is d old.worker (own_place (seen_of board mid)) x
+      → Owns Is (seen_of board mid) x
+  token-of Is x is = subst (λ w. Is d w (own_place (seen_of board mid)) x) (sym st.worker) is
 
   -- an announcer that told every worker
   pub told-done : {total : Sub → ℕ → Option ℕ} → Makes total Announce (seen_of board old) (seen_of board mid) → (x : Announcer)
@@ -74,7 +72,7 @@ module _ {B Sub : Type 0} (board : Board B Sub) (old mid : Pass B Sub) (ours : I
       let found = (calls-go-on d w Announce old.seat.me.0.trail mid.seat.me.0.trail m.called).allowed in
       let at : place_of d found.0 w ≡ Announcing x.slot x.again x.told = found.5 ∙ ok.place in
       let free : own_place (seen_of board mid) ≡ Free =
-      new-place m ∙ ap (moved d Announce) ok.place ∙ ap (λ c. cond c Free (Announcing x.slot x.again (x.told + 1))) (eq-eqb (x.told + 1) d.workers all) in
+      place-after m ∙ ap (moved d Announce) ok.place ∙ ap (λ c. cond c Free (Announcing x.slot x.again (x.told + 1))) (eq-eqb (x.told + 1) d.workers all) in
       let opened : last_opened d w mid.seat.me.0.trail ≡ Some (x.slot, x.again) =
       ap (last_opened d w) found.1
       ∙ ap (λ c. cond (c && false) (Some (slot_of (place_of d found.0 w), (held_at (place_of d found.0 w)).again)) (last_opened d w found.0)) (eq-eqb w w refl)

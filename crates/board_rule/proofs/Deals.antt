@@ -6,7 +6,7 @@ use Rattle.slot_history.specs.declared.place.Place.TheVariants.{Free}
 use Rattle.board_rule.specs.declared.board.Board.{Board}
 use Rattle.board_rule.specs.declared.board.Pass.{Pass}
 use Rattle.board_rule.specs.declared.view.View.{View}
-use Rattle.board_rule.specs.Lives.{IsFresh, AreAll, AreDone, AreFresh, IsUndealt}
+use Rattle.board_rule.specs.Lives.{IsUnused, AreAll, AreFree, AreUnused, IsUndealt}
 use Rattle.board_rule.specs.Passes.{shape_of, subject_of, IsSeatOf}
 use Rattle.board_rule.specs.Rule.{RunningRule, terms_of}
 use Rattle.board_rule.specs.Views.{numbers_from, fresh_view, kept_part, dealt_part}
@@ -51,10 +51,10 @@ module _ {B Sub : Type 0} (b : Board B Sub) (k n m : ℕ) (s : Seat (Option B) (
 
 -- one pass more
 pub deal-more : {B Sub : Type 0} → (b : Board B Sub) (k : ℕ) (old middle new : List (Pass B Sub)) (p : Pass B Sub) → new ≡ middle ++ p ∷ [] → middle ≡ old
-    → AreFresh b old → length old ≡ k → IsFresh b k p → AreFresh b new
+    → AreUnused b old → length old ≡ k → IsUnused b k p → AreUnused b new
 deal-more b k old middle new p e same each count fresh j q at = ⊎_elim
     (λ r. each j q r)
-    (λ r. subst (λ z. IsFresh b j z) r.1 (subst (λ i. IsFresh b i p) (sym (r.0 ∙ count)) fresh))
+    (λ r. subst (λ z. IsUnused b j z) r.1 (subst (λ i. IsUnused b i p) (sym (r.0 ∙ count)) fresh))
     (get-snoc old p j q (rw (← same, ← e) at))
 
 -- passes that are dealt and not used yet
@@ -64,8 +64,8 @@ there [] k low = absurd (omega arith)
 there (x ∷ xs) zero low = (x, refl)
 there (x ∷ xs) (suc k) low = there xs k (omega arith)
 
-pub fresh-done : {B Sub : Type 0} → (b : Board B Sub) (ps : List (Pass B Sub)) → AreFresh b ps → AreDone b ps
+pub fresh-done : {B Sub : Type 0} → (b : Board B Sub) (ps : List (Pass B Sub)) → AreUnused b ps → AreFree b ps
 fresh-done b ps fresh k p at = let f = fresh k p at in record { of_board = f.of_board; place = f.place }
 
-pub fresh-all : {B Sub : Type 0} → (b : Board B Sub) (ps : List (Pass B Sub)) → length ps ≡ (shape_of b).workers → AreFresh b ps → AreAll b ps
+pub fresh-all : {B Sub : Type 0} → (b : Board B Sub) (ps : List (Pass B Sub)) → length ps ≡ (shape_of b).workers → AreUnused b ps → AreAll b ps
 fresh-all b ps long fresh w low = let r = there ps w (omega arith) in (w, r.0, r.1, (fresh w r.0 r.1).worker)

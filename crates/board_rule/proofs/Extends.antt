@@ -36,7 +36,7 @@ use Rattle.board_rule.specs.declared.view.View.{View}
 use Rattle.board_rule.specs.Rule.{Terms, Knowledge, IsViewOf, IsKnown, CellIs, known_after, moment_of, total_over}
 use Rattle.board_rule.specs.Steps.{MayStep}
 use Rattle.board_rule.specs.Views.{times, number, place_in, note_of, grown}
-use Rattle.board_rule.proofs.Asked.{cells-same}
+use Rattle.board_rule.proofs.SameCaller.{cells-same}
 use Rattle.board_rule.proofs.Lists.{total-set, one-of, two-of, times-head, cons-head, one-at-most}
 
 module _ {B Sub : Type 0} (terms : Terms B Sub) (known : Knowledge) (st : table.State (Option B) (View Sub)) (ok : IsKnown terms known st) where

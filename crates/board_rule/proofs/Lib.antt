@@ -1,5 +1,4 @@
 pub mod Allowed
-pub mod Asked
 pub mod Callers
 pub mod Cells
 pub mod Copies
@@ -10,5 +9,7 @@ pub mod Lists
 pub mod Meets
 pub mod Moves
 pub mod Opens
+pub mod Operands
+pub mod SameCaller
 pub mod Seats
 pub mod Stepping

@@ -7,15 +7,15 @@ use Rattle.atomic_table.specs.declared.shared.Seat.{Seat}
 use Rattle.atomic_table.proofs.Lists.{at_longer}
 use Rattle.slot_history.specs.declared.shape.Shape.{Shape}
 use Rattle.slot_history.specs.declared.act.Entry.{Entry}
-use Rattle.slot_history.specs.Histories.{own_calls, Begins}
+use Rattle.slot_history.specs.Histories.{own_calls, Begins, IsOfTotals}
 use Rattle.slot_history.proofs.Beginnings.{whole-by-own-calls}
 use Rattle.slot_words.specs.Laws.{AreWordsOf}
 use Rattle.board_rule.specs.declared.board.Board.{Board}
 use Rattle.board_rule.specs.declared.board.Pass.{Pass}
 use Rattle.board_rule.specs.declared.view.View.{View}
 use Rattle.board_rule.specs.Ends.{HasJoined, IsGathered}
-use Rattle.board_rule.specs.Lives.{AreAll, AreDone, IsDone, IsJoined, Ended}
-use Rattle.board_rule.specs.Passes.{shape_of}
+use Rattle.board_rule.specs.Lives.{AreAll, AreFree, IsFreePass, IsJoined, Ended}
+use Rattle.board_rule.specs.Passes.{shape_of, subject_of}
 use Rattle.board_rule.specs.Rule.{Knowledge, IsViewOf, RunningRule, Terms, terms_of}
 use Rattle.board_rule.specs.Views.{times, number, joined, spent}
 use Rattle.board_rule.proofs.Lists.{headed, no-items, times-head, times-append}
@@ -40,13 +40,13 @@ module _ {Sub : Type 0} (v u : View Sub) (w : ℕ) (t : List Entry) where
   still-joined r = record { there = (let a = times-append w v.numbers u.numbers in let b = r.there in omega arith); knows = inl (still-knows r.knows) }
 
 module _ {B Sub : Type 0} (b : Board B Sub) where
-  own-there : (p : Pass B Sub) → IsDone b p → 0 < times p.worker p.seat.me.0.numbers
+  own-there : (p : Pass B Sub) → IsFreePass b p → 0 < times p.worker p.seat.me.0.numbers
   own-there p done =
       let l = headed p.seat.me.0.numbers p.worker done.of_board.2 done.of_board.3 in
       subst (λ n. 0 < times p.worker n) (sym l.1) (times-head p.worker l.0)
 
   pub join-step : (total : Sub → ℕ → Option ℕ) (fits : Sub → ℕ → ℕ → List (ℕ × ℕ) → B → Type 0) (s : Seat (Option B) (View Sub)) (p : Pass B Sub)
-      → s.table_id ≡ b.table.shared.table_id → 0 < length s.me.0.numbers → IsDone b p
+      → s.table_id ≡ b.table.shared.table_id → 0 < length s.me.0.numbers → IsFreePass b p
       → (s.table_id ≡ b.table.shared.table_id) × (p.seat.table_id ≡ b.table.shared.table_id) × (p.seat.me.1 ≡ []) × (0 < b.table.shared.table_id.words)
       × Joins (RunningRule (terms_of total fits b.table.shared.key)) s.id s.me.0 p.seat.id p.seat.me.0 (joined s.me.0 p.seat.me.0) spent
   join-step total fits s p same any done =
@@ -62,11 +62,11 @@ module _ {B Sub : Type 0} (b : Board B Sub) where
             (place-is b p.worker p.place p.seat ours ∙ done.place),
       )
 
-  pub done-mid : (ps new done : List (Pass B Sub)) (p : Pass B Sub) → AreDone b ps → ps ≡ new ++ p ∷ done → IsDone b p
+  pub done-mid : (ps new done : List (Pass B Sub)) (p : Pass B Sub) → AreFree b ps → ps ≡ new ++ p ∷ done → IsFreePass b p
   done-mid ps new done p each e = each (length new) p (rw e (get-mid new p done))
 
   -- one more is joined
-  pub gathered-more : (s t : Seat (Option B) (View Sub)) (p : Pass B Sub) (done : List (Pass B Sub)) → IsGathered b done s → IsDone b p
+  pub gathered-more : (s t : Seat (Option B) (View Sub)) (p : Pass B Sub) (done : List (Pass B Sub)) → IsGathered b done s → IsFreePass b p
       → t.table_id ≡ s.table_id → t.me ≡ (joined s.me.0 p.seat.me.0, s.me.1) → IsGathered b (p ∷ done) t
   gathered-more s t p done g free id is =
       let view : t.me.0 ≡ joined s.me.0 p.seat.me.0 = ap (λ (m : Me (Option B) (View Sub)). m.0) is in record {
@@ -83,7 +83,7 @@ module _ {B Sub : Type 0} (b : Board B Sub) where
       })
       in_ (suc k) q at = still-joined s.me.0 p.seat.me.0 q.worker q.seat.me.0.trail (g.each k q at)
 
-  pub gathered-first : (p : Pass B Sub) → IsDone b p → IsGathered b (p ∷ []) p.seat
+  pub gathered-first : (p : Pass B Sub) → IsFreePass b p → IsGathered b (p ∷ []) p.seat
   gathered-first p free = record { table = free.of_board.0; some_number = free.of_board.2; each = in_ }
     where
       in_ : (k : ℕ) (q : Pass B Sub) → slice_get (p ∷ []) k ≡ Some q → HasJoined p.seat.me.0 q.worker q.seat.me.0.trail
@@ -116,7 +116,7 @@ module _ {B Sub : Type 0} (b : Board B Sub) where
         )
 
     pub finished : (ps : List (Pass B Sub)) (s : Seat (Option B) (View Sub)) (end : Ended) (ws : List ℕ) (xs : List (Option B)) → AreAll b ps
-        → IsGathered b ps s → Final (Seen (RunningRule terms) s.id s.me.0) ws xs → end.words ≡ ws → end.history ≡ s.me.0.trail → IsJoined b ps end
+        → IsGathered b ps s → Final (Seen (RunningRule terms) s.id s.me.0) ws xs → end.words ≡ ws → end.history ≡ s.me.0.trail → IsJoined b total ps end
     finished ps s end ws xs all g (st, ((known, ok), at), words, count, values) copied shows =
         let is = ok.views s.id s.me.0 at in
         let v : View Sub = s.me.0 in
@@ -128,6 +128,7 @@ module _ {B Sub : Type 0} (b : Board B Sub) where
         → Begins known.trail p.seat.me.0.trail × (own_calls p.worker known.trail ≡ own_calls p.worker p.seat.me.0.trail) =
         λ k p there. known-of known v p.worker p.seat.me.0.trail g.some_number is (g.each k p there).knows in record {
           words_are = subst (λ h. AreWordsOf (shape_of b) h end.words) whole (subst (AreWordsOf (shape_of b) known.trail) (words ∙ sym copied) ok.words_are);
+          of_subject = subst (IsOfTotals (total (subject_of b)) (shape_of b)) whole ok.of_subject;
           begins = λ k p there. subst (λ h. Begins h p.seat.me.0.trail) whole (each k p there).0;
           own = λ k p there. subst (λ h. own_calls p.worker h ≡ own_calls p.worker p.seat.me.0.trail) whole (each k p there).1;
         }

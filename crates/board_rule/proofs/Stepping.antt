@@ -4,7 +4,6 @@ use Rattle.std.specs.Prelude.{is_some}
 use Rattle.std.proofs.Math.Logic.{∥∥₁_elim}
 use Rattle.std.proofs.Props.{props}
 use mathlib.Core.Bool.{true≢false}
-use Rattle.atomic_table.specs.Table as table
 use Rattle.atomic_table.specs.Table.{Me, Allows}
 use Rattle.atomic_table.specs.declared.shared.Seat.{Seat}
 use Rattle.slot_history.specs.declared.shape.Shape.{Shape}
@@ -26,11 +25,10 @@ use Rattle.slot_words.proofs.Addresses.{index-low}
 use Rattle.slot_words.proofs.Law.{step-of}
 use Rattle.slot_words.proofs.Numbers as numbers
 use Rattle.board_rule.specs.declared.board.Board.{Board}
-use Rattle.board_rule.specs.declared.board.Pass.{Pass}
 use Rattle.board_rule.specs.declared.view.View.{View}
-use Rattle.board_rule.specs.Passes.{shape_of, subject_of, seen_at, IsSeatOf, IsPassOf, HasStepped}
+use Rattle.board_rule.specs.Passes.{shape_of, subject_of, seen_at, IsSeatOf}
 use Rattle.board_rule.specs.Rule.{Terms, RunningRule, terms_of}
-use Rattle.board_rule.specs.Steps.{MayMake, MayStep, IsCall}
+use Rattle.board_rule.specs.Steps.{MayMake, MayStep, HasCalled}
 use Rattle.board_rule.specs.Views.{number, place_in, shown_in, grown}
 use Rattle.board_rule.proofs.Allowed.{call-allowed}
 use Rattle.board_rule.proofs.Lists.{no-items, headed}
@@ -91,10 +89,9 @@ module _ {B Sub : Type 0} (board : Board B Sub) (w : ℕ) (p : Place) (seat : Se
     -- what the step owes, on the word of this address
     pub owes : (a : Address) → a ≡ address_of w c p → (word : ℕ) → word ≡ index board.shape a
         → (f : ℕ → ℕ) → ((n : ℕ) → f n ≡ change_of c p n) → (found : ℕ → ℕ) → ((n : ℕ) → answer_of c p (found n) ≡ answer_of c p n)
-        → (s : table.Step (Option B))
         → (seat.table_id ≡ board.table.shared.table_id) × (word < board.table.shared.table_id.words)
-        × Allows (RunningRule terms) board.table.shared.table_id.slots seat.id seat.me word f (λ n. IsCall total c s seat.me (found n))
-    owes a on word is f changes found finds s =
+        × Allows (RunningRule terms) board.table.shared.table_id.slots seat.id seat.me word f (λ n. HasCalled total (answer_of c (place_in v) (found n)) seat.me)
+    owes a on word is f changes found finds =
         let at : (P : Place → Type 0) → P p → P (place_in v) = λ P h. subst P (sym place-in) h in
         let named : word ≡ index d (address_of w c p) = is ∙ ap₂ index (sym board.shape_is) on in
         let low : index d (address_of w c p) < count_of_words d = ∥∥₁_elim ours.10 (hlevel (props))
@@ -106,13 +103,13 @@ module _ {B Sub : Type 0} (board : Board B Sub) (w : ℕ) (p : Place) (seat : Se
           subst (λ n. word < n) (sym words) (subst (λ n. n < count_of_words d) (sym named) low),
           call-allowed terms board.table.shared.table_id.slots seat.id v seat.me.1 c may-step word
               (subst (λ m. word ≡ index d (address_of m c (place_in v))) (sym ours.3) (at (λ q. word ≡ index d (address_of w c q)) named))
-              f (at (λ q. (n : ℕ) → f n ≡ change_of c q n) changes) s found (at (λ q. (n : ℕ) → answer_of c q (found n) ≡ answer_of c q n) finds),
+              f (at (λ q. (n : ℕ) → f n ≡ change_of c q n) changes) found (at (λ q. (n : ℕ) → answer_of c q (found n) ≡ answer_of c q n) finds),
         )
 
   -- ---- the seat after it, which knows and holds `new`
 
-  module _ (total : Sub → ℕ → Option ℕ) (c : Call) (n : ℕ) (s : table.Step (Option B)) (new : Me (Option B) (View Sub))
-      (told : IsCall total c s seat.me n new) where
+  module _ (total : Sub → ℕ → Option ℕ) (c : Call) (n : ℕ) (new : Me (Option B) (View Sub))
+      (told : HasCalled total (answer_of c (place_in v) n) seat.me new) where
     abbrev a : Act
     a = answer_of c p n
 
@@ -160,15 +157,3 @@ module _ {B Sub : Type 0} (board : Board B Sub) (w : ℕ) (p : Place) (seat : Se
           notes = λ u low. ap (λ (z : View Sub). note_in z.own w u) (view ∙ grows)
               ∙ ap (λ b. cond b (noted a w u (note_in v.own w u)) (note_in v.own w u)) (eq-eqb w w refl);
         }
-
--- ---- a pass after its step, whose place is still to be moved
-
-module _ {B Sub : Type 0} (board : Board B Sub) (old new : Pass B Sub) where
-  pub stepped : (total : Sub → ℕ → Option ℕ) (ours : IsPassOf board old) (c : Call) (n : ℕ) (s : table.Step (Option B))
-      (told : IsCall total c s old.seat.me n new.seat.me)
-      → new.seat.table_id ≡ old.seat.table_id → new.worker ≡ old.worker → new.place ≡ old.place → HasStepped board (answer_of c old.place n) old new
-  stepped total ours c n s told id worker place = record {
-    worker = worker;
-    place = place;
-    seat = seat-after board old.worker old.place old.seat ours total c n s new.seat.me told new.seat id refl;
-  }

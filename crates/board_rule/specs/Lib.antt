@@ -4,6 +4,7 @@ pub mod Cells
 pub mod Ends
 pub mod Laws
 pub mod Lives
+pub mod Operations
 pub mod Passes
 pub mod Rule
 pub mod Steps

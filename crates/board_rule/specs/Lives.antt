@@ -3,7 +3,7 @@ use Rattle.std.specs.Prelude.{◌≡◌, ℕ, ◌<◌, List, [], Option, Some, s
 use Rattle.atomic_table.specs.declared.shared.Seat.{Seat}
 use Rattle.slot_history.specs.declared.act.Entry.{Entry}
 use Rattle.slot_history.specs.declared.place.Place.TheVariants.{Free}
-use Rattle.slot_history.specs.Histories.{Begins, own_calls}
+use Rattle.slot_history.specs.Histories.{Begins, IsOfTotals, own_calls}
 use Rattle.slot_words.specs.Laws.{AreWordsOf}
 use Rattle.board_rule.specs.declared.board.Board.{Board}
 use Rattle.board_rule.specs.declared.board.Pass.{Pass}
@@ -19,34 +19,37 @@ pub record Ended : Type 0 where
 
 module _ {B Sub : Type 0} (board : Board B Sub) where
   -- the pass of the worker w, which has done nothing
-  pub record IsFresh (w : ℕ) (pass : Pass B Sub) : Type 0 where
+  pub record IsUnused (w : ℕ) (pass : Pass B Sub) : Type 0 where
     pub of_board : IsPassOf board pass
     pub worker : pass.worker ≡ w
     pub place : pass.place ≡ Free
     pub trail : pass.seat.me.0.trail ≡ []
 
   -- the passes are those of the workers from 0 on, none of whom has done anything
-  abbrev pub AreFresh : List (Pass B Sub) → Type 0
-  AreFresh passes = (w : ℕ) (pass : Pass B Sub) → slice_get passes w ≡ Some pass → IsFresh w pass
+  abbrev pub AreUnused : List (Pass B Sub) → Type 0
+  AreUnused passes = (w : ℕ) (pass : Pass B Sub) → slice_get passes w ≡ Some pass → IsUnused w pass
 
   -- the pass is of this board, and its worker is free
-  pub record IsDone (pass : Pass B Sub) : Type 0 where
+  pub record IsFreePass (pass : Pass B Sub) : Type 0 where
     pub of_board : IsPassOf board pass
     pub place : pass.place ≡ Free
 
   -- every pass is of this board and its worker free
-  abbrev pub AreDone : List (Pass B Sub) → Type 0
-  AreDone passes = (k : ℕ) (pass : Pass B Sub) → slice_get passes k ≡ Some pass → IsDone pass
+  abbrev pub AreFree : List (Pass B Sub) → Type 0
+  AreFree passes = (k : ℕ) (pass : Pass B Sub) → slice_get passes k ≡ Some pass → IsFreePass pass
 
   -- each worker's pass is among these
   abbrev pub AreAll : List (Pass B Sub) → Type 0
   AreAll passes = (w : ℕ) → w < (shape_of board).workers
       → (k : ℕ) × (pass : Pass B Sub) × (slice_get passes k ≡ Some pass) × (pass.worker ≡ w)
 
-  -- The joined history is legal, and the final words stand for the state that it leaves. It begins
-  -- with each pass's trail, and of each worker it has just the worker's own calls.
-  pub record IsJoined (passes : List (Pass B Sub)) (end : Ended) : Type 0 where
+  -- The joined history is legal and of the subject, and the final words stand for the state that
+  -- it leaves. It begins with each pass's trail, and of each worker it has just the worker's own
+  -- calls.
+  pub record IsJoined (total : Sub → ℕ → Option ℕ) (passes : List (Pass B Sub)) (end : Ended)
+      : Type 0 where
     pub words_are : AreWordsOf (shape_of board) end.history end.words
+    pub of_subject : IsOfTotals (total (subject_of board)) (shape_of board) end.history
     pub begins : (k : ℕ) (pass : Pass B Sub) → slice_get passes k ≡ Some pass
         → Begins end.history pass.seat.me.0.trail
     pub own : (k : ℕ) (pass : Pass B Sub) → slice_get passes k ≡ Some pass

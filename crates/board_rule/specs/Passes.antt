@@ -47,8 +47,9 @@ module _ {B Sub : Type 0} where
   abbrev pub IsPassOf : Board B Sub → Pass B Sub → Type 0
   IsPassOf board pass = IsSeatOf board pass.worker pass.place pass.seat
 
-  -- the pass made a step that is this call, and its place is still to be moved
+  -- The pass made a step that is this call. Its seat is where the call moves its worker, and the
+  -- place that the pass has is still to be moved there.
   pub record HasStepped (board : Board B Sub) (a : Act) (old new : Pass B Sub) : Type 0 where
     pub worker : new.worker ≡ old.worker
     pub place : new.place ≡ old.place
-    pub seat : IsSeatOf board old.worker (moved board.shape a old.place) new.seat
+    pub seat : IsSeatOf board new.worker (moved board.shape a new.place) new.seat

@@ -1,6 +1,6 @@
 //! Exchanges of cells: a load takes a cell out of the table, the seat exchanges it, and a load
 //! gives it back.
-ghost use Rattle.std.specs.Prelude.{◌≡◌, ◌<◌, ℕ, IfSome};
+ghost use Rattle.std.specs.Prelude.{◌≡◌, ◌<◌, ◌+◌, ℕ, IfSome};
 ghost use mathlib.Core.Option.{none};
 ghost use Rattle.atomic_table.specs.Table.{Allows, step};
 ghost use Rattle.slot_station.specs.Cells.{has_cell};
@@ -16,7 +16,9 @@ use atomic_table::Seat;
 use slot_station::answers::cell_index;
 use slot_station::moves::slot_at;
 use slot_station::station::Fits;
+use slot_station::steps::Steps;
 use std::marker::Brand;
+use std::sync::ledger::Ledger;
 
 /// Takes the cell of a worker out of the table, which the caller picks.
 fn take_cell<K: Wanted, B: Fits>(
@@ -39,12 +41,14 @@ fn take_cell<K: Wanted, B: Fits>(
 }
 
 /// Exchanges the cell of a worker that this pass's worker has: its own while it is inside, or any
-/// of the slot that it holds. It answers the old value, which is as the cell's note says.
-pub fn exchange_cell<B: Fits>(
+/// of the slot that it holds. It answers the old value, which is as the cell's note says. It counts
+/// as one step.
+pub fn exchange_cell<B: Fits, L: Ledger>(
     board: &Board<B>,
     pass: &mut Pass<B>,
     cell: u32,
     new: Option<B>,
+    steps: &mut Steps<L>,
 ) -> Option<B>
     requires pass { IsPassOf board.now pass.old }
     requires has { HasAt (shape_of board.now) pass.old.worker cell pass.old.place }
@@ -55,7 +59,9 @@ pub fn exchange_cell<B: Fits>(
         SaysIf B.fits x cell (x.notes cell) result }
     ensures put { Exchanges cell (note_if (has_cell pass.old.place) new)
         (seen_of board.now pass.old) (seen_of board.now pass.new) }
+    ensures ticks { steps.new ≡ steps.old + 1 }
 {
+    steps.tick();
     let at = cell_index(&board.shape, slot_at(&pass.place), cell);
     take_cell::<Brand, B>(board, &mut pass.seat, cell);
     let old = board.table.shared.exchange(&mut pass.seat, at, new);

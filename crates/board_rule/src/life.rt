@@ -5,12 +5,12 @@ ghost use Rattle.slot_history.specs.Bounds.{IsShape};
 ghost use Rattle.slot_station.specs.Shapes.{refusal_of, shape_with};
 ghost use Rattle.slot_station.specs.declared.reply.MakeRefusal.TheVariants.{OutOfMemory};
 ghost use Rattle.board_rule.specs.Ends.{IsGathered};
-ghost use Rattle.board_rule.specs.Lives.{AreAll, AreDone, AreFresh, IsJoined, IsUndealt};
+ghost use Rattle.board_rule.specs.Lives.{AreAll, AreFree, AreUnused, IsJoined, IsUndealt};
 ghost use Rattle.board_rule.specs.Passes as passes;
 
 use crate::board::{Board, Pass};
 use crate::joined::{Joined, LastSeat};
-use crate::rule::{About, Dealing, Meeting};
+use crate::rule::{About, Dealing, Joining};
 use crate::view::View;
 use atomic_table::{Closed, Seat, Table};
 use slot_history::place::Place;
@@ -27,7 +27,8 @@ impl<B: Fits> Board<B> {
     /// A board whose slots are empty, whose cells hold None, and with no notices, and a pass for
     /// each worker, from 0 on. `subject` is what it serves, for contracts alone, and `queries` the
     /// number of the subject's queries. BadSlots comes exactly outside 1 to 128 slots, then
-    /// BadWorkers exactly outside 1 to 64 workers, then BadQueries exactly past 4,096 queries.
+    /// BadWorkers exactly outside 1 to 64 workers, then BadQueries exactly past 4,096 queries. Else
+    /// only OutOfMemory can come.
     pub fn make(
         alloc: Global,
         slots: u32,
@@ -42,7 +43,7 @@ impl<B: Fits> Board<B> {
             passes.shape_of made.0 ≡ shape_with slots workers queries) }
         ensures subject { IfOk result (λ made. passes.subject_of made.0 ≡ subject.value) }
         ensures passes { IfOk result (λ made. (vec_len made.1 ≡ workers)
-            × AreFresh made.0 made.1.items) }
+            × AreUnused made.0 made.1.items) }
     {
         let shape = shape_of(slots, workers, queries)?;
         let Ok(made) = make_with(alloc, shape, subject) else {
@@ -55,8 +56,8 @@ impl<B: Fits> Board<B> {
     /// no memory.
     pub fn finish(self, passes: Vec<Pass<B>>) -> Joined
         requires all { AreAll self passes.items }
-        requires done { AreDone self passes.items }
-        ensures { IsJoined self passes.items result }
+        requires done { AreFree self passes.items }
+        ensures { IsJoined self B.total passes.items result }
     {
         let seat = gather(&self, passes);
         let Board {
@@ -85,7 +86,7 @@ fn make_with<B: Fits>(
     ensures shape { IfOk result (λ made. passes.shape_of made.0 ≡ shape) }
     ensures subject { IfOk result (λ made. passes.subject_of made.0 ≡ subject.value) }
     ensures passes { IfOk result (λ made. (vec_len made.1 ≡ shape.workers)
-        × AreFresh made.0 made.1.items) }
+        × AreUnused made.0 made.1.items) }
 {
     let words = first_words(alloc, &shape)?;
     let keeper = HistoryKeeper::new(alloc)?;
@@ -110,7 +111,7 @@ fn deal<B: Fits>(
 ) -> Result<Vec<Pass<B>>, AllocError>
     requires { IsUndealt board.now 0 board.now.shape.workers seat }
     ensures { IfOk result (λ passes. (vec_len passes ≡ board.now.shape.workers)
-        × AreFresh board.now passes.items) }
+        × AreUnused board.now passes.items) }
 {
     let mut passes = Vec::new(alloc);
     let workers = board.shape.workers;
@@ -130,7 +131,7 @@ fn deal<B: Fits>(
 /// The seat into which all others are joined.
 fn gather<B: Fits>(board: &Board<B>, mut passes: Vec<Pass<B>>) -> Seat<Option<B>, View<B::Subject>>
     requires all { AreAll board.now passes.items }
-    requires done { AreDone board.now passes.items }
+    requires done { AreFree board.now passes.items }
     ensures { IsGathered board.now passes.items result }
 {
     let Some(first) = passes.pop() else {
@@ -147,7 +148,7 @@ fn gather<B: Fits>(board: &Board<B>, mut passes: Vec<Pass<B>>) -> Seat<Option<B>
             worker: _,
             place: _,
         } = pass;
-        board.table.shared.join_seat::<Meeting>(&mut seat, other);
+        board.table.shared.join_seat::<Joining>(&mut seat, other);
     }
     seat
 }

@@ -32,11 +32,11 @@ impl<B: Fits> TableRule<Option<B>, View<B::Subject>, About<B::Subject>> for Runn
 }
 
 /// Which call a step is. Who makes the step picks it.
-pub trait Asked {
+pub trait NamesCall {
     ghost call: { Call };
 }
 
-impl Asked for Brand {
+impl NamesCall for Brand {
     ghost call = { Looking };
 }
 
@@ -45,7 +45,7 @@ pub struct Calling<K> {
     call: PhantomData<K>,
 }
 
-impl<K: Asked, B: Fits> Play<Option<B>, View<B::Subject>> for Calling<K> {
+impl<K: NamesCall, B: Fits> Play<Option<B>, View<B::Subject>> for Calling<K> {
     ghost then = { IsCall B.total K.call };
 }
 
@@ -84,9 +84,9 @@ impl<T> Split<View<T>> for Dealing {
 }
 
 /// A load that joins two seats.
-pub struct Meeting;
+pub struct Joining;
 
-impl<T> Join<View<T>> for Meeting {
+impl<T> Join<View<T>> for Joining {
     ghost both = { joined };
 
     ghost spent = { spent };

@@ -11,9 +11,9 @@ ghost use Rattle.slot_station.specs.Replies.{look_act, claim_act, leave_act, See
 ghost use Rattle.slot_station.specs.Tokens.{ClaimGives, LeaveGives};
 ghost use Rattle.board_rule.specs.Passes.{IsPassOf, seen_of};
 
+use board_rule::atomic::{WordOperation, step};
 use board_rule::board::{Board, Pass};
 use board_rule::exchange::exchange_cell;
-use board_rule::steps::{fetch_add, load, store, swap};
 use slot_history::act::Act;
 use slot_proto::reading::{claim_read, leave_read, look_read};
 use slot_station::moves::{place_after, slot_at};
@@ -34,9 +34,8 @@ pub fn enter<B: Fits, L: Ledger>(board: &Board<B>, pass: &mut Pass<B>, s: u32, s
     ensures made { Makes B.total (Enter s) (seen_of board.now pass.old) (seen_of board.now pass.new) }
     ensures ticks { steps.new ≡ steps.old + 1 }
 {
-    steps.tick();
     let own = Address::WorkerOf(pass.worker);
-    store::<Brand, B>(board, pass, own, at_word(s));
+    step::<Brand, B, L>(board, pass, own, WordOperation::Store(at_word(s)), steps);
     pass.place = place_after(&board.shape, &Act::Enter(s), pass.place);
 }
 
@@ -50,9 +49,8 @@ pub fn look<B: Fits, L: Ledger>(board: &Board<B>, pass: &mut Pass<B>, steps: &mu
     ensures task_set { SeesTaskSet (totals_of B.total (seen_of board.now pass.old)) result }
     ensures ticks { steps.new ≡ steps.old + 1 }
 {
-    steps.tick();
     let state = Address::StateOf(slot_at(&pass.place));
-    let found = load::<Brand, B>(board, pass, state);
+    let found = step::<Brand, B, L>(board, pass, state, WordOperation::Load, steps);
     let look = look_read(found);
     pass.place = place_after(&board.shape, &look.act(), pass.place);
     look
@@ -76,9 +74,8 @@ pub fn claim<B: Fits, L: Ledger>(
     ensures spent { Owns ClaimGives (seen_of board.now pass.new) result }
     ensures ticks { steps.new ≡ steps.old + 1 }
 {
-    steps.tick();
     let cursor = Address::CursorOf(slot_at(&pass.place));
-    let found = fetch_add::<Brand, B>(board, pass, cursor, u64::from(n));
+    let found = step::<Brand, B, L>(board, pass, cursor, WordOperation::Add(u64::from(n)), steps);
     let claim = claim_read(found, n, pass.worker, &pass.place);
     pass.place = place_after(&board.shape, &claim.act(n), pass.place);
     claim
@@ -101,9 +98,8 @@ pub fn leave<B: Fits, L: Ledger>(
     ensures debt { Owns LeaveGives (seen_of board.now pass.new) result }
     ensures ticks { steps.new ≡ steps.old + 1 }
 {
-    steps.tick();
     let own = Address::WorkerOf(pass.worker);
-    let found = swap::<Brand, B>(board, pass, own, 0);
+    let found = step::<Brand, B, L>(board, pass, own, WordOperation::Swap(0), steps);
     let leave = leave_read(found, pass.worker, &pass.place);
     pass.place = place_after(&board.shape, &leave.act(), pass.place);
     leave
@@ -125,7 +121,6 @@ pub fn own_cell<B: Fits, L: Ledger>(
         (seen_of board.now pass.old) (seen_of board.now pass.new) }
     ensures ticks { steps.new ≡ steps.old + 1 }
 {
-    steps.tick();
     let worker = pass.worker;
-    exchange_cell(board, pass, worker, new)
+    exchange_cell(board, pass, worker, new, steps)
 }

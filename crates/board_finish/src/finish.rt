@@ -95,7 +95,13 @@ pub fn sweep<B: Fits, L: Ledger>(
 {
     let counter = Address::CounterOf(slot_at(&pass.place));
     let marks = marked_at(&pass.place);
-    let found = step::<Brand, B, L>(board, pass, counter, WordOperation::Add(u64::from(marks)), steps);
+    let found = step::<Brand, B, L>(
+        board,
+        pass,
+        counter,
+        WordOperation::Add(u64::from(marks)),
+        steps,
+    );
     let sweep = sweep_read(found, marks, pass.worker, &pass.place);
     pass.place = place_after(&board.shape, &sweep.act(), pass.place);
     drop(coordinator);
@@ -129,20 +135,20 @@ pub fn pay<B: Fits, L: Ledger>(
 pub fn cell<B: Fits, L: Ledger>(
     board: &Board<B>,
     pass: &mut Pass<B>,
-    _holder: &mut Holder,
+    holder: &mut Holder,
     worker: u32,
     new: Option<B>,
     steps: &mut Steps<L>,
 ) -> Option<B>
     requires pass { IsPassOf board.now pass.old }
-    requires holder { Owns IsHolder (seen_of board.now pass.old) _holder.old }
+    requires holder { Owns IsHolder (seen_of board.now pass.old) holder.old }
     requires worker { worker < (seen_of board.now pass.old).desk.shape.workers }
     requires fits { IfSome new (NextFits B.fits (seen_of board.now pass.old) worker) }
     ensures pass { IsPassOf board.now pass.new }
     ensures says { CellSays B.fits (seen_of board.now pass.old) worker result }
     ensures put { Exchanges worker (fresh_note new)
         (seen_of board.now pass.old) (seen_of board.now pass.new) }
-    ensures same { _holder.new ≡ _holder.old }
+    ensures same { holder.new ≡ holder.old }
     ensures ticks { steps.new ≡ steps.old + 1 }
 {
     exchange_cell(board, pass, worker, new, steps)

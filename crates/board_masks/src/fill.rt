@@ -84,20 +84,20 @@ pub fn admit<B: Fits, L: Ledger>(
 pub fn note_done<B: Fits, L: Ledger>(
     board: &Board<B>,
     pass: &mut Pass<B>,
-    _holder: &mut Holder,
+    holder: &mut Holder,
     k: u32,
     steps: &mut Steps<L>,
 )
     requires pass { IsPassOf board.now pass.old }
-    requires holder { Owns IsHolder (seen_of board.now pass.old) _holder.old }
-    requires query { IsSome _holder.old.query }
+    requires holder { Owns IsHolder (seen_of board.now pass.old) holder.old }
+    requires query { IsSome holder.old.query }
     requires once { (own_holding (seen_of board.now pass.old)).noted ≡ 0 }
-    requires number { (0 < k) × (_holder.old.stage + k ≤ STAGES) }
+    requires number { (0 < k) × (holder.old.stage + k ≤ STAGES) }
     ensures pass { IsPassOf board.now pass.new }
     ensures made { Makes B.total (NoteDone k)
         (seen_of board.now pass.old) (seen_of board.now pass.new) }
-    ensures same { _holder.new ≡ _holder.old }
-    ensures holder { Owns IsHolder (seen_of board.now pass.new) _holder.new }
+    ensures same { holder.new ≡ holder.old }
+    ensures holder { Owns IsHolder (seen_of board.now pass.new) holder.new }
     ensures ticks { steps.new ≡ steps.old + 1 }
 {
     let adds = WordOperation::Add(u64::from(k));
@@ -109,23 +109,29 @@ pub fn note_done<B: Fits, L: Ledger>(
 pub fn set_total<B: Fits, L: Ledger>(
     board: &Board<B>,
     pass: &mut Pass<B>,
-    _holder: &mut Holder,
+    holder: &mut Holder,
     total: u32,
     steps: &mut Steps<L>,
 )
     requires pass { IsPassOf board.now pass.old }
-    requires holder { Owns IsHolder (seen_of board.now pass.old) _holder.old }
-    requires query { IsSome _holder.old.query }
+    requires holder { Owns IsHolder (seen_of board.now pass.old) holder.old }
+    requires query { IsSome holder.old.query }
     requires number { total ≤ MOST_TOTAL }
     ensures pass { IsPassOf board.now pass.new }
     ensures made { Makes B.total (SetTotal total)
         (seen_of board.now pass.old) (seen_of board.now pass.new) }
-    ensures same { _holder.new ≡ _holder.old }
-    ensures holder { Owns IsHolder (seen_of board.now pass.new) _holder.new }
+    ensures same { holder.new ≡ holder.old }
+    ensures holder { Owns IsHolder (seen_of board.now pass.new) holder.new }
     ensures ticks { steps.new ≡ steps.old + 1 }
 {
     let cursor = Address::CursorOf(slot_at(&pass.place));
-    step::<Brand, B, L>(board, pass, cursor, WordOperation::Store(cursor_word(total, 0)), steps);
+    step::<Brand, B, L>(
+        board,
+        pass,
+        cursor,
+        WordOperation::Store(cursor_word(total, 0)),
+        steps,
+    );
     pass.place = place_after(&board.shape, &Act::SetTotal(total), pass.place);
 }
 
@@ -157,7 +163,13 @@ pub fn install<B: Fits, L: Ledger>(
         again: held_at(&pass.place).again,
     };
     let state = Address::StateOf(slot_at(&pass.place));
-    step::<Brand, B, L>(board, pass, state, WordOperation::Store(open_word(id)), steps);
+    step::<Brand, B, L>(
+        board,
+        pass,
+        state,
+        WordOperation::Store(open_word(id)),
+        steps,
+    );
     pass.place = place_after(&board.shape, &Act::Install(id), pass.place);
     drop(holder);
     announcer

@@ -1,6 +1,7 @@
 use Rattle.slot_history.specs.Calls.{Installing}
 use Rattle.slot_words.specs.Encodings.{id_in}
+use Rattle.board_rule.proofs.Operands.{operand}
 use Rattle.board_masks.proofs.fill.install.Given as goal
 
-abbrev pub ghosts-store : goal.ghosts-store
-ghosts-store g a = record { call = Installing (id_in a.new) }
+abbrev pub ghosts-step : goal.ghosts-step
+ghosts-step g a = record { call = Installing (id_in (operand a.operation)) }

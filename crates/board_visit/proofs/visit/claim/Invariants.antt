@@ -1,5 +1,6 @@
 use Rattle.slot_history.specs.Calls.{Claiming}
+use Rattle.board_rule.proofs.Operands.{operand}
 use Rattle.board_visit.proofs.visit.claim.Given as goal
 
-abbrev pub ghosts-fetch_add : goal.ghosts-fetch_add
-ghosts-fetch_add g a = record { call = Claiming a.more }
+abbrev pub ghosts-step : goal.ghosts-step
+ghosts-step g a = record { call = Claiming (operand a.operation) }

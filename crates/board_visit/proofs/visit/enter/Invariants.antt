@@ -1,6 +1,7 @@
 use Rattle.slot_history.specs.Calls.{Entering}
 use Rattle.slot_words.specs.Encodings.{slot_in}
+use Rattle.board_rule.proofs.Operands.{operand}
 use Rattle.board_visit.proofs.visit.enter.Given as goal
 
-abbrev pub ghosts-store : goal.ghosts-store
-ghosts-store g a = record { call = Entering (slot_in a.new) }
+abbrev pub ghosts-step : goal.ghosts-step
+ghosts-step g a = record { call = Entering (slot_in (operand a.operation)) }

@@ -1,5 +1,6 @@
 -- The counter of a shut slot, as numbers.
-use Rattle.std.proofs.Common.{◌≡◌, ℕ, ◌+◌, ◌-◌, ◌^◌, Bool, true, false, cond, refl, sym, ap, ◌∙◌, subst, arith}
+use Rattle.std.proofs.Common.{◌≡◌, ℕ, ◌+◌, ◌-◌, ◌^◌, Bool, true, false, cond, refl, sym, ap, ◌∙◌}
+use Rattle.std.proofs.Common.{subst, arith}
 use mathlib.Core.Bool.{true≢false}
 use Rattle.slot_history.specs.Bounds.{IsShape}
 use Rattle.slot_history.specs.declared.shape.Shape.{Shape}

@@ -1,31 +1,52 @@
 -- A call leaves the words that it is not on: what they hold for a state they hold for the next one.
-use Rattle.std.proofs.Common.{◌≡◌, ◌≢◌, ℕ, ◌/◌, ◌+◌, ◌<◌, Bool, true, false, cond, eqb, refl, sym, ap, ap₂, ◌∙◌, subst}
+use Rattle.std.proofs.Common.{◌≡◌, ◌≢◌, ℕ, ◌/◌, ◌+◌, ◌<◌, Bool, true, false, cond, eqb, refl, sym}
+use Rattle.std.proofs.Common.{ap, ap₂, ◌∙◌, subst}
 use Rattle.std.proofs.lemmas.Bool.{cond_both}
 use Rattle.slot_history.specs.declared.shape.Shape.{Shape}
 use Rattle.slot_history.specs.declared.act.Act.{Act}
-use Rattle.slot_history.specs.declared.act.Act.TheVariants.{Enter, LookOpen, LookInvalid, LookVacant, ClaimRange, ClaimUsed, ShutWon, ShutLost, LeaveLeft, LeaveOwe, PayLast, PayDone, MarkMarked, MarkMissed, SweepLast, SweepOthers, ReserveGot, ReserveTaken, AdmitGot, NoteDone, SetTotal, Install, Release, Announce, TakeReturn, TakeChange}
+use Rattle.slot_history.specs.declared.act.Act.TheVariants.{Enter, LookOpen, LookInvalid}
+use Rattle.slot_history.specs.declared.act.Act.TheVariants.{LookVacant, ClaimRange, ClaimUsed}
+use Rattle.slot_history.specs.declared.act.Act.TheVariants.{ShutWon, ShutLost, LeaveLeft, LeaveOwe}
+use Rattle.slot_history.specs.declared.act.Act.TheVariants.{PayLast, PayDone, MarkMarked}
+use Rattle.slot_history.specs.declared.act.Act.TheVariants.{MarkMissed, SweepLast, SweepOthers}
+use Rattle.slot_history.specs.declared.act.Act.TheVariants.{ReserveGot, ReserveTaken, AdmitGot}
+use Rattle.slot_history.specs.declared.act.Act.TheVariants.{NoteDone, SetTotal, Install, Release}
+use Rattle.slot_history.specs.declared.act.Act.TheVariants.{Announce, TakeReturn, TakeChange}
 use Rattle.slot_history.specs.declared.place.Held.{Held}
 use Rattle.slot_history.specs.declared.place.Place.{Place}
-use Rattle.slot_history.specs.declared.place.Place.TheVariants.{Free, Asking, Owing, Holding, Announcing}
+use Rattle.slot_history.specs.declared.place.Place.TheVariants.{Free, Asking, Owing, Holding}
+use Rattle.slot_history.specs.declared.place.Place.TheVariants.{Announcing}
 use Rattle.slot_history.specs.Sets.{upd}
-use Rattle.slot_history.specs.States.{TaskSet, Ending, SlotState, Shut, ObjectState, slot_of, slot_word, is_at, is_swept, owes}
-use Rattle.slot_history.specs.Steps.{site, moved, slot_after, next_asked, ended, told, taken, changes_after, returns_after, admitted_after, finished_after, next}
+use Rattle.slot_history.specs.States.{TaskSet, Ending, SlotState, Shut, ObjectState, slot_of}
+use Rattle.slot_history.specs.States.{slot_word, is_at, is_swept, owes}
+use Rattle.slot_history.specs.Steps.{site, moved, slot_after, next_asked, ended, told, taken}
+use Rattle.slot_history.specs.Steps.{changes_after, returns_after, admitted_after, finished_after}
+use Rattle.slot_history.specs.Steps.{next}
 use Rattle.slot_history.specs.Allowed.{IsAllowed, IsMask}
 use Rattle.slot_history.specs.Calls.{call_of}
+use Rattle.slot_history.specs.Notices.{notices_of}
 use Rattle.slot_history.specs.Table.{IsLed, IsTable, nth_other}
 use Rattle.slot_history.proofs.Sets.{upd-same, upd-cases, none-counted}
 use Rattle.slot_history.proofs.Duties.{IsHeldBy}
 use Rattle.slot_history.proofs.Holdings.{holder-slot}
 use Rattle.slot_history.proofs.Masks.{mask-stays, mask-left}
 use Rattle.slot_history.proofs.Coordinators.{led}
-use Rattle.slot_history.proofs.SlotWords.{word-claimed, word-ended, word-finalised, word-held, owes-not-held, owes-not-empty, owes-paid-else}
+use Rattle.slot_history.proofs.SlotWords.{word-claimed, word-ended, word-finalised, word-held}
+use Rattle.slot_history.proofs.SlotWords.{owes-not-held, owes-not-empty, owes-paid-else}
 use Rattle.slot_words.specs.declared.address.Address.{Address}
-use Rattle.slot_words.specs.declared.address.Address.TheVariants.{Meeting, ArrivalsAt, FinishedAt, StateOf, CursorOf, CounterOf, WorkerOf, ReturnOf, ChangeOf}
+use Rattle.slot_words.specs.declared.address.Address.TheVariants.{Meeting, ArrivalsAt, FinishedAt}
+use Rattle.slot_words.specs.declared.address.Address.TheVariants.{StateOf, CursorOf, CounterOf}
+use Rattle.slot_words.specs.declared.address.Address.TheVariants.{WorkerOf, ReturnOf, ChangeOf}
 use Rattle.slot_words.specs.Addresses.{IsThere}
 use Rattle.slot_words.specs.Encodings.{at_word}
 use Rattle.slot_words.specs.Words.{IsCursor, counter_of, mark_at, worker_word, Holds}
 use Rattle.slot_words.specs.Steps.{asked_at, address_of}
-use Rattle.slot_words.proofs.Slots.{cursor-shut, cursor-ended, cursor-finalised, cursor-held, cursor-opened, counter-claimed, counter-shut, counter-marked, counter-missed, counter-held, counter-opened, held-counter, empty-counter, no-mark, mark-claimed, mark-shut, mark-paid, mark-marked, mark-missed, mark-swept, mark-finalised, mark-held, mark-opened}
+use Rattle.slot_words.proofs.Slots.{cursor-shut, cursor-ended, cursor-finalised, cursor-held}
+use Rattle.slot_words.proofs.Slots.{cursor-opened, counter-claimed, counter-shut, counter-marked}
+use Rattle.slot_words.proofs.Slots.{counter-missed, counter-held, counter-opened, held-counter}
+use Rattle.slot_words.proofs.Slots.{empty-counter, no-mark, mark-claimed, mark-shut, mark-paid}
+use Rattle.slot_words.proofs.Slots.{mark-marked, mark-missed, mark-swept, mark-finalised, mark-held}
+use Rattle.slot_words.proofs.Slots.{mark-opened}
 
 module _ (d : Shape) (S : ObjectState) (w : ℕ) (low : w < d.workers) (tab : IsTable d S) where
   abbrev p : Place
@@ -220,32 +241,37 @@ module _ (d : Shape) (S : ObjectState) (w : ℕ) (low : w < d.workers) (tab : Is
       upd-cases f w (taken k (f w)) v (λ g. IsMask part g n)
       (λ e. mask-left (f w) k part n (λ q. far (ap₂ Of e q)) (subst (λ u. IsMask part (f u) n) e m)) (λ ne. m)
 
+  -- the mask words of one kind of notices, and the notices after a call
+  abbrev mask_word : Bool → ℕ → ℕ → Address
+  mask_word true = ReturnOf
+  mask_word false = ChangeOf
+
+  abbrev notices_after : Bool → Act → ℕ → ℕ → Bool
+  notices_after true a = returns_after w a p S.returns
+  notices_after false a = changes_after w a p S.changes
+
   -- what is told by a worker at this place
-  told-return : (s k : ℕ) (again : Bool) (v part n : ℕ) → (ReturnOf v part ≢ address_of w (call_of Announce) (Announcing s again k))
-      → IsMask part (S.returns v) n → IsMask part (told true (Announcing s again k) S.returns v) n
-  told-return s k true v part n far m = told-same ReturnOf S.returns s k v part n far m
-  told-return s k false v part n far m = m
+  told-there : (again : Bool) (s k : ℕ) (kind : Bool) (v part n : ℕ) → (mask_word again v part ≢ address_of w (call_of Announce) (Announcing s kind k))
+      → IsMask part (notices_of again S v) n → IsMask part (told again (Announcing s kind k) (notices_of again S) v) n
+  told-there true s k true v part n far m = told-same ReturnOf S.returns s k v part n far m
+  told-there false s k false v part n far m = told-same ChangeOf S.changes s k v part n far m
+  told-there true s k false v part n far m = m
+  told-there false s k true v part n far m = m
 
-  told-change : (s k : ℕ) (again : Bool) (v part n : ℕ) → (ChangeOf v part ≢ address_of w (call_of Announce) (Announcing s again k))
-      → IsMask part (S.changes v) n → IsMask part (told false (Announcing s again k) S.changes v) n
-  told-change s k false v part n far m = told-same ChangeOf S.changes s k v part n far m
-  told-change s k true v part n far m = m
+  told-mask : (again : Bool) → IsAllowed d S w Announce → (v part n : ℕ) → Spares Announce (mask_word again v part)
+      → IsMask part (notices_of again S v) n → IsMask part (told again p (notices_of again S) v) n
+  told-mask again ok v part n far m =
+      subst (λ q. mask_word again v part ≢ address_of w (call_of Announce) q → IsMask part (told again q (notices_of again S) v) n) (sym ok.3)
+      (λ spared. told-there again ok.0 ok.2 ok.1 v part n spared m) far
 
-  return-same : (a : Act) → IsAllowed d S w a → (v part n : ℕ) → Spares a (ReturnOf v part)
-      → IsMask part (S.returns v) n → IsMask part (returns_after w a p S.returns v) n
-  return-same Announce ok v part n far m =
-      subst (λ q. ReturnOf v part ≢ address_of w (call_of Announce) q → IsMask part (returns_after w Announce q S.returns v) n) (sym ok.3)
-      (λ spared. told-return ok.0 ok.2 ok.1 v part n spared m) far
-  return-same (TakeReturn k bits) ok v part n far m = taken-same ReturnOf S.returns k v part n far m
-  return-same _ ok v part n far m = m
-
-  change-same : (a : Act) → IsAllowed d S w a → (v part n : ℕ) → Spares a (ChangeOf v part)
-      → IsMask part (S.changes v) n → IsMask part (changes_after w a p S.changes v) n
-  change-same Announce ok v part n far m =
-      subst (λ q. ChangeOf v part ≢ address_of w (call_of Announce) q → IsMask part (changes_after w Announce q S.changes v) n) (sym ok.3)
-      (λ spared. told-change ok.0 ok.2 ok.1 v part n spared m) far
-  change-same (TakeChange k bits) ok v part n far m = taken-same ChangeOf S.changes k v part n far m
-  change-same _ ok v part n far m = m
+  mask-same : (again : Bool) (a : Act) → IsAllowed d S w a → (v part n : ℕ) → Spares a (mask_word again v part)
+      → IsMask part (notices_of again S v) n → IsMask part (notices_after again a v) n
+  mask-same true Announce ok v part n far m = told-mask true ok v part n far m
+  mask-same false Announce ok v part n far m = told-mask false ok v part n far m
+  mask-same true (TakeReturn k bits) ok v part n far m = taken-same ReturnOf S.returns k v part n far m
+  mask-same false (TakeChange k bits) ok v part n far m = taken-same ChangeOf S.changes k v part n far m
+  mask-same true _ ok v part n far m = m
+  mask-same false _ ok v part n far m = m
 
   -- ---- the two numbers
 
@@ -270,5 +296,5 @@ module _ (d : Shape) (S : ObjectState) (w : ℕ) (low : w < d.workers) (tab : Is
   elsewhere a ok (CounterOf s) in_b far n h = upd-cases S.slots (site a p) (y a) s (λ z. n ≡ counter_of d z)
       (λ e. h ∙ ap (λ k. counter_of d (S.slots k)) e ∙ sym (counter-same a ok (subst (λ k. Spares a (CounterOf k)) e far))) (λ ne. h)
   elsewhere a ok (WorkerOf v) in_b far n h = h ∙ sym (worker-same a ok v in_b far)
-  elsewhere a ok (ReturnOf v part) in_b far n h = return-same a ok v part n far h
-  elsewhere a ok (ChangeOf v part) in_b far n h = change-same a ok v part n far h
+  elsewhere a ok (ReturnOf v part) in_b far n h = mask-same true a ok v part n far h
+  elsewhere a ok (ChangeOf v part) in_b far n h = mask-same false a ok v part n far h

@@ -1,14 +1,19 @@
 -- What the calls that end a task set read and write: shut, mark_next, sweep, pay.
-use Rattle.std.proofs.Common.{◌≡◌, ◌≢◌, ℕ, ◌+◌, ◌-◌, ◌^◌, ◌<◌, ◌⊎◌, Bool, true, false, cond, eqb, not, ◌&&◌, bit_or, refl, sym, ap, ap₂, ◌∙◌, subst, ⊎_elim, eq-eqb, ne_eqb, arith}
+use Rattle.std.proofs.Common.{◌≡◌, ◌≢◌, ℕ, ◌+◌, ◌-◌, ◌^◌, ◌<◌, ◌⊎◌, Bool, true, false, cond, eqb}
+use Rattle.std.proofs.Common.{not, ◌&&◌, bit_or, refl, sym, ap, ap₂, ◌∙◌, subst, ⊎_elim, eq-eqb}
+use Rattle.std.proofs.Common.{ne_eqb, arith}
 use Rattle.std.proofs.lemmas.Bool.{cond-true, cond-false}
 use mathlib.Core.Bool.{true≢false}
 use prog.Atomic.{either}
 use Rattle.slot_history.specs.declared.shape.Shape.{Shape}
-use Rattle.slot_history.specs.declared.act.Act.TheVariants.{ShutWon, ShutLost, PayLast, PayDone, MarkMarked, MarkMissed, SweepLast, SweepOthers}
+use Rattle.slot_history.specs.declared.act.Act.TheVariants.{ShutWon, ShutLost, PayLast, PayDone}
+use Rattle.slot_history.specs.declared.act.Act.TheVariants.{MarkMarked, MarkMissed, SweepLast}
+use Rattle.slot_history.specs.declared.act.Act.TheVariants.{SweepOthers}
 use Rattle.slot_history.specs.declared.place.Place.{Place}
 use Rattle.slot_history.specs.declared.place.Place.TheVariants.{Used, Asking, Owing}
 use Rattle.slot_history.specs.Sets.{upd}
-use Rattle.slot_history.specs.States.{Ending, SlotState, Shut, ObjectState, slot_of, id_of, is_at, is_open, is_shut, is_swept, owes}
+use Rattle.slot_history.specs.States.{Ending, SlotState, Shut, ObjectState, slot_of, id_of, is_at}
+use Rattle.slot_history.specs.States.{is_open, is_shut, is_swept, owes}
 use Rattle.slot_history.specs.Steps.{slot_after, next_asked, ended, shut_by}
 use Rattle.slot_history.specs.Allowed.{debts, next_is_at}
 use Rattle.slot_history.specs.Payments.{payments, marks}
@@ -17,7 +22,8 @@ use Rattle.slot_history.specs.Table.{IsLed, nth_other}
 use Rattle.slot_history.proofs.Sets.{upd-same, upd-cases}
 use Rattle.slot_history.proofs.Others.{nth-other-differs}
 use Rattle.slot_history.proofs.Coordinators.{led}
-use Rattle.slot_history.proofs.Payments.{Counted, counted, debt-paid, payment-counts, IsOwed, owed-slot, next-unmarked}
+use Rattle.slot_history.proofs.Payments.{Counted, counted, debt-paid, payment-counts, IsOwed}
+use Rattle.slot_history.proofs.Payments.{owed-slot, next-unmarked}
 use Rattle.slot_history.proofs.SlotWords.{is-at-slot}
 use Rattle.slot_words.specs.Encodings.{at_word, mark_for, zero_count}
 use Rattle.slot_words.specs.Words.{counter_of, mark_at, worker_word}

@@ -1,18 +1,32 @@
 -- Each call's one step is lawful on words that stand for a state that a legal history leaves.
-use Rattle.std.proofs.Common.{◌∷◌, ◌≡◌, ◌≢◌, ℕ, ◌+◌, ◌/◌, ◌<◌, ◌≤◌, Bool, true, false, List, sym, subst, arith}
+use Rattle.std.proofs.Common.{◌∷◌, ◌≡◌, ◌≢◌, ℕ, ◌+◌, ◌/◌, ◌<◌, ◌≤◌, Bool, true, false, List, sym}
+use Rattle.std.proofs.Common.{subst, arith}
 use Rattle.slot_history.specs.declared.shape.Shape.{Shape}
 use Rattle.slot_history.specs.declared.shape.TheConstants.{PARTS}
 use Rattle.slot_history.specs.declared.act.Act.{Act}
-use Rattle.slot_history.specs.declared.act.Act.TheVariants.{Enter, LookOpen, LookInvalid, LookVacant, ClaimRange, ClaimUsed, ShutWon, ShutLost, LeaveLeft, LeaveOwe, PayLast, PayDone, MarkMarked, MarkMissed, SweepLast, SweepOthers, ReserveGot, ReserveTaken, AdmitGot, AdmitLost, Arrivals, Finished, NoteDone, SetTotal, Install, Release, Announce, TakeReturn, TakeChange}
+use Rattle.slot_history.specs.declared.act.Act.TheVariants.{Enter, LookOpen, LookInvalid}
+use Rattle.slot_history.specs.declared.act.Act.TheVariants.{LookVacant, ClaimRange, ClaimUsed}
+use Rattle.slot_history.specs.declared.act.Act.TheVariants.{ShutWon, ShutLost, LeaveLeft, LeaveOwe}
+use Rattle.slot_history.specs.declared.act.Act.TheVariants.{PayLast, PayDone, MarkMarked}
+use Rattle.slot_history.specs.declared.act.Act.TheVariants.{MarkMissed, SweepLast, SweepOthers}
+use Rattle.slot_history.specs.declared.act.Act.TheVariants.{ReserveGot, ReserveTaken, AdmitGot}
+use Rattle.slot_history.specs.declared.act.Act.TheVariants.{AdmitLost, Arrivals, Finished, NoteDone}
+use Rattle.slot_history.specs.declared.act.Act.TheVariants.{SetTotal, Install, Release, Announce}
+use Rattle.slot_history.specs.declared.act.Act.TheVariants.{TakeReturn, TakeChange}
 use Rattle.slot_history.specs.declared.act.Entry.{Entry}
 use Rattle.slot_history.specs.declared.place.Place.{Place}
-use Rattle.slot_history.specs.declared.place.Place.TheVariants.{Free, Entered, Inside, Used, Asking, Owing, Holding, Announcing}
+use Rattle.slot_history.specs.declared.place.Place.TheVariants.{Free, Entered, Inside, Used, Asking}
+use Rattle.slot_history.specs.declared.place.Place.TheVariants.{Owing, Holding, Announcing}
 use Rattle.slot_history.specs.States.{ObjectState, slot_of}
 use Rattle.slot_history.specs.Steps.{state_after, next}
 use Rattle.slot_history.specs.Allowed.{IsAllowed}
 use Rattle.slot_history.specs.Histories.{IsLegal, entry}
 use Rattle.slot_history.specs.Bounds.{IsShape, IsPlaceWithin}
-use Rattle.slot_history.specs.Calls.{Call, Entering, Looking, Claiming, Shutting, Leaving, Paying, MarkingNext, Sweeping, Reserving, Admitting, AskingArrivals, AskingFinished, NotingDone, SettingTotal, Installing, Releasing, AnnouncingNext, TakingReturn, TakingChange, call_of, MayCall, reply_of}
+use Rattle.slot_history.specs.Calls.{Call, Entering, Looking, Claiming, Shutting, Leaving, Paying}
+use Rattle.slot_history.specs.Calls.{MarkingNext, Sweeping, Reserving, Admitting, AskingArrivals}
+use Rattle.slot_history.specs.Calls.{AskingFinished, NotingDone, SettingTotal, Installing}
+use Rattle.slot_history.specs.Calls.{Releasing, AnnouncingNext, TakingReturn, TakingChange, call_of}
+use Rattle.slot_history.specs.Calls.{MayCall, reply_of}
 use Rattle.slot_history.proofs.Table.{table}
 use Rattle.slot_history.proofs.Within.{within-slots}
 use Rattle.slot_history.proofs.Others.{nth-other-within}
@@ -28,9 +42,13 @@ use Rattle.slot_words.proofs.Numbers.{small}
 use Rattle.slot_words.proofs.Fit.{IsFit, fit-of}
 use Rattle.slot_words.proofs.SlotWords as slot
 use Rattle.slot_words.proofs.Readings.{Reads}
-use Rattle.slot_words.proofs.Visits.{enters, looks-open, looks-invalid, looks-vacant, claims, uses, leaves, owes-it}
-use Rattle.slot_words.proofs.Endings.{wins, loses, pays-last, pays-one, sweeps-last, sweeps-on, marks-it, misses}
-use Rattle.slot_words.proofs.Holdings.{gets, finds, admits, comes-late, asks-arrivals, asks-finished, notes, totals, installs, releases, tells, takes-return, takes-change}
+use Rattle.slot_words.proofs.Visits.{enters, looks-open, looks-invalid, looks-vacant, claims, uses}
+use Rattle.slot_words.proofs.Visits.{leaves, owes-it}
+use Rattle.slot_words.proofs.Endings.{wins, loses, pays-last, pays-one, sweeps-last, sweeps-on}
+use Rattle.slot_words.proofs.Endings.{marks-it, misses}
+use Rattle.slot_words.proofs.Holdings.{gets, finds, admits, comes-late, asks-arrivals}
+use Rattle.slot_words.proofs.Holdings.{asks-finished, notes, totals, installs, releases, tells}
+use Rattle.slot_words.proofs.Holdings.{takes-return, takes-change}
 
 -- The step of a call of w in this state: it is on a word that is there. Whatever this word holds
 -- for the state, the call answers what the definition does, and the word then holds for the next

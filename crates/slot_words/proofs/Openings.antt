@@ -1,5 +1,7 @@
 -- The words at the start.
-use Rattle.std.proofs.Common.{◌≡◌, ◌≢◌, ℕ, zero, suc, ◌+◌, ◌<◌, false, cond, ltb, List, length, set, get_or, replicate, refl, sym, ap, ◌∙◌, subst, ⊎_elim, lt-ltb, le-ltb, lit<, arith, length-set, get_or-set_same, get_or-set_other}
+use Rattle.std.proofs.Common.{◌≡◌, ◌≢◌, ℕ, zero, suc, ◌+◌, ◌<◌, false, cond, ltb, List, length, set}
+use Rattle.std.proofs.Common.{get_or, replicate, refl, sym, ap, ◌∙◌, subst, ⊎_elim, lt-ltb, le-ltb}
+use Rattle.std.proofs.Common.{lit<, arith, length-set, get_or-set_same, get_or-set_other}
 use Rattle.std.proofs.lemmas.Nat.Bits.{bit_at-zero}
 use Rattle.std.proofs.lemmas.List.{length-replicate}
 use Rattle.std.proofs.lemmas.Bool.{cases_lt}
@@ -9,7 +11,9 @@ use Rattle.slot_history.specs.declared.shape.Shape.{Shape}
 use Rattle.slot_history.specs.States.{opening}
 use Rattle.slot_history.specs.Allowed.{IsMask}
 use Rattle.slot_words.specs.declared.address.Address.{Address}
-use Rattle.slot_words.specs.declared.address.Address.TheVariants.{Meeting, ArrivalsAt, FinishedAt, StateOf, CursorOf, CounterOf, WorkerOf, ReturnOf, ChangeOf}
+use Rattle.slot_words.specs.declared.address.Address.TheVariants.{Meeting, ArrivalsAt, FinishedAt}
+use Rattle.slot_words.specs.declared.address.Address.TheVariants.{StateOf, CursorOf, CounterOf}
+use Rattle.slot_words.specs.declared.address.Address.TheVariants.{WorkerOf, ReturnOf, ChangeOf}
 use Rattle.slot_words.specs.Addresses.{IsThere, index, count_of_words}
 use Rattle.slot_words.specs.Encodings.{zero_count}
 use Rattle.slot_words.specs.Words.{Holds, AreFirst, first_word, word_at}

@@ -1,12 +1,15 @@
 -- What a call reads in the words of a slot, by what the slot holds.
-use Rattle.std.proofs.Common.{◌≡◌, ℕ, ◌+◌, ◌*◌, ◌<◌, ◌≤◌, ◌⊎◌, true, cond, eqb, bit_or, refl, sym, ap, ap₂, ◌∙◌, subst, inl, inr, eq-eqb, lit<, arith}
+use Rattle.std.proofs.Common.{◌≡◌, ℕ, ◌+◌, ◌*◌, ◌<◌, ◌≤◌, ◌⊎◌, true, cond, eqb, bit_or, refl, sym}
+use Rattle.std.proofs.Common.{ap, ap₂, ◌∙◌, subst, inl, inr, eq-eqb, lit<, arith}
 use Rattle.std.specs.Int.Bits.{or_zero_r}
 use Rattle.std.proofs.lemmas.Nat.{or_block}
 use Rattle.slot_history.specs.declared.shape.TheConstants.{MOST_TOTAL}
 use Rattle.slot_history.specs.declared.act.Act.{Act}
-use Rattle.slot_history.specs.declared.act.Act.TheVariants.{LookOpen, LookInvalid, LookVacant, ShutWon, ShutLost, SetTotal}
+use Rattle.slot_history.specs.declared.act.Act.TheVariants.{LookOpen, LookInvalid, LookVacant}
+use Rattle.slot_history.specs.declared.act.Act.TheVariants.{ShutWon, ShutLost, SetTotal}
 use Rattle.slot_history.specs.declared.place.Held.{Held}
-use Rattle.slot_history.specs.States.{SlotState, Empty, Reserved, Open, Shut, Finishing, id_of, task_of, slot_word, is_open, is_shut, is_tagged, is_vacant}
+use Rattle.slot_history.specs.States.{SlotState, Empty, Reserved, Open, Shut, Finishing, id_of}
+use Rattle.slot_history.specs.States.{task_of, slot_word, is_open, is_shut, is_tagged, is_vacant}
 use Rattle.slot_history.specs.Steps.{shut_by, claimed, held_on, opened}
 use Rattle.slot_history.specs.Bounds.{IsSlotSound}
 use Rattle.slot_history.proofs.Duties.{IsHeldBy}

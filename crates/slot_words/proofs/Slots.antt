@@ -1,15 +1,20 @@
 -- What a call leaves of what the words say of a slot.
-use Rattle.std.proofs.Common.{◌*◌, ◌≡◌, ◌≢◌, ℕ, ◌+◌, ◌-◌, Bool, true, false, cond, not, ◌&&◌, Option, Some, None, refl, sym, ap, ◌∙◌, subst, inl, inr, arith}
+use Rattle.std.proofs.Common.{◌*◌, ◌≡◌, ◌≢◌, ℕ, ◌+◌, ◌-◌, Bool, true, false, cond, not, ◌&&◌}
+use Rattle.std.proofs.Common.{Option, Some, None, refl, sym, ap, ap₂, ◌∙◌, subst, inl, inr, arith}
 use Rattle.std.specs.Prelude.{IfSome, IsSome, unwrap_or}
 use Rattle.slot_history.specs.declared.shape.Shape.{Shape}
 use Rattle.slot_history.specs.declared.act.Act.{Act}
-use Rattle.slot_history.specs.declared.act.Act.TheVariants.{PayDone, MarkMarked, MarkMissed, SweepOthers}
+use Rattle.slot_history.specs.declared.act.Act.TheVariants.{PayDone, MarkMarked, MarkMissed}
+use Rattle.slot_history.specs.declared.act.Act.TheVariants.{SweepOthers}
 use Rattle.slot_history.specs.declared.place.Held.{Held}
 use Rattle.slot_history.specs.Sets.{upd, count_of}
-use Rattle.slot_history.specs.States.{TaskSet, Ending, SlotState, Empty, Reserved, Open, Shut, Finishing, id_of, is_empty, is_swept, owes}
-use Rattle.slot_history.specs.Steps.{claimed, shut_by, next_asked, ended, held_after, held_on, opened, finalised_by}
+use Rattle.slot_history.specs.States.{TaskSet, Ending, SlotState, Empty, Reserved, Open, Shut}
+use Rattle.slot_history.specs.States.{Finishing, id_of, task_at, is_empty, is_swept, owes}
+use Rattle.slot_history.specs.Steps.{claimed, shut_by, next_asked, ended, held_after, held_on}
+use Rattle.slot_history.specs.Steps.{opened, finalised_by}
 use Rattle.slot_history.proofs.Sets.{upd-else, count-none}
-use Rattle.slot_history.proofs.Duties.{IsHeldBy, owing-else}
+use Rattle.slot_history.proofs.Duties.{IsHeldBy, owing-else, owes-claimed, owes-shut, owes-held}
+use Rattle.slot_history.proofs.SlotTasks.{at-claimed, at-shut, at-held}
 use Rattle.slot_words.specs.Encodings.{open_word, tagged, mark_for, cursor_word, zero_count}
 use Rattle.slot_words.specs.Laws.{StatesArePacked}
 use Rattle.slot_words.specs.Words.{IsCursor, counter_of, mark_at}
@@ -98,13 +103,19 @@ empty-counter d _ h = absurd (cc)
 pub no-mark : (x : SlotState) (v : ℕ) → owes x v ≡ false → mark_at x v ≡ 0
 no-mark x v clear = ap (λ b. cond b (mark_for (id_of x)) 0) clear
 
+-- the mark of a worker is given by whether it owes, and by the slot's task set
+id-by-task : (x : SlotState) → id_of x ≡ unwrap_or (task_at x) 0
+id-by-task (Open t) = refl
+id-by-task _ = refl
+
+mark-by : (x y : SlotState) (v : ℕ) → owes y v ≡ owes x v → task_at y ≡ task_at x → mark_at y v ≡ mark_at x v
+mark-by x y v owed same = ap₂ (λ b id. cond b (mark_for id) 0) owed (id-by-task y ∙ ap (λ o. unwrap_or o 0) same ∙ sym (id-by-task x))
+
 pub mark-claimed : (x : SlotState) (n v : ℕ) → mark_at (claimed x n) v ≡ mark_at x v
-mark-claimed Empty n v = refl
-mark-claimed _ n v = refl
+mark-claimed x n v = mark-by x (claimed x n) v (owes-claimed x n v) (at-claimed x n)
 
 pub mark-shut : (w : ℕ) (x : SlotState) (v : ℕ) → mark_at (shut_by w x) v ≡ mark_at x v
-mark-shut w Empty v = refl
-mark-shut w _ v = refl
+mark-shut w x v = mark-by x (shut_by w x) v (owes-shut w x v) (at-shut x w)
 
 pub mark-paid : (d : Shape) (w : ℕ) (x : SlotState) (v : ℕ) → v ≢ w → mark_at (ended d w PayDone x) v ≡ mark_at x v
 mark-paid d w (Shut t e) v other = ap (λ b. cond b (mark_for t.id) 0) (owing-else d e v w other)
@@ -129,8 +140,7 @@ mark-finalised w (Shut t e) v clear = sym (no-mark (Shut t e) v clear)
 mark-finalised w _ v clear = refl
 
 pub mark-held : (a : Act) (x : SlotState) (v : ℕ) → mark_at (held_on a x) v ≡ mark_at x v
-mark-held a Empty v = refl
-mark-held a _ v = refl
+mark-held a x v = mark-by x (held_on a x) v (owes-held a x v) (at-held a x)
 
 pub mark-opened : (id : ℕ) (x : SlotState) (v : ℕ) → mark_at (opened id x) v ≡ mark_at x v
 mark-opened id Empty v = refl

@@ -1,14 +1,18 @@
 -- What the calls of a visit read and write: enter, look, claim, leave.
-use Rattle.std.proofs.Common.{◌≡◌, ℕ, ◌+◌, ◌*◌, ◌^◌, ◌<◌, ◌≤◌, ◌⊎◌, true, false, ltb, min, refl, sym, ap, ap₂, ◌∙◌, subst, eq-eqb, lt-ltb, le-ltb, arith}
+use Rattle.std.proofs.Common.{◌≡◌, ℕ, ◌+◌, ◌*◌, ◌^◌, ◌<◌, ◌≤◌, ◌⊎◌, true, false, ltb, min, refl}
+use Rattle.std.proofs.Common.{sym, ap, ap₂, ◌∙◌, subst, eq-eqb, lt-ltb, le-ltb, arith}
 use Rattle.std.proofs.lemmas.Bool.{cond-true, cond-false}
 use Rattle.slot_history.specs.declared.shape.Shape.{Shape}
 use Rattle.slot_history.specs.declared.shape.TheConstants.{MOST_CLAIM}
 use Rattle.slot_history.specs.declared.act.Act.{Act}
-use Rattle.slot_history.specs.declared.act.Act.TheVariants.{Enter, LookOpen, LookInvalid, LookVacant, ClaimRange, ClaimUsed, LeaveLeft, LeaveOwe}
+use Rattle.slot_history.specs.declared.act.Act.TheVariants.{Enter, LookOpen, LookInvalid}
+use Rattle.slot_history.specs.declared.act.Act.TheVariants.{LookVacant, ClaimRange, ClaimUsed}
+use Rattle.slot_history.specs.declared.act.Act.TheVariants.{LeaveLeft, LeaveOwe}
 use Rattle.slot_history.specs.declared.place.Place.{Place}
 use Rattle.slot_history.specs.declared.place.Place.TheVariants.{Free, Entered, Inside, Owing}
 use Rattle.slot_history.specs.Sets.{upd}
-use Rattle.slot_history.specs.States.{TaskSet, ObjectState, slot_of, id_of, task_of, slot_word, is_open, is_shut, owes, can_leave, has_own_cell, is_inside}
+use Rattle.slot_history.specs.States.{TaskSet, ObjectState, slot_of, id_of, task_of, slot_word}
+use Rattle.slot_history.specs.States.{is_open, is_shut, owes, can_leave, has_own_cell, is_inside}
 use Rattle.slot_history.specs.Steps.{left, claimed}
 use Rattle.slot_history.proofs.Sets.{upd-same}
 use Rattle.slot_history.proofs.Coordinators.{owes-nothing}

@@ -3,7 +3,9 @@ use Rattle.std.specs.Prelude.{ℕ, ◌+◌, ◌*◌, ◌<◌}
 use Rattle.slot_history.specs.declared.shape.Shape.{Shape}
 use Rattle.slot_history.specs.declared.shape.TheConstants.{PARTS}
 use Rattle.slot_words.specs.declared.address.Address.{Address}
-use Rattle.slot_words.specs.declared.address.Address.TheVariants.{Meeting, ArrivalsAt, FinishedAt, StateOf, CursorOf, CounterOf, WorkerOf, ReturnOf, ChangeOf}
+use Rattle.slot_words.specs.declared.address.Address.TheVariants.{Meeting, ArrivalsAt, FinishedAt}
+use Rattle.slot_words.specs.declared.address.Address.TheVariants.{StateOf, CursorOf, CounterOf}
+use Rattle.slot_words.specs.declared.address.Address.TheVariants.{WorkerOf, ReturnOf, ChangeOf}
 
 -- the object has such a word
 abbrev pub IsThere : Shape → Address → Type 0

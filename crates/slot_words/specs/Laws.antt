@@ -18,7 +18,8 @@ use Rattle.slot_words.specs.Words.{IsCounter, StandsFor, AreFirst, word_at}
 
 -- the words after one step on one of them
 abbrev pub stepped : Shape → List ℕ → Address → (ℕ → ℕ) → List ℕ
-stepped d words a change = slice_set words (index d a) (change (word_at d words a))
+stepped d words address change =
+    slice_set words (index d address) (change (word_at d words address))
 
 -- a call of a worker that is due after a history
 pub record NextCall : Type 0 where

@@ -1,7 +1,9 @@
 -- The numbers of an answer fit the 32 bits that they are kept in.
 use Rattle.std.specs.Prelude.{◌<◌, ◌^◌}
 use Rattle.slot_history.specs.declared.act.Act.{Act}
-use Rattle.slot_history.specs.declared.act.Act.TheVariants.{LookOpen, ClaimRange, LeaveOwe, SweepOthers, AdmitLost, Arrivals, Finished}
+use Rattle.slot_history.specs.declared.act.Act.TheVariants.{LookOpen, ClaimRange, LeaveOwe}
+use Rattle.slot_history.specs.declared.act.Act.TheVariants.{SweepOthers, AdmitLost, Arrivals}
+use Rattle.slot_history.specs.declared.act.Act.TheVariants.{Finished}
 
 abbrev pub IsSmall : Act → Type 0
 IsSmall (LookOpen id) = id < 2 ^ 32

@@ -6,14 +6,27 @@
 //! `law` of `proofs/Law.antt`, which has all of them.
 
 ghost use Rattle.std.specs.Prelude.{ℕ, ◌+◌, bit_or};
-ghost use Rattle.slot_history.specs.declared.act.Act.TheVariants.{Enter, Arrivals, Finished, NoteDone, SetTotal, Install, Release, Announce, TakeReturn, TakeChange};
+ghost use Rattle.slot_history.specs.declared.act.Act.TheVariants.{Enter, Arrivals, Finished};
+ghost use Rattle.slot_history.specs.declared.act.Act.TheVariants.{NoteDone, SetTotal, Install};
+ghost use Rattle.slot_history.specs.declared.act.Act.TheVariants.{Release, Announce, TakeReturn};
+ghost use Rattle.slot_history.specs.declared.act.Act.TheVariants.{TakeChange};
 ghost use Rattle.slot_history.specs.States.{slot_of, id_at};
-ghost use Rattle.slot_history.specs.Calls.{Entering, Looking, Claiming, Shutting, Leaving, Paying, MarkingNext, Sweeping, Reserving, Admitting, AskingArrivals, AskingFinished, NotingDone, SettingTotal, Installing, Releasing, AnnouncingNext, TakingReturn, TakingChange};
+ghost use Rattle.slot_history.specs.Calls.{Entering, Looking, Claiming, Shutting, Leaving, Paying};
+ghost use Rattle.slot_history.specs.Calls.{MarkingNext, Sweeping, Reserving, Admitting};
+ghost use Rattle.slot_history.specs.Calls.{AskingArrivals, AskingFinished, NotingDone};
+ghost use Rattle.slot_history.specs.Calls.{SettingTotal, Installing, Releasing, AnnouncingNext};
+ghost use Rattle.slot_history.specs.Calls.{TakingReturn, TakingChange};
 ghost use Rattle.slot_history.specs.Allowed.{bit_of};
 ghost use Rattle.slot_history.specs.Table.{nth_other};
-ghost use Rattle.slot_words.specs.declared.address.Address.TheVariants.{ArrivalsAt, FinishedAt, StateOf, CursorOf, CounterOf, WorkerOf, ReturnOf, ChangeOf};
+ghost use Rattle.slot_words.specs.declared.address.Address.TheVariants.{ArrivalsAt, FinishedAt};
+ghost use Rattle.slot_words.specs.declared.address.Address.TheVariants.{StateOf, CursorOf};
+ghost use Rattle.slot_words.specs.declared.address.Address.TheVariants.{CounterOf, WorkerOf};
+ghost use Rattle.slot_words.specs.declared.address.Address.TheVariants.{ReturnOf, ChangeOf};
 ghost use Rattle.slot_words.specs.Encodings.{open_word, at_word, marked, cursor_word};
-ghost use Rattle.slot_words.specs.Steps.{added, one_less, compare_exchanged, look_answer, claim_answer, shut_answer, leave_answer, pay_answer, mark_answer, sweep_answer, reserve_answer, admit_answer, asked_at, marked_at, mask_told};
+ghost use Rattle.slot_words.specs.Steps.{added, one_less, compare_exchanged, look_answer};
+ghost use Rattle.slot_words.specs.Steps.{claim_answer, shut_answer, leave_answer, pay_answer};
+ghost use Rattle.slot_words.specs.Steps.{mark_answer, sweep_answer, reserve_answer, admit_answer};
+ghost use Rattle.slot_words.specs.Steps.{asked_at, marked_at, mask_told};
 ghost use Rattle.slot_words.specs.Laws.{IsLaw, CountersSay, FirstWordsStand, StatesArePacked};
 
 /// A store on the own state word.
@@ -21,7 +34,8 @@ ghost use Rattle.slot_words.specs.Laws.{IsLaw, CountersSay, FirstWordsStand, Sta
 /// No lock: nobody but a coordinator writes another worker's word, and it marks nobody that is
 /// nowhere.
 pub fn enter()
-    ensures { (s : ℕ) → IsLaw (Entering s) (λ w p. WorkerOf w) (λ p n. at_word s) (λ p n. Enter s) }
+    ensures { (s : ℕ) → IsLaw (Entering s) (λ w p. WorkerOf w)
+        (λ p word. at_word s) (λ p word. Enter s) }
 {}
 
 /// A load of the slot's state word.
@@ -29,15 +43,16 @@ pub fn enter()
 /// No lock: the worker's own word says that it is at the slot before it looks. So whoever shuts the
 /// slot after the look finds it there, or it has left.
 pub fn look()
-    ensures { IsLaw Looking (λ w p. StateOf (slot_of p)) (λ p n. n) (λ p n. look_answer n) }
+    ensures { IsLaw Looking (λ w p. StateOf (slot_of p))
+        (λ p word. word) (λ p word. look_answer word) }
 {}
 
 /// An addition to the slot's cursor word, whose high half is the total.
 ///
 /// No lock: the total cannot change while somebody is inside, and two additions get two ranges.
 pub fn claim()
-    ensures { (k : ℕ) → IsLaw (Claiming k) (λ w p. CursorOf (slot_of p))
-        (λ p n. added k n) (λ p n. claim_answer k n) }
+    ensures { (n : ℕ) → IsLaw (Claiming n) (λ w p. CursorOf (slot_of p))
+        (λ p word. added n word) (λ p word. claim_answer n word) }
 {}
 
 /// A swap of the own state word with 0.
@@ -45,7 +60,7 @@ pub fn claim()
 /// No lock: the mark lies in the word that the leave takes, so it is found by this leave or comes
 /// too late to be set.
 pub fn leave()
-    ensures { IsLaw Leaving (λ w p. WorkerOf w) (λ p n. 0) (λ p n. leave_answer n) }
+    ensures { IsLaw Leaving (λ w p. WorkerOf w) (λ p word. 0) (λ p word. leave_answer word) }
 {}
 
 /// The lowest bit of the slot's state word is set, which is the tag.
@@ -53,7 +68,7 @@ pub fn leave()
 /// No lock: the step tells whether the tag was there before, so one shut alone is the first.
 pub fn shut()
     ensures { IsLaw Shutting (λ w p. StateOf (slot_of p))
-        (λ p n. bit_or n 1) (λ p n. shut_answer n) }
+        (λ p word. bit_or word 1) (λ p word. shut_answer word) }
 {}
 
 /// One compare and exchange on the state word of the next other worker: from at the slot to at the
@@ -63,8 +78,9 @@ pub fn shut()
 /// tells that it isn't.
 pub fn mark_next()
     ensures { IsLaw MarkingNext (λ w p. WorkerOf (nth_other w (asked_at p)))
-        (λ p n. let there = at_word (slot_of p) in compare_exchanged there (marked there (id_at p)) n)
-        (λ p n. mark_answer (slot_of p) n) }
+        (λ p word. let there = at_word (slot_of p) in
+        compare_exchanged there (marked there (id_at p)) word)
+        (λ p word. mark_answer (slot_of p) word) }
 {}
 
 /// An addition of the number of marks to the slot's counter.
@@ -73,7 +89,7 @@ pub fn mark_next()
 /// still have to pay.
 pub fn sweep()
     ensures { IsLaw Sweeping (λ w p. CounterOf (slot_of p))
-        (λ p n. added (marked_at p) n) (λ p n. sweep_answer (marked_at p) n) }
+        (λ p word. added (marked_at p) word) (λ p word. sweep_answer (marked_at p) word) }
 {}
 
 /// A subtraction of 1 from the slot's counter.
@@ -81,7 +97,7 @@ pub fn sweep()
 /// No lock: it is above 0 only after the sweep, and one payment alone takes it from 1 to 0.
 pub fn pay()
     ensures { IsLaw Paying (λ w p. CounterOf (slot_of p))
-        (λ p n. one_less n) (λ p n. pay_answer n) }
+        (λ p word. one_less word) (λ p word. pay_answer word) }
 {}
 
 /// One compare and exchange on the slot's state word, from empty to reserved.
@@ -89,7 +105,7 @@ pub fn pay()
 /// No lock: of two that want the slot, one finds it empty.
 pub fn reserve()
     ensures { (s : ℕ) → IsLaw (Reserving s) (λ w p. StateOf s)
-        (λ p n. compare_exchanged 0 1 n) (λ p n. reserve_answer s n) }
+        (λ p word. compare_exchanged 0 1 word) (λ p word. reserve_answer s word) }
 {}
 
 /// One compare and exchange on the arrivals, from q to q + 1.
@@ -97,37 +113,37 @@ pub fn reserve()
 /// No lock: of two that want to admit q, one finds it the next.
 pub fn admit()
     ensures { (q : ℕ) → IsLaw (Admitting q) (λ w p. ArrivalsAt)
-        (λ p n. compare_exchanged q (q + 1) n) (λ p n. admit_answer q n) }
+        (λ p word. compare_exchanged q (q + 1) word) (λ p word. admit_answer q word) }
 {}
 
 /// A load of the arrivals.
 ///
 /// No lock: it is one number in one word.
 pub fn arrivals()
-    ensures { IsLaw AskingArrivals (λ w p. ArrivalsAt) (λ p n. n) (λ p n. Arrivals n) }
+    ensures { IsLaw AskingArrivals (λ w p. ArrivalsAt) (λ p word. word) (λ p word. Arrivals word) }
 {}
 
 /// A load of the number of task sets noted as done.
 ///
 /// No lock: it is one number in one word.
 pub fn finished()
-    ensures { IsLaw AskingFinished (λ w p. FinishedAt) (λ p n. n) (λ p n. Finished n) }
+    ensures { IsLaw AskingFinished (λ w p. FinishedAt) (λ p word. word) (λ p word. Finished word) }
 {}
 
 /// An addition to the number of task sets noted as done.
 ///
 /// No lock: two additions both count, in either order.
 pub fn note_done()
-    ensures { (k : ℕ) → IsLaw (NotingDone k) (λ w p. FinishedAt)
-        (λ p n. added k n) (λ p n. NoteDone k) }
+    ensures { (n : ℕ) → IsLaw (NotingDone n) (λ w p. FinishedAt)
+        (λ p word. added n word) (λ p word. NoteDone n) }
 {}
 
 /// A store of the total and the cursor 0 in the slot's cursor word.
 ///
 /// No lock: nobody but its holder uses the cursor of a slot that is reserved or being finalised.
 pub fn set_total()
-    ensures { (t : ℕ) → IsLaw (SettingTotal t) (λ w p. CursorOf (slot_of p))
-        (λ p n. cursor_word t 0) (λ p n. SetTotal t) }
+    ensures { (total : ℕ) → IsLaw (SettingTotal total) (λ w p. CursorOf (slot_of p))
+        (λ p word. cursor_word total 0) (λ p word. SetTotal total) }
 {}
 
 /// A store of the open word in the slot's state word.
@@ -136,14 +152,14 @@ pub fn set_total()
 /// and the total is there before the slot opens.
 pub fn install()
     ensures { (id : ℕ) → IsLaw (Installing id) (λ w p. StateOf (slot_of p))
-        (λ p n. open_word id) (λ p n. Install id) }
+        (λ p word. open_word id) (λ p word. Install id) }
 {}
 
 /// A store of 0 in the slot's state word.
 ///
 /// No lock: as for `install`.
 pub fn release()
-    ensures { IsLaw Releasing (λ w p. StateOf (slot_of p)) (λ p n. 0) (λ p n. Release) }
+    ensures { IsLaw Releasing (λ w p. StateOf (slot_of p)) (λ p word. 0) (λ p word. Release) }
 {}
 
 /// The slot's bit is set in a mask word of the worker that is told: of its returns after a
@@ -152,7 +168,7 @@ pub fn release()
 /// No lock: bits of other slots stay, and a bit that is set twice is set.
 pub fn announce()
     ensures { IsLaw AnnouncingNext (λ w p. mask_told p)
-        (λ p n. bit_or n (bit_of (slot_of p))) (λ p n. Announce) }
+        (λ p word. bit_or word (bit_of (slot_of p))) (λ p word. Announce) }
 {}
 
 /// A swap of an own mask word with 0.
@@ -160,7 +176,7 @@ pub fn announce()
 /// No lock: a notice that is set before the swap is taken by it, and a later one stays.
 pub fn take_return()
     ensures { (part : ℕ) → IsLaw (TakingReturn part) (λ w p. ReturnOf w part)
-        (λ p n. 0) (λ p n. TakeReturn part n) }
+        (λ p word. 0) (λ p word. TakeReturn part word) }
 {}
 
 /// A swap of an own mask word with 0.
@@ -168,7 +184,7 @@ pub fn take_return()
 /// No lock: as for `take_return`.
 pub fn take_change()
     ensures { (part : ℕ) → IsLaw (TakingChange part) (λ w p. ChangeOf w part)
-        (λ p n. 0) (λ p n. TakeChange part n) }
+        (λ p word. 0) (λ p word. TakeChange part word) }
 {}
 
 /// Before the sweep a slot's counter is minus the number of workers that paid, and after it the

@@ -32,8 +32,7 @@ abbrev pub next_is_at : Shape → ObjectState → ℕ → SlotState → Bool
 next_is_at d S s (Shut t end) = is_at (S.places (next_asked d end)) s
 next_is_at d S s x = false
 
--- a number of 64 bits whose bit k is set exactly where the slot k of the part has its notice
--- pending
+-- a number of 64 bits, whose bit k is set exactly if the notice of slot k of the part is pending
 pub record IsMask (part : ℕ) (pending : ℕ → Bool) (bits : ℕ) : Type 0 where
   pub small : bits < 2 ^ 64
   pub each : (k : ℕ) → k < 64 → bit_at bits k ≡ cond (pending (part * 64 + k)) 1 0

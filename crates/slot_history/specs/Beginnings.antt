@@ -46,7 +46,7 @@ abbrev pub WholeByOwnCalls : Type 0
 WholeByOwnCalls = (d : Shape) (h early : List Entry) → IsLegal d h → Begins h early
     → ((w : ℕ) → w < d.workers → own_calls w h ≡ own_calls w early) → h ≡ early
 
--- what lies between a beginning that has all own calls of a worker and the whole, has them too
+-- what lies between a beginning that has all own calls of a worker and the whole has them too
 abbrev pub OwnCallsBetween : Type 0
 OwnCallsBetween = (w : ℕ) (h mid early : List Entry) → Begins h mid → Begins mid early
     → own_calls w h ≡ own_calls w early → own_calls w h ≡ own_calls w mid
@@ -61,7 +61,8 @@ abbrev pub TaskSetsStay : Type 0
 TaskSetsStay = (d : Shape) (h early : List Entry) → IsLegal d h → Begins h early
     → KeepsTaskSets d h early
 
--- the task set that a worker finalises is so, by any history in which it is the holder
+-- the task set that a worker finalises was finalised, and its claims tile its total, by any history
+-- in which the worker is the holder
 abbrev pub HolderTiles : Type 0
 HolderTiles = (d : Shape) (w s : ℕ) (held : Held) (h : List Entry) → IsLegal d h → w < d.workers
     → place_of d h w ≡ Holding s held → held.again ≡ true → IsTiled d h (finalised_id held)

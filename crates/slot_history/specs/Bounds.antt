@@ -18,14 +18,14 @@ pub record IsShape (d : Shape) : Type 0 where
   pub workers : (0 < d.workers) × (d.workers ≤ MOST_WORKERS)
   pub queries : d.queries ≤ MOST_QUERIES
 
--- a place names a slot that there is, and an announcer has still to tell a worker that there is
+-- a place names a slot of the shape, and an announcer still has to tell a worker of the shape
 abbrev pub IsPlaceWithin : Shape → Place → Type 0
 IsPlaceWithin d Free = Unit {0}
 IsPlaceWithin d (Announcing s again told) = (s < d.slots) × (told < d.workers)
 IsPlaceWithin d p = slot_of p < d.slots
 
--- only the slots and workers of the shape take part, also in notices, and no more queries are
--- admitted than there are
+-- only the slots and workers of the shape take part, also in notices, and at most its queries are
+-- admitted
 pub record IsWithin (d : Shape) (S : ObjectState) : Type 0 where
   pub places : (v : ℕ) → IsPlaceWithin d (S.places v)
   pub others : (v : ℕ) → d.workers ≤ v → S.places v ≡ Free
@@ -55,8 +55,8 @@ IsCursorBound d places s (Shut t end) =
     + MOST_CLAIM * (1 + count_of d.workers (λ v. not (is_claiming_at s (places v))))
 IsCursorBound d places s x = Unit {0}
 
--- cursors: a worker that found all tuples claimed is right, a task set is shut only then, and no
--- cursor goes too far
+-- a worker that found all tuples claimed is right, a task set is shut only then, and no cursor goes
+-- too far
 pub record AreCursors (d : Shape) (S : ObjectState) : Type 0 where
   pub used : (v s id : ℕ) → v < d.workers → S.places v ≡ Used s id
       → (task_of (S.slots s)).total ≤ (task_of (S.slots s)).cursor
@@ -90,9 +90,8 @@ IsSlotSound (Finishing id w held) = IsFinalisation id held
 abbrev pub AreSlotsSound : Shape → ObjectState → Type 0
 AreSlotsSound d S = (s : ℕ) → IsSlotSound (S.slots s)
 
--- at most so many task sets may still be noted as done because of the slot as it is: by a
--- reservation of a query once and then at each of its stages, and at each of these at most one for
--- each stage
+-- how many task sets may still be noted as done because of the slot as it is: by a reservation with
+-- a query once, and then at each of its stages, each time at most one for each stage
 abbrev pub note_room : SlotState → ℕ
 note_room Empty = 0
 note_room (Reserved w held) = cond (is_some held.query) (STAGES * (STAGES + 1) - held.noted) 0
@@ -111,8 +110,8 @@ abbrev pub IsCursorLimit : Shape → ObjectState → Type 0
 IsCursorLimit d S = (s : ℕ)
     → (task_of (S.slots s)).cursor ≤ (task_of (S.slots s)).total + MOST_CLAIM * (d.workers + 1)
 
--- of a shut slot, who paid and who still owes are the marked workers, which are fewer than the
--- workers
+-- at a shut slot those that paid and those that still owe are together the marked workers, which
+-- are fewer than the workers
 abbrev pub AreDebtsWithin : Shape → ObjectState → Type 0
 AreDebtsWithin d S = (s : ℕ) (t : TaskSet) (end : Ending) → S.slots s ≡ Shut t end
     → (count_of d.workers end.paid + debts d (Shut t end) ≡ count_of d.workers end.marked)

@@ -1,4 +1,4 @@
--- Calls without their answers: where each is allowed, and which answer it has there.
+-- Calls without their answers: at which places each is allowed, and which answer the state gives.
 use Rattle.std.specs.Prelude.{◌≡◌, ℕ, ◌+◌, ◌*◌, ◌^◌, ◌<◌, ◌≤◌, ◌⊎◌, zero, suc, Bool, true, cond}
 use Rattle.std.specs.Prelude.{eqb, ltb, ◌&&◌, min, None, IsSome}
 use Rattle.slot_history.specs.declared.shape.Shape.{Shape}
@@ -112,7 +112,7 @@ MayAt d p (TakingChange part) = part < PARTS
 abbrev pub MayCall : Shape → ObjectState → ℕ → Call → Type 0
 MayCall d S w c = MayAt d (S.places w) c
 
--- the number whose bit k, of n bits, is set exactly where f k
+-- the number of n bits whose bit k is set exactly if k is in the set f
 unfoldable pub mask_of : ℕ → (ℕ → Bool) → ℕ
 mask_of zero f = 0
 mask_of (suc n) f = cond (f n) 1 0 * 2 ^ n + mask_of n f
@@ -124,7 +124,7 @@ looked_at (Open t) = LookOpen t.id
 looked_at (Shut t end) = LookInvalid
 looked_at (Finishing id w held) = LookInvalid
 
--- the call with its answer, where w makes it at the slot x
+-- the call of w with its answer, at a slot in the state x
 abbrev pub answer_at : Shape → ObjectState → ℕ → Call → SlotState → Act
 answer_at d S w (Entering s) x = Enter s
 answer_at d S w Looking x = looked_at x

@@ -18,7 +18,7 @@ use Rattle.slot_history.specs.States.{NoticeRecord, slot_of, id_at, held_at, is_
 use Rattle.slot_history.specs.Steps.{site, is_in_part, dropped, looked, state_after}
 use Rattle.slot_history.specs.Allowed.{IsAllowed}
 
--- each call was allowed where it was made, and had its answer
+-- each call was allowed when it was made, and had the answer that the state gave
 abbrev pub IsLegal : Shape → List Entry → Type 0
 IsLegal d [] = Unit {0}
 IsLegal d (e ∷ es) = (e.worker < d.workers) × IsAllowed d (state_after d es) e.worker e.act
@@ -54,7 +54,7 @@ pub record Morsel : Type 0 where
   pub from : ℕ
   pub to : ℕ
 
--- one more where the call is a claim that got a range, by a worker that is inside with the id
+-- one more if the call is a claim that got a range, by a worker that is inside with the id
 abbrev pub claims_after : ℕ → Act → Place → ℕ → List Morsel → List Morsel
 claims_after w (ClaimRange n from to) p id ms =
     cond (is_inside p id) (record { worker = w; from = from; to = to } ∷ ms) ms
@@ -82,7 +82,7 @@ abbrev pub ranges_by : ℕ → List Morsel → List (ℕ × ℕ)
 ranges_by w [] = []
 ranges_by w (m ∷ ms) = cond (eqb w m.worker) ((m.from, m.to) ∷ ranges_by w ms) (ranges_by w ms)
 
--- Claims, newest first, tile a total: the newest ends at the total and is not empty, and the
+-- Claims, newest first, tile a total. The newest is not empty and ends at the total, and the
 -- earlier ones tile the number at which it begins. Without claims the total is 0.
 abbrev pub Tiles : List Morsel → ℕ → Type 0
 Tiles [] total = total ≡ 0
@@ -159,13 +159,13 @@ is_last SweepLast = true
 is_last PayLast = true
 is_last _ = false
 
--- how many calls were answered that the task set of an id is finalised now
+-- how many calls on the task set of an id were answered Last: its caller finalises
 abbrev pub lasts_of : Shape → ℕ → List Entry → ℕ
 lasts_of d id [] = 0
 lasts_of d id (e ∷ es) =
     cond (is_last e.act && eqb (id_at (place_of d es e.worker)) id) 1 0 + lasts_of d id es
 
--- the worker whose call was answered so, if there is one
+-- the worker whose call was answered Last, if there is one
 abbrev pub finisher_of : Shape → ℕ → List Entry → Option ℕ
 finisher_of d id [] = None
 finisher_of d id (e ∷ es) = let here = id_at (place_of d es e.worker) in
@@ -201,9 +201,9 @@ task_in d s [] = None
 task_in d s (e ∷ es) = let here = site e.act (place_of d es e.worker) in
     cond (renews e.act && eqb here s) (task_given e.act) (task_in d s es)
 
--- A task set that was finalised was so once, and in place: it was installed in a slot, at every
--- moment from then on nobody is inside with it and no call touches it, and no call gives its slot
--- away between its install and then.
+-- A finalised task set was finalised exactly once, and in place. It was installed in a slot. From
+-- its last call on, nobody is inside with it and no call touches it. Between its install and its
+-- last call, no call gives its slot away.
 pub record FinalisedOnce (d : Shape) (id : ℕ) (h : List Entry) : Type 0 where
   pub once : lasts_of d id h ≡ 1
   pub slot : IsSome (slot_with d id h)

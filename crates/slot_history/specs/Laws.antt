@@ -30,18 +30,18 @@ abbrev pub QuietSlots : Shape → ObjectState → Type 0
 QuietSlots d S = IsQuiet d S → (s : ℕ)
     → (is_empty (S.slots s) ≡ true) ⊎ (is_open (S.slots s) ≡ true)
 
--- a worker that is inside a slot with an id is so at a slot that is open or shut with this id
+-- if a worker is inside a slot with an id, the slot is open or shut with this id
 abbrev pub InsideSlots : Shape → ObjectState → Type 0
 InsideSlots d S = (s v id : ℕ) → v < d.workers → has_own_cell (S.places v) s ≡ true
     → is_inside (S.places v) id ≡ true
     → ((is_open (S.slots s) ≡ true) ⊎ (is_shut (S.slots s) ≡ true)) × (id_of (S.slots s) ≡ id)
 
--- a marked worker that has not paid is so at one slot
+-- a worker is marked without having paid at one slot at most
 abbrev pub OneDebt : Shape → ObjectState → Type 0
 OneDebt d S = (s other v : ℕ) → v < d.workers
     → owes (S.slots s) v ≡ true → owes (S.slots other) v ≡ true → s ≡ other
 
--- a worker that is inside a shut slot is marked and has not paid, or was not asked yet, or is the
+-- a worker inside a shut slot is marked and has not paid, or was not asked yet, or is the
 -- coordinator
 abbrev pub ShutInside : Shape → ObjectState → Type 0
 ShutInside d S = (s v : ℕ) (t : TaskSet) (end : Ending) → v < d.workers → S.slots s ≡ Shut t end
@@ -53,7 +53,7 @@ abbrev pub CoordinatorOwesNothing : Shape → ObjectState → Type 0
 CoordinatorOwesNothing d S = (s id w : ℕ) → w < d.workers → S.places w ≡ Leading s id
     → owes (S.slots s) w ≡ false
 
--- a cell is with one worker at most
+-- a cell is with at most one worker
 abbrev pub OneOwner : Shape → ObjectState → Type 0
 OneOwner d S = (s v w u : ℕ) → w < d.workers → u < d.workers
     → HasCell S s v w → HasCell S s v u → w ≡ u
@@ -72,9 +72,9 @@ OwnEntries d h = (w : ℕ) → IsOwn d h w
 abbrev pub OwnRecords : Shape → List Entry → Type 0
 OwnRecords d h = (w s : ℕ) → (state_after d h).records w s ≡ own_record d w s h
 
--- What a worker knows of its call, by its trails before and after: its place, its claims and its
--- notice records go on from those that the trail before gave, and the call was allowed, with its
--- answer, after a legal history in which it was at that place.
+-- What a worker knows of its call e, by its trails before and after. Its place, its claims and its
+-- notice records go on from those that the trail before gave. The call was allowed, with its
+-- answer, after a legal history in which the worker was at that place.
 pub record IsCallFrom (d : Shape) (e : Entry) (old new : List Entry) : Type 0 where
   pub place : place_of d new e.worker ≡ moved d e.act (place_of d old e.worker)
   pub ranges : (id : ℕ) → ranges_of d e.worker id new
@@ -89,7 +89,7 @@ abbrev pub CallsGoOn : Type 0
 CallsGoOn = (d : Shape) (w : ℕ) (a : Act) (old new : List Entry)
     → Called d (entry w a) old new → IsCallFrom d (entry w a) old new
 
--- who learns at its leave that it owes was not the coordinator
+-- a worker whose leave answers that it owes was not the coordinator
 abbrev pub CoordinatorLeaves : Type 0
 CoordinatorLeaves = (d : Shape) (w s id jd : ℕ) (old new : List Entry)
     → Called d (entry w (LeaveOwe jd)) old new
@@ -99,7 +99,7 @@ CoordinatorLeaves = (d : Shape) (w s id jd : ℕ) (old new : List Entry)
 abbrev pub AfterAll : (Shape → List Entry → Type 0) → Type 0
 AfterAll P = (d : Shape) (h : List Entry) → IsLegal d h → P d h
 
--- each task set is installed, and each query admitted, once at most
+-- each task set is installed, and each query admitted, at most once
 abbrev pub OnlyOnce : Shape → List Entry → Type 0
 OnlyOnce d h = ((id : ℕ) → installs_of id h ≤ 1) × ((q : ℕ) → admits_of q h ≤ 1)
 
@@ -140,24 +140,24 @@ TilesCursor d h = (s : ℕ) → has_task ((state_after d h).slots s) ≡ true
     → let t = task_of ((state_after d h).slots s) in
     (total_of d t.id h ≡ Some t.total) × Tiles (claims_of d t.id h) (min t.cursor t.total)
 
--- the claims of a task set that is shut tile its total; and one that was finalised was installed
--- with a total, which its claims tile
+-- the claims of a shut task set tile its total; a finalised task set was installed with a total,
+-- which its claims tile
 abbrev pub TilesTotal : Shape → List Entry → Type 0
 TilesTotal d h = ((s : ℕ) → is_shut ((state_after d h).slots s) ≡ true
     → let t = task_of ((state_after d h).slots s) in Tiles (claims_of d t.id h) t.total)
     × ((id : ℕ) → 0 < lasts_of d id h
     → (total : ℕ) × (total_of d id h ≡ Some total) × Tiles (claims_of d id h) total)
 
--- a slot that is being finalised was so finalised for its id
+-- a slot is finishing an id only after a call on this id was answered Last
 abbrev pub FinishingLast : Shape → List Entry → Type 0
 FinishingLast d h = (s id w : ℕ) (held : Held) → (state_after d h).slots s ≡ Finishing id w held
     → 0 < lasts_of d id h
 
--- each task set that was finalised was so once, and in place
+-- each finalised task set was finalised exactly once, and in place
 abbrev pub OnceInPlace : Shape → List Entry → Type 0
 OnceInPlace d h = (id : ℕ) → 0 < lasts_of d id h → FinalisedOnce d id h
 
--- Where a task set other than the first of its query is installed, the one before it was finalised
+-- If a task set other than the first of its query is installed, the one before it was finalised
 -- once, in the slot of this install, and no call gave this slot away since.
 abbrev pub StagesInOrder : Type 0
 StagesInOrder = (d : Shape) (w id : ℕ) (h : List Entry) → IsLegal d (entry w (Install (id + 1)) ∷ h)

@@ -59,7 +59,7 @@ Counts (Runs s total) tally = (tally.installs ≡ 1) × (tally.lasts ≡ 0) × (
 Counts (Done total) tally = (tally.installs ≡ 1) × (tally.lasts ≡ 1) × (tally.total ≡ Some total)
     × IsSome tally.slot
 
--- and so of each task set of a history
+-- the lives of all task sets of a history agree with its counts
 abbrev pub CountsOf : Shape → List Entry → Type 0
 CountsOf d h = (id : ℕ) → Counts (life_of d id h) (tally_of d id h)
 
@@ -110,8 +110,8 @@ IsSlotBook B s (Open t) = IsRunning B s t
 IsSlotBook B s (Shut t end) = IsRunning B s t
 IsSlotBook B s (Finishing id w held) = (total : ℕ) × (B.life id ≡ Done total) × AreLaterNever B id
 
--- The book is right: each slot runs its own task set; a task set that runs is in its slot, one that
--- was never installed has no claims, none of a query that was not admitted was installed, and no
+-- The book is right. Each slot runs its own task set, and a task set that runs is in its slot. One
+-- that was never installed has no claims. None of a query that was not admitted was installed. No
 -- two slots serve one query.
 pub record IsBook (B : Book) (slots : ℕ → SlotState) : Type 0 where
   pub slot : (s : ℕ) → IsSlotBook B s (slots s)

@@ -34,7 +34,7 @@ pub record IsLone (d : Shape) (S : ObjectState) (w : ℕ) : Type 0 where
   pub others : (v : ℕ) → v < d.workers → v ≢ w → S.places v ≡ Free
   pub unmarked : (s : ℕ) → owes (S.slots s) w ≡ false
 
--- the answers that a worker gets only where it meets another one
+-- the answers that a worker gets only if it meets another one
 abbrev pub needs_another : Act → Bool
 needs_another LookInvalid = true
 needs_another ShutLost = true
@@ -45,7 +45,7 @@ needs_another PayDone = true
 needs_another PayLast = true
 needs_another _ = false
 
--- no answer takes another worker
+-- no answer needs another worker
 abbrev pub NeedsNobody : List Entry → Type 0
 NeedsNobody [] = Unit {0}
 NeedsNobody (e ∷ es) = (needs_another e.act ≡ false) × NeedsNobody es
@@ -67,7 +67,7 @@ abbrev pub AreTakes : List Entry → Type 0
 AreTakes [] = Unit {0}
 AreTakes (e ∷ es) = (is_take e.act ≡ true) × AreTakes es
 
--- among the calls is a take, by w, of the notices of this kind of this part
+-- w took the notices of this kind and this part by one of the calls
 abbrev pub Took : Bool → ℕ → ℕ → List Entry → Type 0
 Took again w part takes = (bits : ℕ) × (more early : List Entry)
     × (takes ≡ more ++ entry w (take_of again part bits) ∷ early)
@@ -89,7 +89,7 @@ StaysLone = (d : Shape) (w : ℕ) (more old : List Entry) → w < d.workers → 
 abbrev pub EndsQuiet : Type 0
 EndsQuiet = (d : Shape) (S : ObjectState) (w : ℕ) → IsLone d S w → S.places w ≡ Free → IsQuiet d S
 
--- a lone worker gets no answer that takes another one
+-- a lone worker gets no answer that needs another one
 abbrev pub MeetsNobody : Type 0
 MeetsNobody = (d : Shape) (w : ℕ) (a : Act) (h : List Entry) → IsLegal d (entry w a ∷ h)
     → IsLone d (state_after d h) w → needs_another a ≡ false
@@ -99,8 +99,8 @@ abbrev pub RunMeetsNobody : Type 0
 RunMeetsNobody = (d : Shape) (w : ℕ) (more old : List Entry) → w < d.workers
     → IsLegal d (more ++ old) → IsQuiet d (state_after d old) → IsOnlyBy w more → NeedsNobody more
 
--- where a lone worker sees its slot open, and no change notice of it is pending, its record allows
--- the query
+-- if a lone worker sees its slot open, and no change notice of it is pending, its record allows the
+-- query
 abbrev pub LookIsKnown : Type 0
 LookIsKnown = (d : Shape) (w id : ℕ) (h : List Entry) → IsLegal d (entry w (LookOpen id) ∷ h)
     → let S = state_after d h in let s = slot_of (S.places w) in

@@ -29,15 +29,15 @@ abbrev pub TaskKeepsSlot : Type 0
 TaskKeepsSlot = (d : Shape) (h mid : List Entry) (s id : ℕ) → IsLegal d h
     → task_in d s h ≡ Some id → Begins h mid → 0 < installs_of id mid → task_in d s mid ≡ Some id
 
--- The answer Last comes in the slot of the task set's install, and once its claims tile the total
--- of this install.
+-- A call that is answered Last is about the slot of the task set's install. By then the claims of
+-- the task set tile the total of this install.
 abbrev pub LastInSlot : Type 0
 LastInSlot = (d : Shape) (w : ℕ) (a : Act) (h : List Entry) → IsLegal d (entry w a ∷ h)
     → is_last a ≡ true → let id = id_at (place_of d h w) in
     (slot_with d id h ≡ Some (slot_of (place_of d h w)))
     × ((total : ℕ) × (total_of d id h ≡ Some total) × Tiles (claims_of d id h) total)
 
--- and a slot that is finishing is that of the install of its task set
+-- a slot that is finishing is the slot of its task set's install, whose claims tile its total
 abbrev pub FinishingInSlot : Shape → List Entry → Type 0
 FinishingInSlot d h = (s id w : ℕ) (held : Held) → (state_after d h).slots s ≡ Finishing id w held
     → (slot_with d id h ≡ Some s) × IsTiled d h id
@@ -57,13 +57,13 @@ SameQuerySeen = (d : Shape) (w u s id jd kd : ℕ) (h mid : List Entry)
     → place_of d h w ≡ Entered s → place_of d mid u ≡ Entered s
     → jd / STAGES ≡ id / STAGES → 0 < installs_of jd mid → kd / STAGES ≡ id / STAGES
 
--- of a task set other than the first of its query that was installed, the one before it was
--- finalised, in the same slot
+-- if a task set other than the first of its query was installed, the one before it was finalised,
+-- in the same slot
 abbrev pub StageBefore : Shape → List Entry → Type 0
 StageBefore d h = (id s : ℕ) → slot_with d (id + 1) h ≡ Some s → (id + 1) % STAGES ≢ 0
     → (lasts_of d id h ≡ 1) × (slot_with d id h ≡ Some s)
 
--- a task set that was finalised has a finisher, a worker of the shape
+-- a finalised task set has a finisher, a worker of the shape
 abbrev pub HasFinisher : Shape → List Entry → Type 0
 HasFinisher d h = (id : ℕ) → 0 < lasts_of d id h
     → (w : ℕ) × (w < d.workers) × (finisher_of d id h ≡ Some w)

@@ -7,7 +7,7 @@ use Rattle.slot_history.specs.declared.act.Act.TheVariants.{TakeReturn, TakeChan
 use Rattle.slot_history.specs.declared.place.Place.TheVariants.{Free, Announcing}
 use Rattle.slot_history.specs.States.{NoticeRecord, ObjectState, id_of, has_id, is_open}
 
--- the pending notices of one kind: return notices where it is `again`, else change notices
+-- the pending notices of one kind: return notices if `again`, else change notices
 abbrev pub notices_of : Bool → ObjectState → ℕ → ℕ → Bool
 notices_of true S = S.returns
 notices_of false S = S.changes
@@ -45,6 +45,6 @@ pub record IsNoticedAt (S : ObjectState) (s v : ℕ) : Type 0 where
 abbrev pub IsNoticed : Shape → ObjectState → Type 0
 IsNoticed d S = (s v : ℕ) → s < d.slots → v < d.workers → IsNoticedAt S s v
 
--- every worker is free, and so nobody is left to be told
+-- every worker is free; so nobody is left to be told
 abbrev pub IsQuiet : Shape → ObjectState → Type 0
 IsQuiet d S = (v : ℕ) → v < d.workers → S.places v ≡ Free

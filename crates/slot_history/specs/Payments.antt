@@ -26,8 +26,8 @@ abbrev pub IsOneMarked : Shape → SlotState → SlotState → Type 0
 IsOneMarked d x y = (payments d y ≡ payments d x) × (debts d y ≡ debts d x + 1)
     × (marks d y ≡ marks d x + 1)
 
--- a mark is one mark more, a payment that is not the last one payment more, and before the last
--- payment there is one debt
+-- A mark adds one mark and one debt. A payment that is not the last adds one payment and takes one
+-- debt. Before the last payment there is one debt.
 abbrev pub DebtsGoOn : Shape → ObjectState → Type 0
 DebtsGoOn d S = (w : ℕ) → w < d.workers → let x = S.slots (slot_of (S.places w)) in
     (IsAllowed d S w MarkMarked → IsOneMarked d x (slot_after d w MarkMarked x))

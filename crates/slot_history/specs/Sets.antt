@@ -5,7 +5,7 @@ use Rattle.std.specs.Prelude.{ℕ, zero, suc, ◌+◌, Bool, cond, eqb}
 abbrev pub upd : {A : Type 0} → (ℕ → A) → ℕ → A → ℕ → A
 upd f at new k = cond (eqb k at) new (f k)
 
--- the least number below n that is in the set, or n where there is none
+-- the least number below n that is in the set, or n if there is none
 abbrev pub least : ℕ → (ℕ → Bool) → ℕ
 least zero f = 0
 least (suc n) f = cond (f 0) 0 (suc (least n (λ k. f (suc k))))

@@ -33,15 +33,15 @@ pub data SlotState : Type 0 where
   -- the id that is finalised, by whom, and what it noted and set in this holding
   Finishing : ℕ → ℕ → Held → SlotState
 
--- what a worker knows of a slot: whether its task set may want work, and of which query it is, if
--- that is known
+-- what a worker knows of a slot: whether there may be work on its task set, and its query, if that
+-- is known
 pub record NoticeRecord : Type 0 where
   pub active : Bool
   pub group : Option ℕ
 
--- the object: its slots; the places of its workers; by worker and slot the change notices and the
--- return notices that are pending, and the notice records; the numbers of admitted queries and of
--- task sets noted as done
+-- The object: its slots and the places of its workers. By worker and slot, the pending change
+-- notices, the pending return notices and the notice records. The numbers of admitted queries and
+-- of task sets noted as done.
 pub record ObjectState : Type 0 where
   pub slots : ℕ → SlotState
   pub places : ℕ → Place
@@ -106,8 +106,8 @@ abbrev pub held_at : Place → Held
 held_at (Holding s held) = held
 held_at _ = reservation
 
--- the id of the task set that comes next in a holding with a query: that of stage 0 after a
--- reservation, and after a finalisation that of the next stage
+-- the id of the next task set of a holding with a query: stage 0 after a reservation, and the next
+-- stage after a finalisation
 abbrev pub next_id : Held → ℕ
 next_id held = STAGES * unwrap_or held.query 0 + cond held.again (held.stage + 1) 0
 
@@ -128,7 +128,7 @@ id_of (Shut t end) = t.id
 id_of (Finishing id w held) = id
 id_of _ = 0
 
--- that task set, if there is one
+-- the same as an option: none if the slot has no task set
 abbrev pub task_at : SlotState → Option ℕ
 task_at (Open t) = Some t.id
 task_at (Shut t end) = Some t.id
@@ -174,7 +174,7 @@ abbrev pub owes : SlotState → ℕ → Bool
 owes (Shut t end) v = end.marked v && not (end.paid v)
 owes _ v = false
 
--- the word of a slot: 0 empty, 1 reserved, (id + 1) * 4 + 2 open, and that plus 1 once it is shut
+-- the word of a slot: 0 if empty, 1 if reserved, (id + 1) * 4 + 2 if open, 1 more once it is shut
 abbrev pub slot_word : SlotState → ℕ
 slot_word Empty = 0
 slot_word (Reserved w held) = 1

@@ -39,12 +39,12 @@ held_after _ held = held
 
 -- ---- the place of the worker that calls
 
--- whoever shut the task set leaves to ask the others, and all others are free
+-- after a leave: whoever shut the task set asks the others, and any other worker is free
 abbrev pub left : Place → Place
 left (Leading s id) = Asking s id 0 0
 left _ = Free
 
--- a coordinator asked one more, and marked so many
+-- the coordinator asked one more worker, and marked n more, 0 or 1
 abbrev pub asked_one : Place → ℕ → Place
 asked_one (Asking s id asked marked) n = Asking s id (asked + 1) (marked + n)
 asked_one p n = p
@@ -53,14 +53,13 @@ abbrev pub holding_after : Act → Place → Place
 holding_after a (Holding s held) = Holding s (held_after a held)
 holding_after a p = p
 
--- who has told all workers is free
+-- an announcer told one more worker; once it has told all, it is free
 abbrev pub told_one : Shape → Place → Place
 told_one d (Announcing s again told) =
     cond (eqb (told + 1) d.workers) Free (Announcing s again (told + 1))
 told_one d p = p
 
--- the worker's place after its call, by its place before; a call that is not named leaves it where
--- it is
+-- the worker's place after its call, by its place before; calls that are not named don't move it
 abbrev pub moved : Shape → Act → Place → Place
 moved d (Enter s) p = Entered s
 moved d (LookOpen id) p = Inside (slot_of p) id
@@ -97,7 +96,7 @@ claimed (Open t) n = Open (grown t n)
 claimed (Shut t end) n = Shut (grown t n) end
 claimed x n = x
 
--- a task set that w just shut: nobody was asked
+-- the end of a task set that w just shut: nobody was asked yet
 abbrev pub first_ending : ℕ → Ending
 first_ending w = record {
   coordinator = w;
@@ -149,7 +148,7 @@ opened id (Reserved w held) = Open (first_of id held)
 opened id (Finishing jd w held) = Open (first_of id held)
 opened id x = x
 
--- the slot after a call of w that is about it; a call that is not named leaves it as it is
+-- the slot after a call of w that is about it; calls that are not named don't change it
 abbrev pub slot_after : Shape → ℕ → Act → SlotState → SlotState
 slot_after d w (ClaimRange n from to) x = claimed x n
 slot_after d w (ClaimUsed n) x = claimed x n
@@ -219,7 +218,7 @@ abbrev pub joined_by_change : ℕ → (ℕ → Bool) → (ℕ → NoticeRecord) 
 joined_by_change part pending records s =
     cond (is_in_part part s && pending s) (record { active = true; group = None }) (records s)
 
--- the records with that of the slot at this place dropped
+-- the records, of which that of the place's slot is dropped
 abbrev pub dropped_at : Place → (ℕ → NoticeRecord) → ℕ → NoticeRecord
 dropped_at p records = upd records (slot_of p) (dropped (records (slot_of p)))
 

@@ -11,13 +11,13 @@ use Rattle.slot_history.specs.Histories.{total_of}
 use Rattle.slot_history.specs.Lives.{has_task}
 use Rattle.slot_history.specs.Numbers.{named_id}
 
--- a call with this total set, if it is an install, is of a task set that the subject has, with its
--- total
+-- a call, with the total that its worker set: an install is of a task set of the subject, with the
+-- subject's total
 abbrev pub InstallsOf : (ℕ → Option ℕ) → Act → Option ℕ → Type 0
 InstallsOf totals (Install id) total = IsSome total × (totals id ≡ total)
 InstallsOf totals a total = Unit {0}
 
--- and so is the newest call of a history
+-- the same of the newest call of a history
 abbrev pub EntryIsOf : (ℕ → Option ℕ) → Shape → Entry → List Entry → Type 0
 EntryIsOf totals d e early = InstallsOf totals e.act (held_at (place_of d early e.worker)).total
 
@@ -39,7 +39,7 @@ abbrev pub SubjectShows : Type 0
 SubjectShows = (totals : ℕ → Option ℕ) (d : Shape) (h : List Entry) → IsLegal d h
     → IsOfTotals totals d h → ShowsSubject totals d h
 
--- one call more leaves it of the subject where the call is
+-- a history stays of the subject if its next call is of the subject
 abbrev pub SubjectGoesOn : Type 0
 SubjectGoesOn = (totals : ℕ → Option ℕ) (d : Shape) (e : Entry) (h : List Entry)
     → IsOfTotals totals d h → EntryIsOf totals d e h → IsOfTotals totals d (e ∷ h)

@@ -93,8 +93,8 @@ Meets d s (Owes id) p = (slot_of p ≡ s) × (stays p ≡ true) × (binds p ≡ 
 Meets d s (Leads id end) p = (slot_of p ≡ s) × (id_at p ≡ id) × IsLeading d end p
 Meets d s (Holds held) p = p ≡ Holding s held
 
--- who paid was marked, who was marked was asked, and who was asked is not the coordinator; after
--- the sweep all others were asked, and one of them has still to pay
+-- Whoever paid was marked, whoever was marked was asked, and whoever was asked is not the
+-- coordinator. After the sweep all others were asked, and one of them still has to pay.
 pub record IsChain (d : Shape) (end : Ending) : Type 0 where
   pub coordinator : end.coordinator < d.workers
   pub paid : (v : ℕ) → end.paid v ≡ true → end.marked v ≡ true
@@ -104,8 +104,7 @@ pub record IsChain (d : Shape) (end : Ending) : Type 0 where
       → end.asked v ≡ true
   pub one_owes : end.swept ≡ true → (v : ℕ) × (v < d.workers) × (owing end v ≡ true)
 
--- of a slot that is held, the holder is a worker; of one that is shut, the sets lie within one
--- another
+-- the holder of a held slot is a worker; the sets of a shut slot lie within one another
 abbrev pub IsChainOf : Shape → SlotState → Type 0
 IsChainOf d (Reserved w held) = w < d.workers
 IsChainOf d (Shut t end) = IsChain d end
@@ -125,8 +124,8 @@ pub record Asker : Type 0 where
   pub asked : ℕ
   pub marked : ℕ
 
--- The slot of a coordinator that asks: it is shut with the coordinator's id, the coordinator shut
--- it and has not swept, and whom it asks next is the one after those that it asked.
+-- The slot of a coordinator that asks is shut with the coordinator's id. The coordinator shut it
+-- and has not swept. It asks next the worker after those that it asked.
 pub record IsLed (d : Shape) (x : SlotState) (asker : Asker) : Type 0 where
   pub task : TaskSet
   pub ending : Ending
@@ -138,7 +137,7 @@ pub record IsLed (d : Shape) (x : SlotState) (asker : Asker) : Type 0 where
   pub next : asker.asked + 1 < d.workers
       → next_asked d ending ≡ nth_other asker.worker asker.asked
 
--- of each coordinator that asks
+-- each coordinator that asks has such a slot
 abbrev pub AreLed : Shape → ObjectState → Type 0
 AreLed d S = (w s id asked marked : ℕ) → w < d.workers → S.places w ≡ Asking s id asked marked
     → IsLed d (S.slots s) (record { worker = w; id = id; asked = asked; marked = marked })

@@ -45,9 +45,9 @@ pub fn limits()
     ensures ids { IdsAreSmall }
 {}
 
-/// Every worker is at a place that the state of each slot allows it, and of a shut slot those that
-/// paid were marked, those that were marked were asked, and those that were asked are the first of
-/// the others.
+/// Every worker is at a place that the state of each slot allows it. At a shut slot those that paid
+/// were marked, those that were marked were asked, and those that were asked are the first of the
+/// others.
 ///
 /// Ruled out: a sweep before the last worker was asked, a mark that carries no id, a leave that
 /// forgets the debt.
@@ -71,7 +71,7 @@ pub fn quiet_slots()
     ensures { Always QuietSlots }
 {}
 
-/// A worker that is inside a slot with an id is so at a slot that is open or shut with this id.
+/// If a worker is inside a slot with an id, the slot is open or shut with this id.
 ///
 /// Ruled out: a state word that is published after the look, by which a worker could come inside
 /// unseen by the marks.
@@ -79,7 +79,7 @@ pub fn inside_slots()
     ensures { Always InsideSlots }
 {}
 
-/// A marked worker that has not paid is so at one slot.
+/// A worker is marked without having paid at one slot at most.
 ///
 /// Ruled out: a leave that forgets the debt, after which its worker could be marked at a second
 /// slot.
@@ -87,7 +87,7 @@ pub fn one_debt()
     ensures { Always OneDebt }
 {}
 
-/// A worker that is inside a shut slot is marked and has not paid, or was not asked yet, or is the
+/// A worker inside a shut slot is marked and has not paid, or was not asked yet, or is the
 /// coordinator.
 ///
 /// Ruled out: a state word that is published after the look, by which a worker that was asked could
@@ -111,7 +111,7 @@ pub fn coordinator_leaves()
     ensures { CoordinatorLeaves }
 {}
 
-/// A cell is with one worker at most.
+/// A cell is with at most one worker.
 ///
 /// Ruled out: a shut that two workers win, after which both would hold the slot.
 pub fn one_owner()
@@ -158,31 +158,31 @@ pub fn own_records()
 {}
 
 /// After a call, by the clause of every call, its worker's place, claims and notice records go on
-/// from those that the trail before gave; and the call was allowed there, with its answer.
+/// from those that the trail before gave. The call was allowed there, with its answer.
 ///
 /// Ruled out: a trail that leaves out a call of its own worker.
 pub fn calls_go_on()
     ensures { CallsGoOn }
 {}
 
-/// Each task set that runs is in its slot, one that was never installed has no claims, no later
-/// task set of a query is installed before an earlier one, none of a query that was not admitted,
-/// and no two slots serve one query.
+/// Each task set that runs is in its slot, and one that was never installed has no claims. No later
+/// task set of a query is installed before an earlier one, and none of a query that was not
+/// admitted. No two slots serve one query.
 ///
 /// Ruled out: a query that two slots serve.
 pub fn book()
     ensures { AfterAll IsBookOf }
 {}
 
-/// Each task set is installed, and each query admitted, once at most.
+/// Each task set is installed, and each query admitted, at most once.
 ///
 /// Ruled out: a shut that two workers win, after which both would install the next stage.
 pub fn only_once()
     ensures { AfterAll OnlyOnce }
 {}
 
-/// A task set was neither installed nor finalised; or it was installed once, with a total, and runs
-/// in the slot of its install; or it was finalised once too.
+/// A task set was neither installed nor finalised. Or it was installed once, with a total, and runs
+/// in the slot of its install. Or it was finalised once too.
 ///
 /// Ruled out: an install without a total, and a last call of a task set that was never installed.
 pub fn counts()
@@ -229,8 +229,8 @@ pub fn tiles_cursor()
     ensures { AfterAll TilesCursor }
 {}
 
-/// The claims of a task set that is shut or was finalised tile the total with which it was
-/// installed; and one that was finalised was installed, with a total.
+/// The claims of a shut or finalised task set tile the total with which it was installed. A
+/// finalised task set was installed, with a total.
 ///
 /// Ruled out: a shut before all tuples were claimed, a claim after the last call of the task set,
 /// and a last call of one that was never installed.
@@ -238,15 +238,15 @@ pub fn tiles_total()
     ensures { AfterAll TilesTotal }
 {}
 
-/// A slot that is being finalised is so after the call of its task set that answered Last.
+/// A slot is finishing a task set only after a call on this task set was answered Last.
 ///
-/// Ruled out: a holder that was not told that it finalises.
+/// Ruled out: a holder that does not know that it finalises.
 pub fn finishing_last()
     ensures { AfterAll FinishingLast }
 {}
 
-/// Each task set that was finalised was so once, and in place: it was installed in a slot, which
-/// was given to no other task set before, and from then on nobody is inside with it and no call
+/// Each finalised task set was finalised exactly once, and in place. It was installed in a slot,
+/// which no call gave away until its last call. From then on nobody is inside with it and no call
 /// touches it.
 ///
 /// Ruled out: a shut that two workers win, a sweep before the last worker was asked, a state word
@@ -255,9 +255,9 @@ pub fn once_in_place()
     ensures { AfterAll OnceInPlace }
 {}
 
-/// Where a task set other than the first of its query is installed, the one before it was finalised
-/// once, in the slot of this install, and this slot was not reserved, released or given to another
-/// task set since.
+/// If a task set other than the first of its query is installed, the one before it was finalised
+/// once, in the slot of this install. This slot was not reserved, released or given to another task
+/// set since.
 ///
 /// Ruled out: a finisher that installs a stage past the next, one that installs the next stage in
 /// another slot, and one that goes on with its query after it released the slot.
@@ -267,8 +267,8 @@ pub fn stages_in_order()
 
 /// A slot that serves a task set served one of the same query at each moment since a task set of
 /// this query was installed. So once a slot serves another query, no task set of the former is
-/// installed there again; nor elsewhere, since by `stages_in_order` each task set of a query is
-/// installed in the slot of the one before.
+/// installed there again. Nor is it elsewhere, since by `stages_in_order` each task set of a query
+/// is installed in the slot of the one before.
 ///
 /// Ruled out: a slot that serves another query between two stages of one.
 pub fn query_keeps_slot()
@@ -282,8 +282,9 @@ pub fn cursor_limit()
     ensures { Always IsCursorLimit }
 {}
 
-/// Of a shut slot, those that paid and those that still owe are the marked workers, which are fewer
-/// than the workers; so a counter of debts never reaches the number of workers on either side of 0.
+/// At a shut slot, those that paid and those that still owe are together the marked workers, which
+/// are fewer than the workers. So a counter of debts never reaches the number of workers on either
+/// side of 0.
 ///
 /// Ruled out: a coordinator that marks itself.
 pub fn debts_within()
@@ -307,8 +308,9 @@ pub fn coordinator_slot()
     ensures { Always AreLed }
 {}
 
-/// Every id in a slot, at a place, of an install, in a call or in its answer is one of the queries
-/// of the shape: below eight times their number. The slot of a worker that names an id has this id.
+/// Every id in a slot, at a place, of an install, in a call or in its answer is a stage of one of
+/// the shape's queries: below eight times their number. The slot of a worker that names an id has
+/// this id.
 /// Task sets are installed in slots of the shape, and claims are by its workers.
 ///
 /// Ruled out: a mark that carries the id of another task set.
@@ -319,8 +321,8 @@ pub fn numbers_within()
     ensures claims { AfterAll AreClaimsWithin }
 {}
 
-/// A call that is allowed has an answer, one of this call, and no other than the state gives; and
-/// only a call that is allowed has an answer.
+/// An allowed call has exactly one answer, an answer of this call, which the state gives. Only an
+/// allowed call has an answer.
 ///
 /// Ruled out: a shut that two workers win, a leave that forgets the debt, a pay that is answered
 /// Last at any counter at or below 0, and an answer that a call gets at a place where it is not

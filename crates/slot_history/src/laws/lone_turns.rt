@@ -15,7 +15,7 @@ pub fn stays_lone()
     ensures quiet { EndsQuiet }
 {}
 
-/// A lone worker never gets an answer that takes another worker: its look is not `LookInvalid` and
+/// A lone worker never gets an answer that needs another worker: its look is not `LookInvalid` and
 /// its shut is not lost, it owes nothing, whoever it asks is missed, and its sweep is the last. So
 /// a run of one worker's calls from a quiet state has no such answer.
 ///
@@ -26,8 +26,8 @@ pub fn meets_nobody()
     ensures run { RunMeetsNobody }
 {}
 
-/// Where a lone worker sees its slot open, and has no change notice of it pending, its record
-/// allows the query.
+/// If a lone worker sees its slot open, and has no change notice of it pending, its record allows
+/// the query.
 ///
 /// Ruled out: a query's first task set that is announced as a return, so that records go on naming
 /// the slot's last query.

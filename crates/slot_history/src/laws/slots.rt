@@ -16,8 +16,9 @@ pub fn task_set_keeps_slot()
     ensures keeps { TaskKeepsSlot }
 {}
 
-/// The answer `Last` comes in the slot of the task set's install, when its claims tile the total of
-/// this install. A slot that is being finalised is that of the install of its task set.
+/// A call that is answered `Last` is about the slot of the task set's install. By then the claims
+/// of the task set tile the total of this install. A slot that is being finalised is the slot of
+/// its task set's install.
 ///
 /// Ruled out: a mark that carries a slot or an id of another task set, so that its worker finalises
 /// elsewhere.
@@ -26,8 +27,8 @@ pub fn last_in_slot()
     ensures finishing { AfterAll FinishingInSlot }
 {}
 
-/// A task set that was finalised has a finisher, the worker whose call was answered `Last`, which
-/// stays so. Whoever holds a slot after a finalisation is the finisher of its task set.
+/// A finalised task set has a finisher for ever, the worker whose call was answered `Last`. Whoever
+/// holds a slot after a finalisation is the finisher of its task set.
 ///
 /// Ruled out: an answer `Last` that two workers get.
 pub fn finisher()
@@ -46,8 +47,8 @@ pub fn query_seen()
     ensures same { SameQuerySeen }
 {}
 
-/// Of a task set other than the first of its query that was installed, the one before it was
-/// finalised, in the same slot.
+/// If a task set other than the first of its query was installed, the one before it was finalised,
+/// in the same slot.
 ///
 /// Ruled out: a finisher that installs a stage past the next, or in another slot.
 pub fn stage_before()

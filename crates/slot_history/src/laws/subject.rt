@@ -3,8 +3,8 @@
 ghost use Rattle.slot_history.specs.Subject.{SubjectShows, SubjectGoesOn, SubjectBegins};
 
 /// A legal history of a subject shows only task sets of the subject: in each install, in what its
-/// calls and their answers name, and with their totals in the slots. It stays of the subject where
-/// the next call installs one of its task sets, and so do its beginnings.
+/// calls and their answers name, and with their totals in the slots. It stays of the subject if the
+/// next call installs one of its task sets. Its beginnings are of the subject too.
 ///
 /// Ruled out: an install whose total is not the subject's, or is set after the slot opened.
 pub fn of_subject()

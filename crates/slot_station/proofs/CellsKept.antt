@@ -15,8 +15,7 @@ use Rattle.slot_history.proofs.Own.{place-mine, place-other, ranges-mine, ranges
 use Rattle.slot_history.proofs.Places.{inside-slots}
 use Rattle.slot_station.specs.declared.note.Note.{Note}
 use Rattle.slot_station.specs.Cells.{noted}
-use Rattle.slot_station.specs.Cells.{CellAt}
-use Rattle.slot_station.proofs.CellSteps.{cell-ranges, cell-notes}
+use Rattle.slot_station.proofs.CellSteps.{Known, cell-ranges, cell-notes}
 use Rattle.slot_station.proofs.CellPlaces.{note-mine, note-other, notes-held}
 use Rattle.slot_station.specs.Cells.{Cell, CellOf, caller_then, notes_after}
 use Rattle.slot_history.proofs.Inside.{inside-one}
@@ -50,32 +49,32 @@ module _ {B : Type 0} (fits : ℕ → List (ℕ × ℕ) → B → Type 0) (total
 
   -- the cell of u, with these notes of the holder, before the call and by all of its worker's side after it
   abbrev Before : (ℕ → Note) → ℕ → Type 0
-  Before H u = CellAt fits (λ id. ranges_of d u id h) X (has_own_cell (place_of d h u) s) (N u u) H x
+  Before H u = Known fits (λ id. ranges_of d u id h) X (has_own_cell (place_of d h u) s) (N u u) H x
 
   abbrev After : (ℕ → Note) → ℕ → Type 0
-  After H u = CellAt fits (λ id. ranges_of d u id (entry w a ∷ h)) X (has_own_cell (place_of d (entry w a ∷ h) u) s) (N' u u) H x
+  After H u = Known fits (λ id. ranges_of d u id (entry w a ∷ h)) X (has_own_cell (place_of d (entry w a ∷ h) u) s) (N' u u) H x
 
   cell-of-mine : (H : ℕ → Note) → Before H w → After H w
   cell-of-mine H c =
       let S : ObjectState = state_after d h in
       let R : ℕ → List (ℕ × ℕ) = λ id. ranges_after a (S.places w) id (ranges_of d w id h) in
-      let own : CellAt fits R X (has_own_cell (moved d a (S.places w)) s) (noted a w w (N w w)) H x =
+      let own : Known fits R X (has_own_cell (moved d a (S.places w)) s) (noted a w w (N w w)) H x =
       own-cell fits d S w s (λ id. ranges_of d w id h) X H x
       (λ t id at same. subst (λ r. (is_open (S.slots r) ≡ true) ⊎ (is_shut (S.slots r) ≡ true)) same (inside-open d h w legal.0 legal.2 t id at))
       (λ t id at other. inside-apart d h w legal.0 legal.2 t id at s other)
       totals (N w) a legal.1 allow c in
       cell-ranges fits R (λ id. ranges_of d w id (entry w a ∷ h)) X (has_own_cell (place_of d (entry w a ∷ h) w) s) (N' w w) H x
       (λ has. ranges-mine d w (id_of X) (entry w a) h refl)
-      (subst (λ p. CellAt fits R X (has_own_cell p s) (N' w w) H x) (sym (place-mine d (entry w a) h w refl))
-      (subst (λ m. CellAt fits R X (has_own_cell (moved d a (S.places w)) s) m H x) (sym (note-mine w a N w)) own))
+      (subst (λ p. Known fits R X (has_own_cell p s) (N' w w) H x) (sym (place-mine d (entry w a) h w refl))
+      (subst (λ m. Known fits R X (has_own_cell (moved d a (S.places w)) s) m H x) (sym (note-mine w a N w)) own))
 
   cell-of-other : (H : ℕ → Note) (u : ℕ) → u ≢ w → Before H u → After H u
   cell-of-other H u other c =
       let R : ℕ → List (ℕ × ℕ) = λ id. ranges_of d u id h in
       cell-ranges fits R (λ id. ranges_of d u id (entry w a ∷ h)) X (has_own_cell (place_of d (entry w a ∷ h) u) s) (N' u u) H x
       (λ has. ranges-other d u (id_of X) (entry w a) h other)
-      (subst (λ p. CellAt fits R X (has_own_cell p s) (N' u u) H x) (sym (place-other d (entry w a) h u other))
-      (subst (λ m. CellAt fits R X (has_own_cell (place_of d h u) s) m H x) (sym (note-other w a N u u other)) c))
+      (subst (λ p. Known fits R X (has_own_cell p s) (N' u u) H x) (sym (place-other d (entry w a) h u other))
+      (subst (λ m. Known fits R X (has_own_cell (place_of d h u) s) m H x) (sym (note-other w a N u u other)) c))
 
   -- the call keeps what is known of the cell of v
   pub cell-call : (v : ℕ) → v < d.workers → let cell : Cell B = record { slot = s; worker = v; value = x } in

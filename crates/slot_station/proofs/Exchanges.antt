@@ -20,9 +20,9 @@ use Rattle.slot_history.proofs.Growth.{open-has}
 use Rattle.slot_history.proofs.Within.{within-slots}
 use Rattle.slot_station.specs.declared.note.Note.{Note}
 use Rattle.slot_station.specs.Cells.{has_cell, kept_note, fresh_note, NoteSays, FitsNext}
-use Rattle.slot_station.specs.Cells.{FitsClaims, CellAt}
+use Rattle.slot_station.specs.Cells.{FitsClaims}
 use Rattle.slot_history.proofs.Inside.{inside-one}
-use Rattle.slot_station.proofs.CellSteps.{says-maps, cell-outside, cell-notes}
+use Rattle.slot_station.proofs.CellSteps.{Known, says-maps, cell-outside, cell-notes}
 use Rattle.slot_history.proofs.Places.{own-inside, has-own}
 use Rattle.slot_station.specs.Cells.{CellOf}
 
@@ -31,7 +31,7 @@ use Rattle.slot_station.specs.Cells.{CellOf}
 module _ {B : Type 0} (fits : ℕ → List (ℕ × ℕ) → B → Type 0) (R : ℕ → List (ℕ × ℕ)) (N : ℕ → Note) (x : Option B) where
   -- of a worker that is inside the own note speaks
   inside-says : (X : SlotState) (n : Note) → (is_open X ≡ true) ⊎ (is_shut X ≡ true)
-      → CellAt fits R X true n N x ≡ NoteSays (FitsClaims fits R (id_of X)) (λ b. ⊥) n x
+      → Known fits R X true n N x ≡ NoteSays (FitsClaims fits R (id_of X)) (λ b. ⊥) n x
   inside-says (Open t) n open_ = refl
   inside-says (Shut t e) n open_ = refl
   inside-says Empty n open_ = absurd (⊎_elim (λ k. true≢false (sym k)) (λ k. true≢false (sym k)) open_)
@@ -40,16 +40,16 @@ module _ {B : Type 0} (fits : ℕ → List (ℕ × ℕ) → B → Type 0) (R : �
 
   -- at a slot that is held the holder's note does
   pub says-held : (w : ℕ) (h : Held) (X : SlotState) (b : Bool) (n : Note) → IsHeldBy w h X → ((P : B → Type 0) → NoteSays P (FitsNext fits h) (N w) x)
-      → CellAt fits R X b n N x
-  says-held w h X b n (inl is) says = subst (λ Y. CellAt fits R Y b n N x) (sym is) (says (λ y. ⊥))
-  says-held w h X b n (inr (id, is)) says = subst (λ Y. CellAt fits R Y b n N x) (sym is) (says (FitsClaims fits R id))
+      → Known fits R X b n N x
+  says-held w h X b n (inl is) says = subst (λ Y. Known fits R Y b n N x) (sym is) (says (λ y. ⊥))
+  says-held w h X b n (inr (id, is)) says = subst (λ Y. Known fits R Y b n N x) (sym is) (says (FitsClaims fits R id))
 
   pub held-says : (w : ℕ) (h : Held) (X : SlotState) (b : Bool) (n : Note) (P : B → Type 0) → IsHeldBy w h X
-      → ((id : ℕ) → X ≡ Finishing id w h → (y : B) → FitsClaims fits R id y → P y) → CellAt fits R X b n N x → NoteSays P (FitsNext fits h) (N w) x
+      → ((id : ℕ) → X ≡ Finishing id w h → (y : B) → FitsClaims fits R id y → P y) → Known fits R X b n N x → NoteSays P (FitsNext fits h) (N w) x
   held-says w h X b n P (inl is) finalised c = says-maps (λ y. ⊥) (FitsNext fits h) P (FitsNext fits h) (λ y f. absurd f) (λ y f. f) (N w) x
-      (subst (λ Y. CellAt fits R Y b n N x) is c)
+      (subst (λ Y. Known fits R Y b n N x) is c)
   held-says w h X b n P (inr (id, is)) finalised c = says-maps (FitsClaims fits R id) (FitsNext fits h) P (FitsNext fits h) (finalised id is) (λ y f. f)
-      (N w) x (subst (λ Y. CellAt fits R Y b n N x) is c)
+      (N w) x (subst (λ Y. Known fits R Y b n N x) is c)
 
 module _ {B : Type 0} (P Q : B → Type 0) where
   pub says-kept : (new : Option B) → IfSome new P → NoteSays P Q (kept_note new) new
@@ -85,7 +85,7 @@ module _ (d : Shape) (h : List Entry) (w : ℕ) (low : w < d.workers) (legal : I
       → CellOf fits (record { shape = d; history = h; notes = N }) (record { slot = slot_of p; worker = w; value = x })
       ≡ NoteSays (FitsClaims fits (λ id. ranges_of d w id h) (id_at p)) (λ b. ⊥) (N w w) x
   own-cell-is fits N x =
-      ap (λ b. CellAt fits (λ id. ranges_of d w id h) X b (N w w) (λ u. N u w) x) own
+      ap (λ b. Known fits (λ id. ranges_of d w id h) X b (N w w) (λ u. N u w) x) own
       ∙ inside-says fits (λ id. ranges_of d w id h) (λ u. N u w) x X (N w w) inside-at.0
       ∙ ap (λ id. NoteSays (FitsClaims fits (λ id. ranges_of d w id h) id) (λ b. ⊥) (N w w) x) inside-at.1
 
@@ -106,33 +106,33 @@ module _ {B : Type 0} (fits : ℕ → List (ℕ × ℕ) → B → Type 0) (d : S
   S = state_after d h
 
   -- what is known of the cell of v at the slot t, with these notes
-  abbrev Known : (ℕ → ℕ → Note) → ℕ → ℕ → Type 0
-  Known M t v = CellOf fits (record { shape = d; history = h; notes = M }) (record { slot = t; worker = v; value = x })
+  abbrev KnownBy : (ℕ → ℕ → Note) → ℕ → ℕ → Type 0
+  KnownBy M t v = CellOf fits (record { shape = d; history = h; notes = M }) (record { slot = t; worker = v; value = x })
 
   -- the cell of another worker there
-  cell-beside : (v : ℕ) → v ≢ c → Known N s v → Known N' s v
+  cell-beside : (v : ℕ) → v ≢ c → KnownBy N s v → KnownBy N' s v
   cell-beside v other k =
       let R : ℕ → List (ℕ × ℕ) = λ id. ranges_of d v id h in
       let b : Bool = has_own_cell (S.places v) s in
-      subst (λ m. CellAt fits R (S.slots s) b m (λ u. N' u v) x) (sym (elses v v other))
+      subst (λ m. Known fits R (S.slots s) b m (λ u. N' u v) x) (sym (elses v v other))
       (cell-notes fits R (S.slots s) b (N v v) (λ u. N u v) (λ u. N' u v) x (λ u k held. elses u v other) k)
 
   -- a cell of another slot
-  cell-elsewhere : (t v : ℕ) → t ≢ s → Known N t v → Known N' t v
+  cell-elsewhere : (t v : ℕ) → t ≢ s → KnownBy N t v → KnownBy N' t v
   cell-elsewhere t v other k =
       let R : ℕ → List (ℕ × ℕ) = λ id. ranges_of d v id h in
       let X : SlotState = S.slots t in
       let H : ℕ → Note = λ u. N' u v in
-      let noted_so : CellAt fits R X (has_own_cell (S.places v) t) (N v v) H x =
+      let noted_so : Known fits R X (has_own_cell (S.places v) t) (N v v) H x =
       cell-notes fits R X (has_own_cell (S.places v) t) (N v v) (λ u. N u v) H x
       (λ u k held. others u v (λ same. other (one t k (subst (λ z. IsHeldBy z k X) same held)))) k in
       dite (ℕ_discrete v w)
       (λ same. let b : has_own_cell (S.places v) t ≡ false = ap (λ z. has_own_cell (S.places z) t) same ∙ out t other in
-      subst (λ b. CellAt fits R X b (N v v) H x → CellAt fits R X b (N' v v) H x) (sym b) (cell-outside fits R X (N v v) (N' v v) H x) noted_so)
-      (λ else_. subst (λ m. CellAt fits R X (has_own_cell (S.places v) t) m H x) (sym (others v v else_)) noted_so)
+      subst (λ b. Known fits R X b (N v v) H x → Known fits R X b (N' v v) H x) (sym b) (cell-outside fits R X (N v v) (N' v v) H x) noted_so)
+      (λ else_. subst (λ m. Known fits R X (has_own_cell (S.places v) t) m H x) (sym (others v v else_)) noted_so)
 
   -- every other cell is known as before
-  pub cell-else : (t v : ℕ) → (t ≡ s → v ≢ c) → Known N t v → Known N' t v
+  pub cell-else : (t v : ℕ) → (t ≡ s → v ≢ c) → KnownBy N t v → KnownBy N' t v
   cell-else t v other k = dite (ℕ_discrete t s)
-      (λ same. subst (λ a. Known N a v → Known N' a v) (sym same) (cell-beside v (other same)) k)
+      (λ same. subst (λ a. KnownBy N a v → KnownBy N' a v) (sym same) (cell-beside v (other same)) k)
       (λ ne. cell-elsewhere t v ne k)

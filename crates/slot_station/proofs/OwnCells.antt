@@ -5,7 +5,37 @@ use native.Mathlib.Decide.{ℕ_discrete}
 use Rattle.std.proofs.lemmas.Bool.{cond_both}
 use Rattle.slot_history.specs.declared.shape.Shape.{Shape}
 use Rattle.slot_history.specs.declared.act.Act.{Act}
-use Rattle.slot_history.specs.declared.act.Act.TheVariants.{Enter, LookOpen, LookInvalid, LookVacant, ClaimRange, ClaimUsed, ShutWon, ShutLost, LeaveLeft, LeaveOwe, PayLast, PayDone, MarkMarked, MarkMissed, SweepLast, SweepOthers, ReserveGot, ReserveTaken, AdmitGot, AdmitLost, Arrivals, Finished, NoteDone, SetTotal, Install, Release, Announce, TakeReturn, TakeChange}
+use Rattle.slot_history.specs.declared.act.Act.TheVariants.{
+  Enter,
+  LookOpen,
+  LookInvalid,
+  LookVacant,
+  ClaimRange,
+  ClaimUsed,
+  ShutWon,
+  ShutLost,
+  LeaveLeft,
+  LeaveOwe,
+  PayLast,
+  PayDone,
+  MarkMarked,
+  MarkMissed,
+  SweepLast,
+  SweepOthers,
+  ReserveGot,
+  ReserveTaken,
+  AdmitGot,
+  AdmitLost,
+  Arrivals,
+  Finished,
+  NoteDone,
+  SetTotal,
+  Install,
+  Release,
+  Announce,
+  TakeReturn,
+  TakeChange,
+}
 use Rattle.slot_history.specs.declared.place.Place.{Place}
 use Rattle.slot_history.specs.declared.place.Place.TheVariants.{Free, Entered, Inside, Leading, Owing, Announcing}
 use Rattle.slot_history.specs.States.{SlotState, ObjectState, slot_of, id_of, has_id, is_open, is_shut, held_at, has_own_cell}
@@ -16,8 +46,7 @@ use Rattle.slot_station.specs.declared.note.Note.{Note}
 use Rattle.slot_station.specs.declared.note.Note.TheVariants as note
 use Rattle.slot_station.specs.Cells.{has_cell, loosened, noted, Caller, NotesAllow}
 use Rattle.slot_history.specs.Subject.{InstallsOf}
-use Rattle.slot_station.specs.Cells.{CellAt}
-use Rattle.slot_station.proofs.CellSteps.{cell-ranges, cell-outside, cell-enters, cell-leaves, cell-claims}
+use Rattle.slot_station.proofs.CellSteps.{Known, cell-ranges, cell-outside, cell-enters, cell-leaves, cell-claims}
 use Rattle.slot_history.proofs.Places.{own-has}
 
 -- the call is of the subject then
@@ -40,25 +69,25 @@ module _ {B : Type 0} (fits : ℕ → List (ℕ × ℕ) → B → Type 0) (d : S
     (here : (t id : ℕ) → S.places w ≡ Inside t id → t ≡ s → (is_open X ≡ true) ⊎ (is_shut X ≡ true))
     (else_ : (t id : ℕ) → S.places w ≡ Inside t id → t ≢ s → has_id X ≡ true → id_of X ≢ id) where
   abbrev Own : Act → Place → Note → Type 0
-  Own a q n = CellAt fits R X (has_own_cell q s) n N x → CellAt fits (λ id. ranges_after a q id (R id)) X (has_own_cell (moved d a q) s) (noted a w w n) N x
+  Own a q n = Known fits R X (has_own_cell q s) n N x → Known fits (λ id. ranges_after a q id (R id)) X (has_own_cell (moved d a q) s) (noted a w w n) N x
 
   own-looks : (t id : ℕ) (n : Note) → Own (LookOpen id) (Entered t) n
-  own-looks t id n c = subst (λ b. CellAt fits R X (eqb t s) (cond b note.Kept n) N x) (sym (eq-eqb w w refl)) (cell-enters fits R X (eqb t s) n N x c)
+  own-looks t id n c = subst (λ b. Known fits R X (eqb t s) (cond b note.Kept n) N x) (sym (eq-eqb w w refl)) (cell-enters fits R X (eqb t s) n N x c)
 
   own-claims : (k from to t id : ℕ) (n : Note) → S.places w ≡ Inside t id → Own (ClaimRange k from to) (Inside t id) n
   own-claims k from to t id n at =
       let R' : ℕ → List (ℕ × ℕ) = λ jd. cond (eqb id jd) ((from, to) ∷ R jd) (R jd) in
       let n' : Note = cond (eqb w w) (loosened n) n in
       dite (ℕ_discrete t s)
-      (λ same. subst (λ b. CellAt fits R X b n N x → CellAt fits R' X b n' N x) (sym (eq-eqb t s same))
-      (λ c. subst (λ b. CellAt fits R' X true (cond b (loosened n) n) N x) (sym (eq-eqb w w refl)) (cell-claims fits R R' X n N x (here t id at same) c)))
-      (λ other. subst (λ b. CellAt fits R X b n N x → CellAt fits R' X b n' N x) (sym (ne_eqb t s other))
+      (λ same. subst (λ b. Known fits R X b n N x → Known fits R' X b n' N x) (sym (eq-eqb t s same))
+      (λ c. subst (λ b. Known fits R' X true (cond b (loosened n) n) N x) (sym (eq-eqb w w refl)) (cell-claims fits R R' X n N x (here t id at same) c)))
+      (λ other. subst (λ b. Known fits R X b n N x → Known fits R' X b n' N x) (sym (ne_eqb t s other))
       (λ c. cell-outside fits R' X n n' N x (cell-ranges fits R R' X false n N x
       (λ has. ap (λ b. cond b ((from, to) ∷ R (id_of X)) (R (id_of X))) (ne_eqb id (id_of X) (λ e. else_ t id at other has (sym e)))) c)))
 
-  own-leaves : (p q : Place) (n : Note) → has_own_cell q s ≡ false → (has_cell p ≡ true → n ≡ note.Kept) → CellAt fits R X (has_own_cell p s) n N x
-      → CellAt fits R X (has_own_cell q s) n N x
-  own-leaves p q n out kept c = subst (λ b. CellAt fits R X b n N x) (sym out)
+  own-leaves : (p q : Place) (n : Note) → has_own_cell q s ≡ false → (has_cell p ≡ true → n ≡ note.Kept) → Known fits R X (has_own_cell p s) n N x
+      → Known fits R X (has_own_cell q s) n N x
+  own-leaves p q n out kept c = subst (λ b. Known fits R X b n N x) (sym out)
       (cell-leaves fits R X (has_own_cell p s) n n N x (λ h. kept (own-has p s h)) c)
 
   pub own-cell : (totals : ℕ → Option ℕ) (notes : ℕ → Note) (a : Act) → IsAllowed d S w a
@@ -91,6 +120,6 @@ module _ {B : Type 0} (fits : ℕ → List (ℕ × ℕ) → B → Type 0) (d : S
   own-cell totals notes (Install id) ok allow = subst (λ q. Own (Install id) q (notes w)) (sym ok.2) (λ c. c)
   own-cell totals notes Release ok allow = subst (λ q. Own Release q (notes w)) (sym ok.2) (λ c. c)
   own-cell totals notes Announce ok allow = subst (λ q. Own Announce q (notes w)) (sym ok.3)
-      (λ c. subst (λ b. CellAt fits R X b (notes w) N x) (sym (told-outside d ok.0 ok.2 s ok.1)) c)
+      (λ c. subst (λ b. Known fits R X b (notes w) N x) (sym (told-outside d ok.0 ok.2 s ok.1)) c)
   own-cell totals notes (TakeReturn part bits) ok allow = λ c. c
   own-cell totals notes (TakeChange part bits) ok allow = λ c. c

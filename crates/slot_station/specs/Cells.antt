@@ -1,6 +1,6 @@
 -- What is known of cells: notes, what a note says, what a cell holds, and which call the notes
 -- allow.
-use Rattle.std.specs.Prelude.{◌≡◌, ℕ, ◌<◌, Bool, true, false, cond, eqb, List, [], ◌∷◌, Option, Some, None, IsSome, IsSomeAnd}
+use Rattle.std.specs.Prelude.{◌≡◌, ℕ, ◌<◌, true, cond, eqb, List, [], ◌∷◌, Option, Some, None, IsSome, IsSomeAnd}
 use Rattle.slot_history.specs.declared.shape.Shape.{Shape}
 use Rattle.slot_history.specs.declared.act.Act.{Act}
 use Rattle.slot_history.specs.declared.act.Act.TheVariants.{LookOpen, ClaimRange, PayLast, SweepLast, ReserveGot, Install}
@@ -49,6 +49,12 @@ NoteSays IsKept IsFresh Kept value = IsSomeAnd value IsKept
 NoteSays IsKept IsFresh Fresh value = IsSomeAnd value IsFresh
 NoteSays IsKept IsFresh Loose value = Unit {0}
 
+-- What is noted of a cell of a slot: by its own worker, and by each worker if that held the slot. If
+-- its own worker is not inside, the cell is kept.
+pub record CellNotes : Type 0 where
+  pub own : Note
+  pub holder : ℕ → Note
+
 -- what a value of one worker has to fit, by the id of a task set and the ranges claimed of it
 module _ {B : Type 0} (fits : ℕ → List (ℕ × ℕ) → B → Type 0) where
   -- the value fits the task set that the holder may install next, and no ranges
@@ -65,18 +71,15 @@ module _ {B : Type 0} (fits : ℕ → List (ℕ × ℕ) → B → Type 0) (range
   abbrev pub FitsClaims : ℕ → B → Type 0
   FitsClaims id b = fits id (ranges id) b
 
-  -- The value of the cell of a worker, which is inside at the slot or is not, at a slot in this
-  -- state: `own` is its worker's note of it, and `notes` gives that of the slot's holder.
-  abbrev pub CellAt : SlotState → Bool → Note → (ℕ → Note) → Option B → Type 0
-  CellAt state.Empty inside own notes value = value ≡ None
-  CellAt (state.Reserved w held) inside own notes value =
-      NoteSays (λ b. ⊥) (FitsNext fits held) (notes w) value
-  CellAt (state.Open t) false own notes value = NoteSays (FitsClaims t.id) (λ b. ⊥) Kept value
-  CellAt (state.Open t) true own notes value = NoteSays (FitsClaims t.id) (λ b. ⊥) own value
-  CellAt (state.Shut t end) false own notes value = NoteSays (FitsClaims t.id) (λ b. ⊥) Kept value
-  CellAt (state.Shut t end) true own notes value = NoteSays (FitsClaims t.id) (λ b. ⊥) own value
-  CellAt (state.Finishing id w held) inside own notes value =
-      NoteSays (FitsClaims id) (FitsNext fits held) (notes w) value
+  -- the value of a cell of a slot in this state, by what is noted of it
+  abbrev pub CellAt : SlotState → CellNotes → Option B → Type 0
+  CellAt state.Empty noted_so value = value ≡ None
+  CellAt (state.Reserved w held) noted_so value =
+      NoteSays (λ b. ⊥) (FitsNext fits held) (noted_so.holder w) value
+  CellAt (state.Open t) noted_so value = NoteSays (FitsClaims t.id) (λ b. ⊥) noted_so.own value
+  CellAt (state.Shut t end) noted_so value = NoteSays (FitsClaims t.id) (λ b. ⊥) noted_so.own value
+  CellAt (state.Finishing id w held) noted_so value =
+      NoteSays (FitsClaims id) (FitsNext fits held) (noted_so.holder w) value
 
 -- ---- what is known of cells at a moment
 
@@ -104,14 +107,18 @@ pub record Cell (B : Type 0) : Type 0 where
   pub worker : ℕ
   pub value : Option B
 
+-- what is noted then of the cell of v at the slot s
+abbrev pub cell_notes : Moment → ℕ → ℕ → CellNotes
+cell_notes moment s v = record {
+  own = cond (has_own_cell (place_then moment v) s) (moment.notes v v) Kept;
+  holder = λ w. moment.notes w v;
+}
+
 -- what is known of a cell then, where the values of its worker meet `fits`
 abbrev pub CellOf : {B : Type 0} → (ℕ → List (ℕ × ℕ) → B → Type 0) → Moment → Cell B → Type 0
 CellOf fits moment cell =
-    let inside = has_own_cell (place_then moment cell.worker) cell.slot in
-    let own = moment.notes cell.worker cell.worker in
-    let notes : ℕ → Note = λ w. moment.notes w cell.worker in
-    CellAt fits (ranges_then moment cell.worker) (slot_then moment cell.slot) inside own notes
-    cell.value
+    CellAt fits (ranges_then moment cell.worker) (slot_then moment cell.slot)
+    (cell_notes moment cell.slot cell.worker) cell.value
 
 -- the notes after a call of w
 abbrev pub notes_after : ℕ → Act → (ℕ → ℕ → Note) → ℕ → ℕ → Note

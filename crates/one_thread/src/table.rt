@@ -6,7 +6,7 @@ ghost use Rattle.slot_station.specs.Shapes.{refusal_of};
 
 use crate::object::SlotObject;
 use slot_history::shape::Shape;
-use slot_station::ghost_list::History;
+use slot_station::History;
 use slot_station::limits::shape_of;
 use slot_station::reply::MakeRefusal;
 use slot_station::station::Fits;

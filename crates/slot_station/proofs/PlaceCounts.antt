@@ -1,4 +1,4 @@
--- An asking and a telling have come no further than there are workers.
+-- An asking and an announcing have come no further than there are workers.
 use Rattle.std.proofs.Common.{ℕ, ◌<◌, ◌≤◌, List, arith}
 use Rattle.slot_history.specs.declared.shape.Shape.{Shape}
 use Rattle.slot_history.specs.declared.shape.TheConstants.{MOST_WORKERS}

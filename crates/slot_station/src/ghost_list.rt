@@ -2,8 +2,6 @@
 ghost use Rattle.std.specs.Prelude.{◌≡◌, List, ℕ, [], ◌∷◌, ◌<◌, IfOk};
 
 use crate::any_word::AnyWord;
-pub use crate::history::History;
-pub use crate::memo::Memo;
 use atomic_table::{Badge, Play, Seat, Table};
 use std::alloc::{AllocError, Global};
 use std::collections::LinkedList;

@@ -44,7 +44,7 @@ pub trait ShowsHistory {
     ghost history: { Self → List Entry };
 }
 
-/// The view is the log of the history that is told.
+/// The view is the log of the history that is shown.
 struct ShowHistory;
 
 impl<X: ShowsHistory> Play<X, LinkedList<Logged>> for ShowHistory {

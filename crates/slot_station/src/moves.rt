@@ -122,7 +122,7 @@ fn after_asking(place: Place, marked: u32) -> Place
     }
 }
 
-fn after_telling(shape: &Shape, place: Place) -> Place
+fn after_announcing(shape: &Shape, place: Place) -> Place
     requires { IsCounted place }
     ensures { result ≡ told_one shape.now place }
 {
@@ -185,7 +185,7 @@ pub fn place_after(shape: &Shape, act: &Act, place: Place) -> Place
         Act::ReserveGot(s) => Place::Holding(s, reservation()),
         Act::AdmitGot(_) | Act::NoteDone(_) | Act::SetTotal(_) => after_holding(act, place),
         Act::Install(_) => Place::Announcing(slot, held_at(&place).again, 0),
-        Act::Announce => after_telling(shape, place),
+        Act::Announce => after_announcing(shape, place),
         Act::ClaimRange(..) | Act::ReserveTaken(..) | Act::AdmitLost(..) | Act::Arrivals(_) =>
             place,
         Act::Finished(_) | Act::TakeReturn(..) | Act::TakeChange(..) => place,

@@ -271,7 +271,7 @@ pub trait Station<B: Fits> {
             → IsDone (seen self.new) announcer.new }
         ensures ticks { steps.new ≡ steps.old + 1 };
 
-    /// Ends the telling. It makes no step.
+    /// Ends the announcing. It makes no step.
     ///
     /// Allowed at Free, with the announcer of the worker's last install, once every worker was
     /// told; see `docs/PROTOCOL.md`.

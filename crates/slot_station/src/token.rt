@@ -51,7 +51,7 @@ pub struct Holder {
     pub again: bool,
 }
 
-/// Of the worker that has opened a slot and tells of it.
+/// Of the worker that has opened a slot and announces it.
 #[derive(Debug, PartialEq, Eq, Drop)]
 pub struct Announcer {
     pub worker: u32,

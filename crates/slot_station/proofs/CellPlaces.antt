@@ -4,9 +4,11 @@ use mathlib.Core.Logic.{dite}
 use native.Mathlib.Decide.{ℕ_discrete}
 use Rattle.slot_history.specs.declared.shape.Shape.{Shape}
 use Rattle.slot_history.specs.declared.act.Act.{Act}
-use Rattle.slot_history.specs.declared.act.Act.TheVariants.{LookOpen, ClaimRange, PayLast, SweepLast, ReserveGot}
+use Rattle.slot_history.specs.declared.act.Act.TheVariants.{LookOpen, ClaimRange, PayLast}
+use Rattle.slot_history.specs.declared.act.Act.TheVariants.{SweepLast, ReserveGot}
 use Rattle.slot_history.specs.declared.place.Held.{Held}
-use Rattle.slot_history.specs.declared.place.Place.TheVariants.{Free, Entered, Inside, Asking, Owing, Holding}
+use Rattle.slot_history.specs.declared.place.Place.TheVariants.{Free, Entered, Inside, Asking}
+use Rattle.slot_history.specs.declared.place.Place.TheVariants.{Owing, Holding}
 use Rattle.slot_history.specs.States.{ObjectState}
 use Rattle.slot_history.specs.Allowed.{IsAllowed}
 use Rattle.slot_history.specs.Table.{IsTable}

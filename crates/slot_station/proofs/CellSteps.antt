@@ -1,6 +1,7 @@
 -- What is said of a cell, when one of the things changes that it speaks of: the notes, the state of the slot, and on the
 -- side of its worker the place, the own note and the ranges.
-use Rattle.std.proofs.Common.{◌≡◌, ℕ, ◌⊎◌, Bool, true, false, cond, List, [], Option, Some, None, IsSome, IsSomeAnd, refl, sym, subst, inl, inr}
+use Rattle.std.proofs.Common.{◌≡◌, ℕ, ◌⊎◌, Bool, true, false, cond, List, [], Option, Some, None}
+use Rattle.std.proofs.Common.{IsSome, IsSomeAnd, refl, sym, subst, inl, inr}
 use mathlib.Core.Bool.{true≢false}
 use Rattle.slot_history.specs.declared.shape.Shape.{Shape}
 use Rattle.slot_history.specs.declared.act.Act.{Act}

@@ -1,12 +1,14 @@
 -- No call breaks what is known of the cells and of the task sets in the slots.
-use Rattle.std.proofs.Common.{◌≡◌, ◌≢◌, ℕ, ◌<◌, ◌⊎◌, true, List, ◌∷◌, Option, refl, sym, ap, ◌∙◌, subst, eq-eqb}
+use Rattle.std.proofs.Common.{◌≡◌, ◌≢◌, ℕ, ◌<◌, ◌⊎◌, true, List, ◌∷◌, Option, refl, sym, ap, ◌∙◌}
+use Rattle.std.proofs.Common.{subst, eq-eqb}
 use mathlib.Core.Logic.{dite}
 use native.Mathlib.Decide.{ℕ_discrete}
 use Rattle.slot_history.specs.declared.shape.Shape.{Shape}
 use Rattle.slot_history.specs.declared.act.Act.{Act}
 use Rattle.slot_history.specs.declared.act.Entry.{Entry}
 use Rattle.slot_history.specs.declared.place.Place.TheVariants.{Inside}
-use Rattle.slot_history.specs.States.{SlotState, ObjectState, id_of, is_inside, has_id, is_open, is_shut, has_own_cell}
+use Rattle.slot_history.specs.States.{SlotState, ObjectState, id_of, is_inside, has_id, is_open}
+use Rattle.slot_history.specs.States.{is_shut, has_own_cell}
 use Rattle.slot_history.specs.Steps.{site, moved, slot_after, state_after}
 use Rattle.slot_history.specs.Histories.{IsLegal, entry, place_of, ranges_of, ranges_after}
 use Rattle.slot_history.proofs.Sets.{upd-cases}

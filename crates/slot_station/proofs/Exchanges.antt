@@ -1,5 +1,6 @@
 -- What a worker that has a cell knows of it, and that an exchange by it changes nothing that is known of the other cells.
-use Rattle.std.proofs.Common.{◌≡◌, ◌≢◌, ℕ, ◌<◌, ◌⊎◌, Bool, true, false, List, Option, Some, None, IfSome, inl, inr, ⊎_elim, refl, sym, ap, ◌∙◌, subst}
+use Rattle.std.proofs.Common.{◌≡◌, ◌≢◌, ℕ, ◌<◌, ◌⊎◌, Bool, true, false, List, Option, Some, None}
+use Rattle.std.proofs.Common.{IfSome, inl, inr, ⊎_elim, refl, sym, ap, ◌∙◌, subst}
 use Rattle.std.proofs.lemmas.Bool.{false_from_ne_true}
 use mathlib.Core.Logic.{dite}
 use mathlib.Core.Bool.{true≢false}
@@ -8,7 +9,9 @@ use Rattle.slot_history.specs.declared.shape.Shape.{Shape}
 use Rattle.slot_history.specs.declared.act.Entry.{Entry}
 use Rattle.slot_history.specs.declared.place.Held.{Held}
 use Rattle.slot_history.specs.declared.place.Place.{Place}
-use Rattle.slot_history.specs.States.{SlotState, Reserved, Open, Shut, Finishing, Empty, ObjectState, slot_of, id_at, id_of, is_open, is_shut, has_own_cell}
+use Rattle.slot_history.specs.States.{SlotState, Reserved, Open, Shut, Finishing, Empty}
+use Rattle.slot_history.specs.States.{ObjectState, slot_of, id_at, id_of, is_open, is_shut}
+use Rattle.slot_history.specs.States.{has_own_cell}
 use Rattle.slot_history.specs.Steps.{state_after}
 use Rattle.slot_history.specs.Histories.{IsLegal, place_of, ranges_of}
 use Rattle.slot_history.specs.Bounds.{IsPlaceWithin}

@@ -1,5 +1,6 @@
 -- What a worker finds in a cell that it exchanges, and that the exchange keeps what is known of every cell, by the whole history.
-use Rattle.std.proofs.Common.{◌≡◌, ◌≢◌, ℕ, ◌<◌, ◌⊎◌, true, false, cond, eqb, ◌&&◌, List, Option, IfSome}
+use Rattle.std.proofs.Common.{◌≡◌, ◌≢◌, ℕ, ◌<◌, ◌⊎◌, true, false, cond, eqb, ◌&&◌, List, Option}
+use Rattle.std.proofs.Common.{IfSome}
 use Rattle.std.proofs.Common.{⊎_elim, refl, sym, ap, ap₂, ◌∙◌, subst, eq-eqb, ne_eqb}
 use Rattle.std.proofs.Math.Path.{transport}
 use Rattle.std.proofs.Math.Bool.{and-false}
@@ -9,7 +10,8 @@ use Rattle.slot_history.specs.declared.act.Entry.{Entry}
 use Rattle.slot_history.specs.declared.place.Held.{Held}
 use Rattle.slot_history.specs.declared.place.Place.{Place}
 use Rattle.slot_history.specs.declared.place.Place.TheVariants.{Holding}
-use Rattle.slot_history.specs.States.{Finishing, ObjectState, slot_of, id_at, id_of, finalised_id, has_cell, has_own_cell}
+use Rattle.slot_history.specs.States.{Finishing, ObjectState, slot_of, id_at, id_of, finalised_id}
+use Rattle.slot_history.specs.States.{has_cell, has_own_cell}
 use Rattle.slot_history.specs.Steps.{state_after}
 use Rattle.slot_history.specs.Bounds.{IsFinalisation, IsSlotSound}
 use Rattle.slot_history.specs.Histories.{IsLegal}
@@ -19,9 +21,12 @@ use Rattle.slot_history.proofs.Holders.{finalises-slot}
 use Rattle.slot_history.proofs.Duties.{IsHeldBy}
 use Rattle.slot_station.specs.declared.log.Exchange.{Exchange}
 use Rattle.slot_station.specs.declared.note.Note.{Note}
-use Rattle.slot_station.specs.Cells.{Moment, Cell, CellOf, place_then, ranges_then, NoteSays, FitsNext, FitsFinalised, FitsClaims}
-use Rattle.slot_station.specs.Exchanges.{notes_exchanged, after_exchange, put_note, FitsKept, FitsFresh, FitsPut}
-use Rattle.slot_station.proofs.Exchanges.{says-kept, says-fresh, says-held, held-says, own-cell-is, inside-only, inside-holds, cell-else}
+use Rattle.slot_station.specs.Cells.{Moment, Cell, CellOf, place_then, ranges_then, NoteSays}
+use Rattle.slot_station.specs.Cells.{FitsNext, FitsFinalised, FitsClaims}
+use Rattle.slot_station.specs.Exchanges.{notes_exchanged, after_exchange, put_note, FitsKept}
+use Rattle.slot_station.specs.Exchanges.{FitsFresh, FitsPut}
+use Rattle.slot_station.proofs.Exchanges.{says-kept, says-fresh, says-held, held-says, own-cell-is}
+use Rattle.slot_station.proofs.Exchanges.{inside-only, inside-holds, cell-else}
 
 -- ---- the notes after an exchange
 

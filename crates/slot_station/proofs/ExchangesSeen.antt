@@ -6,7 +6,8 @@ use Rattle.slot_history.specs.declared.shape.Shape.{Shape}
 use Rattle.slot_history.specs.declared.place.Held.{Held}
 use Rattle.slot_history.specs.declared.place.Place.{Place}
 use Rattle.slot_history.specs.declared.place.Place.TheVariants.{Free, Holding}
-use Rattle.slot_history.specs.States.{HasCell, slot_of, id_at, held_at, finalised_id, has_cell, holds}
+use Rattle.slot_history.specs.States.{HasCell, slot_of, id_at, held_at, finalised_id, has_cell}
+use Rattle.slot_history.specs.States.{holds}
 use Rattle.slot_history.specs.Steps.{state_after}
 use Rattle.slot_history.specs.Histories.{own_calls, place_of, ranges_of}
 use Rattle.slot_history.proofs.Within.{within, within-slots}
@@ -15,10 +16,12 @@ use Rattle.slot_history.proofs.Holders.{holder-has-claims}
 use Rattle.slot_history.proofs.Places.{has-own, own-cell-slot}
 use Rattle.slot_station.specs.declared.log.Exchange.{Exchange}
 use Rattle.slot_station.specs.declared.note.Note.{Note}
-use Rattle.slot_station.specs.Cells.{Moment, Cell, CellOf, place_then, ranges_then, kept_note, fresh_note}
+use Rattle.slot_station.specs.Cells.{Moment, Cell, CellOf, place_then, ranges_then, kept_note}
+use Rattle.slot_station.specs.Cells.{fresh_note}
 use Rattle.slot_station.specs.Cells.{NoteSays, FitsNext, FitsFinalised, FitsClaims}
 use Rattle.slot_station.specs.Desks.{Seen, own_place, caller_of}
-use Rattle.slot_station.specs.Exchanges.{IsSeenAt, MayExchange, after_exchange, put_note, FitsKept, FitsFresh, FitsPut}
+use Rattle.slot_station.specs.Exchanges.{IsSeenAt, MayExchange, after_exchange, put_note, FitsKept}
+use Rattle.slot_station.specs.Exchanges.{FitsFresh, FitsPut}
 use Rattle.slot_station.specs.Exchanges.{cell_here, exchange_here, ranges_seen, HoldsNoted, MayPut}
 use Rattle.slot_station.specs.Laws.{ExchangesGoOn, ExchangesSay}
 use Rattle.slot_station.proofs.CellSteps.{says-maps}

@@ -33,7 +33,8 @@ use Rattle.slot_history.specs.declared.act.Act.{Act}
 use Rattle.slot_history.specs.declared.act.Act.TheVariants.{TakeReturn, TakeChange}
 use Rattle.slot_history.specs.declared.act.Entry.{Entry}
 use Rattle.slot_history.specs.declared.place.Place.TheVariants.{Inside, Leading}
-use Rattle.slot_history.specs.States.{SlotState, Open, Shut, ObjectState, task_of, id_of, id_at, is_open, is_shut, is_inside, has_own_cell}
+use Rattle.slot_history.specs.States.{SlotState, Open, Shut, ObjectState, task_of, id_of, id_at}
+use Rattle.slot_history.specs.States.{is_open, is_shut, is_inside, has_own_cell}
 use Rattle.slot_history.specs.Steps.{moved, state_after}
 use Rattle.slot_history.specs.Allowed.{IsMask, IsAllowed}
 use Rattle.slot_history.specs.Histories.{IsLegal, entry, place_of, ranges_of, total_of}
@@ -54,7 +55,8 @@ use Rattle.slot_station.specs.declared.reply.Leave.TheVariants as leave
 use Rattle.slot_station.specs.declared.reply.Look.{Look}
 use Rattle.slot_station.specs.declared.reply.Look.TheVariants as look
 use Rattle.slot_station.specs.Desks.{Seen, Makes, own_place, own_ranges, own_total, totals_of}
-use Rattle.slot_station.specs.Replies.{look_act, claim_act, leave_act, SeesTaskSet, IsCutRange, LiesPast, OwesTaskSet, NamesSlots}
+use Rattle.slot_station.specs.Replies.{look_act, claim_act, leave_act, SeesTaskSet, IsCutRange}
+use Rattle.slot_station.specs.Replies.{LiesPast, OwesTaskSet, NamesSlots}
 
 -- ---- masks
 

@@ -1,5 +1,6 @@
 -- A call and the cells of the worker that makes it: its place, its note and its ranges after the call.
-use Rattle.std.proofs.Common.{◌≡◌, ◌≢◌, ℕ, ◌+◌, ◌⊎◌, Bool, true, false, cond, eqb, List, ◌∷◌, Option, refl, sym, ap, subst, eq-eqb, ne_eqb}
+use Rattle.std.proofs.Common.{◌≡◌, ◌≢◌, ℕ, ◌+◌, ◌⊎◌, Bool, true, false, cond, eqb, List, ◌∷◌}
+use Rattle.std.proofs.Common.{Option, refl, sym, ap, subst, eq-eqb, ne_eqb}
 use mathlib.Core.Logic.{dite}
 use native.Mathlib.Decide.{ℕ_discrete}
 use Rattle.std.proofs.lemmas.Bool.{cond_both}
@@ -37,8 +38,10 @@ use Rattle.slot_history.specs.declared.act.Act.TheVariants.{
   TakeChange,
 }
 use Rattle.slot_history.specs.declared.place.Place.{Place}
-use Rattle.slot_history.specs.declared.place.Place.TheVariants.{Free, Entered, Inside, Leading, Owing, Announcing}
-use Rattle.slot_history.specs.States.{SlotState, ObjectState, slot_of, id_of, has_id, is_open, is_shut, held_at, has_own_cell}
+use Rattle.slot_history.specs.declared.place.Place.TheVariants.{Free, Entered, Inside, Leading}
+use Rattle.slot_history.specs.declared.place.Place.TheVariants.{Owing, Announcing}
+use Rattle.slot_history.specs.States.{SlotState, ObjectState, slot_of, id_of, has_id, is_open}
+use Rattle.slot_history.specs.States.{is_shut, held_at, has_own_cell}
 use Rattle.slot_history.specs.Steps.{moved, left, told_one}
 use Rattle.slot_history.specs.Allowed.{IsAllowed}
 use Rattle.slot_history.specs.Histories.{ranges_after}
@@ -46,7 +49,8 @@ use Rattle.slot_station.specs.declared.note.Note.{Note}
 use Rattle.slot_station.specs.declared.note.Note.TheVariants as note
 use Rattle.slot_station.specs.Cells.{has_cell, loosened, noted, Caller, NotesAllow}
 use Rattle.slot_history.specs.Subject.{InstallsOf}
-use Rattle.slot_station.proofs.CellSteps.{Known, cell-ranges, cell-outside, cell-enters, cell-leaves, cell-claims}
+use Rattle.slot_station.proofs.CellSteps.{Known, cell-ranges, cell-outside, cell-enters}
+use Rattle.slot_station.proofs.CellSteps.{cell-leaves, cell-claims}
 use Rattle.slot_history.proofs.Places.{own-has}
 
 -- the call is of the subject then

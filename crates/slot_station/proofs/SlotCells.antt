@@ -1,6 +1,7 @@
 -- A call and the cells of the slot that it changes. It rules out an install before every bench of the stage before was
 -- taken.
-use Rattle.std.proofs.Common.{◌≡◌, ℕ, ◌<◌, Bool, false, List, [], ◌∷◌, Option, refl, sym, ap, ◌∙◌, subst}
+use Rattle.std.proofs.Common.{◌≡◌, ℕ, ◌<◌, Bool, false, List, [], ◌∷◌, Option, refl, sym, ap, ◌∙◌}
+use Rattle.std.proofs.Common.{subst}
 use mathlib.Core.Logic.{dite}
 use native.Mathlib.Decide.{ℕ_discrete}
 use Rattle.slot_history.specs.declared.shape.Shape.{Shape}
@@ -25,7 +26,8 @@ use Rattle.slot_history.specs.declared.act.Act.TheVariants.{
 use Rattle.slot_history.specs.declared.act.Entry.{Entry}
 use Rattle.slot_history.specs.declared.place.Held.{Held}
 use Rattle.slot_history.specs.declared.place.Place.TheVariants.{Holding}
-use Rattle.slot_history.specs.States.{SlotState, ObjectState, slot_of, id_at, is_empty, finalisation, next_id, has_own_cell}
+use Rattle.slot_history.specs.States.{SlotState, ObjectState, slot_of, id_at, is_empty}
+use Rattle.slot_history.specs.States.{finalisation, next_id, has_own_cell}
 use Rattle.slot_history.specs.Steps.{site, moved, finalised_by, opened, slot_after, state_after}
 use Rattle.slot_history.specs.Histories.{IsLegal, entry, ranges_of}
 use Rattle.slot_history.specs.Table.{IsTable}

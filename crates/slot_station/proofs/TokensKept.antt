@@ -65,7 +65,9 @@ use Rattle.slot_history.specs.declared.act.Act.TheVariants.{
 }
 use Rattle.slot_history.specs.declared.act.Entry.{Entry}
 use Rattle.slot_history.specs.declared.place.Place.{Place}
-use Rattle.slot_history.specs.declared.place.Place.TheVariants.{Free, Entered, Astray, Inside as At, Used, Behind, Leading, Asking, Owing, Holding, Announcing}
+use Rattle.slot_history.specs.declared.place.Place.TheVariants.{Free, Entered, Astray, Inside as At}
+use Rattle.slot_history.specs.declared.place.Place.TheVariants.{Used, Behind, Leading, Asking}
+use Rattle.slot_history.specs.declared.place.Place.TheVariants.{Owing, Holding, Announcing}
 use Rattle.slot_history.specs.States.{held_at, slot_of}
 use Rattle.slot_history.specs.Steps.{moved, left, asked_one, holding_after, told_one}
 use Rattle.slot_history.specs.Histories.{place_of}
@@ -78,7 +80,8 @@ use Rattle.slot_station.specs.declared.reply.Mark.TheVariants as mark
 use Rattle.slot_station.specs.declared.reply.Admit.{Admit}
 use Rattle.slot_station.specs.declared.reply.Admit.TheVariants as admit
 use Rattle.slot_station.specs.Replies.{mark_act, admit_act, admitted_holder, marked_more}
-use Rattle.slot_station.specs.Tokens.{IsHolder, HoldsAs, IsCoordinator, IsAnnouncer, opens, last_opened}
+use Rattle.slot_station.specs.Tokens.{IsHolder, HoldsAs, IsCoordinator, IsAnnouncer, opens}
+use Rattle.slot_station.specs.Tokens.{last_opened}
 use Rattle.slot_station.specs.Answers.{announcer_of}
 
 -- a holder's fields, by its place

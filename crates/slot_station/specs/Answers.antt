@@ -60,7 +60,7 @@ module _ (w : ℕ) (p : Place) where
 
   -- where so many workers have to pay
   abbrev pub sweep_of : ℕ → Sweep
-  sweep_of n = cond (eqb n 0) (sweep.Last finaliser_of) (sweep.Others n)
+  sweep_of owing = cond (eqb owing 0) (sweep.Last finaliser_of) (sweep.Others owing)
 
   -- whether it is the last
   abbrev pub pay_of : Bool → Pay
@@ -86,4 +86,4 @@ reserve_of w s slot =
 
 -- where so many queries are admitted
 abbrev pub admit_of : ℕ → ℕ → Admit
-admit_of q n = cond (eqb n q) admit.Got (admit.Lost n)
+admit_of q admitted = cond (eqb admitted q) admit.Got (admit.Lost admitted)

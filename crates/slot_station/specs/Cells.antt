@@ -1,9 +1,11 @@
 -- What is known of cells: notes, what a note says, what a cell holds, and which call the notes
 -- allow.
-use Rattle.std.specs.Prelude.{◌≡◌, ℕ, ◌<◌, true, cond, eqb, List, [], ◌∷◌, Option, Some, None, IsSome, IsSomeAnd}
+use Rattle.std.specs.Prelude.{◌≡◌, ℕ, ◌<◌, true, cond, eqb, List, [], ◌∷◌, Option, Some, None}
+use Rattle.std.specs.Prelude.{IsSome, IsSomeAnd}
 use Rattle.slot_history.specs.declared.shape.Shape.{Shape}
 use Rattle.slot_history.specs.declared.act.Act.{Act}
-use Rattle.slot_history.specs.declared.act.Act.TheVariants.{LookOpen, ClaimRange, PayLast, SweepLast, ReserveGot, Install}
+use Rattle.slot_history.specs.declared.act.Act.TheVariants.{LookOpen, ClaimRange, PayLast}
+use Rattle.slot_history.specs.declared.act.Act.TheVariants.{SweepLast, ReserveGot, Install}
 use Rattle.slot_history.specs.declared.act.Entry.{Entry}
 use Rattle.slot_history.specs.declared.place.Held.{Held}
 use Rattle.slot_history.specs.declared.place.Place.{Place}
@@ -49,8 +51,8 @@ NoteSays IsKept IsFresh Kept value = IsSomeAnd value IsKept
 NoteSays IsKept IsFresh Fresh value = IsSomeAnd value IsFresh
 NoteSays IsKept IsFresh Loose value = Unit {0}
 
--- What is noted of a cell of a slot: by its own worker, and by each worker if that held the slot. If
--- its own worker is not inside, the cell is kept.
+-- What is noted of a cell of a slot: by its own worker, and by each worker if that held the slot.
+-- If its own worker is not inside, the cell is kept.
 pub record CellNotes : Type 0 where
   pub own : Note
   pub holder : ℕ → Note

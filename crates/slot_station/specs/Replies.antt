@@ -1,5 +1,6 @@
 -- The entry that a call with its reply makes, and what a caller needs of a reply's numbers.
-use Rattle.std.specs.Prelude.{◌≡◌, ℕ, ◌+◌, ◌*◌, ◌<◌, ◌≤◌, min, List, All, Option, Some, IsSome, IsSomeAnd}
+use Rattle.std.specs.Prelude.{◌≡◌, ℕ, ◌+◌, ◌*◌, ◌<◌, ◌≤◌, min, List, All, Option, Some, IsSome}
+use Rattle.std.specs.Prelude.{IsSomeAnd}
 use Rattle.std.specs.Int.{bit_at}
 use Rattle.slot_history.specs.declared.act.Act.{Act}
 use Rattle.slot_history.specs.declared.act.Act.TheVariants as act
@@ -50,7 +51,7 @@ mark_act mark.Missed = act.MarkMissed
 
 abbrev pub sweep_act : Sweep → Act
 sweep_act (sweep.Last token) = act.SweepLast
-sweep_act (sweep.Others n) = act.SweepOthers n
+sweep_act (sweep.Others owing) = act.SweepOthers owing
 
 abbrev pub pay_act : Pay → Act
 pay_act (pay.Last token) = act.PayLast
@@ -76,7 +77,7 @@ SeesTaskSet total _ = Unit {0}
 -- a range is not empty, and is cut at the task set's total; of no range nothing is said
 abbrev pub IsCutRange : Option ℕ → ℕ → Claim → Type 0
 IsCutRange total n (claim.Range from to) =
-    IsSomeAnd total (λ t. (from < t) × (to ≡ min t (from + n)))
+    IsSomeAnd total (λ whole. (from < whole) × (to ≡ min whole (from + n)))
 IsCutRange total n (claim.Exhausted token) = Unit {0}
 
 -- a range begins where each of these ended, or later

@@ -1,11 +1,13 @@
 -- Tokens: every field is what the trail gives for its worker.
-use Rattle.std.specs.Prelude.{◌≡◌, ℕ, Bool, true, false, cond, eqb, ◌&&◌, List, [], ◌∷◌, Option, Some, None}
+use Rattle.std.specs.Prelude.{◌≡◌, ℕ, Bool, true, false, cond, eqb, ◌&&◌, List, [], ◌∷◌, Option}
+use Rattle.std.specs.Prelude.{Some, None}
 use Rattle.slot_history.specs.declared.shape.Shape.{Shape}
 use Rattle.slot_history.specs.declared.act.Act.{Act}
 use Rattle.slot_history.specs.declared.act.Act.TheVariants.{Install}
 use Rattle.slot_history.specs.declared.act.Entry.{Entry}
 use Rattle.slot_history.specs.declared.place.Place.{Place}
-use Rattle.slot_history.specs.declared.place.Place.TheVariants.{Free, Used, Leading, Asking, Owing, Holding, Announcing}
+use Rattle.slot_history.specs.declared.place.Place.TheVariants.{Free, Used, Leading, Asking, Owing}
+use Rattle.slot_history.specs.declared.place.Place.TheVariants.{Holding, Announcing}
 use Rattle.slot_history.specs.States.{slot_of, held_at}
 use Rattle.slot_history.specs.Histories.{place_of}
 use Rattle.slot_station.specs.Desks.{Seen, own_place}
@@ -95,7 +97,7 @@ module _ (d : Shape) (w : ℕ) (p : Place) where
 
   abbrev pub SweepGives : Sweep → Type 0
   SweepGives (sweep.Last token) = IsHolder token
-  SweepGives (sweep.Others n) = Unit {0}
+  SweepGives (sweep.Others owing) = Unit {0}
 
   abbrev pub PayGives : Pay → Type 0
   PayGives (pay.Last token) = IsHolder token

@@ -34,17 +34,31 @@ pub trait Fits: Drop {
 /// "The calls, one by one" has each call's places and answers in a table.
 pub trait Station<B: Fits> {
     ghost use Rattle.std.specs.Prelude.{◌≡◌, ℕ, ◌+◌, ◌<◌, ◌≤◌, ◌⊎◌, true, None, IsSome, IfSome};
-    ghost use Rattle.slot_history.specs.declared.shape.TheConstants.{STAGES, PARTS, MOST_CLAIM, MOST_TOTAL};
-    ghost use Rattle.slot_history.specs.declared.act.Act.TheVariants.{Enter, Arrivals, Finished, NoteDone, SetTotal, Install, Release, Announce, TakeReturn, TakeChange};
+    ghost use Rattle.slot_history.specs.declared.shape.TheConstants.{STAGES, PARTS, MOST_CLAIM};
+    ghost use Rattle.slot_history.specs.declared.shape.TheConstants.{MOST_TOTAL};
+    ghost use Rattle.slot_history.specs.declared.act.Act.TheVariants.{Enter, Arrivals, Finished};
+    ghost use Rattle.slot_history.specs.declared.act.Act.TheVariants.{NoteDone, SetTotal, Install};
+    ghost use Rattle.slot_history.specs.declared.act.Act.TheVariants.{Release, Announce};
+    ghost use Rattle.slot_history.specs.declared.act.Act.TheVariants.{TakeReturn, TakeChange};
     ghost use Rattle.slot_history.specs.declared.place.Place.TheVariants.{Free, Entered, Inside};
     ghost use Rattle.slot_history.specs.States.{can_leave, next_id};
     ghost use Rattle.slot_history.specs.Allowed.{IsReady};
     ghost use Rattle.slot_history.specs.Subject.{InstallsOf};
     ghost use Rattle.slot_station.specs.declared.note.Note.TheVariants.{Empty, Fresh};
-    ghost use Rattle.slot_station.specs.Desks.{Seen, IsDesk, own_place, own_holding, own_ranges, own_total, totals_of, Owns, caller_of, Makes, Exchanges, ExchangesOwn, OwnFits, NextFits, OwnCellSays, CellSays, LeaderOwesNothing};
-    ghost use Rattle.slot_station.specs.Cells.{has_cell, kept_note, fresh_note, HasNoted, LeavesKept};
-    ghost use Rattle.slot_station.specs.Tokens.{IsSpent, IsDebt, IsCoordinator, IsHolder, IsAnnouncer, IsDone, ClaimGives, ShutGives, LeaveGives, SweepGives, PayGives, ReserveGives};
-    ghost use Rattle.slot_station.specs.Replies.{look_act, claim_act, shut_act, leave_act, mark_act, sweep_act, pay_act, reserve_act, admit_act, SeesTaskSet, IsCutRange, LiesPast, OwesTaskSet, marked_coordinator, admitted_holder, NamesSlots};
+    ghost use Rattle.slot_station.specs.Desks.{Seen, IsDesk, own_place, own_holding, own_ranges};
+    ghost use Rattle.slot_station.specs.Desks.{own_total, totals_of, Owns, caller_of, Makes};
+    ghost use Rattle.slot_station.specs.Desks.{Exchanges, ExchangesOwn, OwnFits, NextFits};
+    ghost use Rattle.slot_station.specs.Desks.{OwnCellSays, CellSays, LeaderOwesNothing};
+    ghost use Rattle.slot_station.specs.Cells.{has_cell, kept_note, fresh_note, HasNoted};
+    ghost use Rattle.slot_station.specs.Cells.{LeavesKept};
+    ghost use Rattle.slot_station.specs.Tokens.{IsSpent, IsDebt, IsCoordinator, IsHolder};
+    ghost use Rattle.slot_station.specs.Tokens.{IsAnnouncer, IsDone, ClaimGives, ShutGives};
+    ghost use Rattle.slot_station.specs.Tokens.{LeaveGives, SweepGives, PayGives, ReserveGives};
+    ghost use Rattle.slot_station.specs.Replies.{look_act, claim_act, shut_act, leave_act};
+    ghost use Rattle.slot_station.specs.Replies.{mark_act, sweep_act, pay_act, reserve_act};
+    ghost use Rattle.slot_station.specs.Replies.{admit_act, SeesTaskSet, IsCutRange, LiesPast};
+    ghost use Rattle.slot_station.specs.Replies.{OwesTaskSet, marked_coordinator, admitted_holder};
+    ghost use Rattle.slot_station.specs.Replies.{NamesSlots};
 
     // What no call changes.
     ghost Origin: { Type 0 };

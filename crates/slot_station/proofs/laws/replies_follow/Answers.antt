@@ -1,4 +1,6 @@
-use Rattle.slot_station.proofs.Follows.{place-after, names-task_set, sees-task_set, range-cut, range-past, owes-task_set, coordinator-left, returns-named, changes-named}
+use Rattle.slot_station.proofs.Follows.{place-after, names-task_set, sees-task_set, range-cut}
+use Rattle.slot_station.proofs.Follows.{range-past, owes-task_set, coordinator-left, returns-named}
+use Rattle.slot_station.proofs.Follows.{changes-named}
 use Rattle.slot_station.proofs.laws.replies_follow.Goals as goal
 
 pub returns : goal.returns

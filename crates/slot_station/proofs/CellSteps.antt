@@ -7,22 +7,9 @@ use Rattle.slot_history.specs.declared.shape.Shape.{Shape}
 use Rattle.slot_history.specs.declared.act.Act.{Act}
 use Rattle.slot_history.specs.declared.act.Act.TheVariants.{AdmitGot, NoteDone, SetTotal}
 use Rattle.slot_history.specs.declared.place.Held.{Held}
-use Rattle.slot_history.specs.States.{
-  SlotState,
-  Empty,
-  Reserved,
-  Open,
-  Shut,
-  Finishing,
-  is_empty,
-  is_open,
-  is_shut,
-  id_of,
-  has_id,
-  reservation,
-  finalisation,
-  next_id,
-}
+use Rattle.slot_history.specs.States.{SlotState, Empty, Reserved, Open, Shut, Finishing, is_empty}
+use Rattle.slot_history.specs.States.{is_open, is_shut, id_of, has_id, reservation, finalisation}
+use Rattle.slot_history.specs.States.{next_id}
 use Rattle.slot_history.specs.Steps.{claimed, shut_by, ended, finalised_by, held_on, opened}
 use Rattle.slot_history.proofs.Duties.{IsHeldBy}
 use Rattle.slot_history.proofs.Growth.{open-shut-cases}

@@ -1,30 +1,6 @@
 -- What a call's reply says follows from what the call made (`Makes`), whatever the form of the object.
-use Rattle.std.proofs.Common.{
-  ◌≡◌,
-  ℕ,
-  ◌+◌,
-  ◌*◌,
-  ◌<◌,
-  ◌⊎◌,
-  inl,
-  inr,
-  Bool,
-  true,
-  false,
-  cond,
-  ltb,
-  ◌∷◌,
-  [],
-  Some,
-  IsSome,
-  refl,
-  sym,
-  ap,
-  ◌∙◌,
-  subst,
-  eq-eqb,
-  arith,
-}
+use Rattle.std.proofs.Common.{◌≡◌, ℕ, ◌+◌, ◌*◌, ◌<◌, ◌⊎◌, inl, inr, Bool, true, false, cond, ltb}
+use Rattle.std.proofs.Common.{◌∷◌, [], Some, IsSome, refl, sym, ap, ◌∙◌, subst, eq-eqb, arith}
 use Rattle.std.specs.Prelude.{IsSomeAnd, min, Option, List}
 use Rattle.std.specs.Int.{bit_at}
 use Rattle.std.proofs.lemmas.Nat.Bits.{bit_at_above}

@@ -6,37 +6,15 @@ use native.Mathlib.Decide.{ℕ_discrete}
 use Rattle.std.proofs.lemmas.Bool.{cond_both}
 use Rattle.slot_history.specs.declared.shape.Shape.{Shape}
 use Rattle.slot_history.specs.declared.act.Act.{Act}
-use Rattle.slot_history.specs.declared.act.Act.TheVariants.{
-  Enter,
-  LookOpen,
-  LookInvalid,
-  LookVacant,
-  ClaimRange,
-  ClaimUsed,
-  ShutWon,
-  ShutLost,
-  LeaveLeft,
-  LeaveOwe,
-  PayLast,
-  PayDone,
-  MarkMarked,
-  MarkMissed,
-  SweepLast,
-  SweepOthers,
-  ReserveGot,
-  ReserveTaken,
-  AdmitGot,
-  AdmitLost,
-  Arrivals,
-  Finished,
-  NoteDone,
-  SetTotal,
-  Install,
-  Release,
-  Announce,
-  TakeReturn,
-  TakeChange,
-}
+use Rattle.slot_history.specs.declared.act.Act.TheVariants.{Enter, LookOpen, LookInvalid}
+use Rattle.slot_history.specs.declared.act.Act.TheVariants.{LookVacant, ClaimRange, ClaimUsed}
+use Rattle.slot_history.specs.declared.act.Act.TheVariants.{ShutWon, ShutLost, LeaveLeft, LeaveOwe}
+use Rattle.slot_history.specs.declared.act.Act.TheVariants.{PayLast, PayDone, MarkMarked}
+use Rattle.slot_history.specs.declared.act.Act.TheVariants.{MarkMissed, SweepLast, SweepOthers}
+use Rattle.slot_history.specs.declared.act.Act.TheVariants.{ReserveGot, ReserveTaken, AdmitGot}
+use Rattle.slot_history.specs.declared.act.Act.TheVariants.{AdmitLost, Arrivals, Finished, NoteDone}
+use Rattle.slot_history.specs.declared.act.Act.TheVariants.{SetTotal, Install, Release, Announce}
+use Rattle.slot_history.specs.declared.act.Act.TheVariants.{TakeReturn, TakeChange}
 use Rattle.slot_history.specs.declared.place.Place.{Place}
 use Rattle.slot_history.specs.declared.place.Place.TheVariants.{Free, Entered, Inside, Leading}
 use Rattle.slot_history.specs.declared.place.Place.TheVariants.{Owing, Announcing}

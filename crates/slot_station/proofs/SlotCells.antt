@@ -6,23 +6,11 @@ use mathlib.Core.Logic.{dite}
 use native.Mathlib.Decide.{ℕ_discrete}
 use Rattle.slot_history.specs.declared.shape.Shape.{Shape}
 use Rattle.slot_history.specs.declared.act.Act.{Act}
-use Rattle.slot_history.specs.declared.act.Act.TheVariants.{
-  ClaimRange,
-  ClaimUsed,
-  ShutWon,
-  PayLast,
-  PayDone,
-  MarkMarked,
-  MarkMissed,
-  SweepLast,
-  SweepOthers,
-  ReserveGot,
-  AdmitGot,
-  NoteDone,
-  SetTotal,
-  Install,
-  Release,
-}
+use Rattle.slot_history.specs.declared.act.Act.TheVariants.{ClaimRange, ClaimUsed, ShutWon, PayLast}
+use Rattle.slot_history.specs.declared.act.Act.TheVariants.{PayDone, MarkMarked, MarkMissed}
+use Rattle.slot_history.specs.declared.act.Act.TheVariants.{SweepLast, SweepOthers, ReserveGot}
+use Rattle.slot_history.specs.declared.act.Act.TheVariants.{AdmitGot, NoteDone, SetTotal, Install}
+use Rattle.slot_history.specs.declared.act.Act.TheVariants.{Release}
 use Rattle.slot_history.specs.declared.act.Entry.{Entry}
 use Rattle.slot_history.specs.declared.place.Held.{Held}
 use Rattle.slot_history.specs.declared.place.Place.TheVariants.{Holding}
@@ -37,19 +25,9 @@ use Rattle.slot_history.proofs.Holdings.{holder-slot}
 use Rattle.slot_history.proofs.Duties.{IsHeldBy}
 use Rattle.slot_station.specs.declared.note.Note.{Note}
 use Rattle.slot_station.specs.declared.note.Note.TheVariants as note
-use Rattle.slot_station.proofs.CellSteps.{
-  Known,
-  cell-claimed,
-  cell-shut,
-  cell-ended,
-  cell-noted,
-  cell-totalled,
-  cell-reserved,
-  cell-admitted,
-  cell-released,
-  cell-finalised,
-  cell-opened,
-}
+use Rattle.slot_station.proofs.CellSteps.{Known, cell-claimed, cell-shut, cell-ended, cell-noted}
+use Rattle.slot_station.proofs.CellSteps.{cell-totalled, cell-reserved, cell-admitted}
+use Rattle.slot_station.proofs.CellSteps.{cell-released, cell-finalised, cell-opened}
 use Rattle.slot_history.proofs.Places.{held-outside}
 use Rattle.slot_station.proofs.CellPlaces.{note-mine}
 use Rattle.slot_station.specs.Cells.{notes_after}

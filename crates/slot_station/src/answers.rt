@@ -2,8 +2,7 @@
 //! a worker lie in lists.
 ghost use Rattle.std.specs.Prelude.{◌≡◌, ℕ, ◌+◌, ◌*◌, ◌/◌, ◌%◌, ◌<◌, ◌≤◌, Some, None};
 ghost use Rattle.slot_history.specs.declared.shape.TheConstants.{PARTS, MOST_WORKERS};
-ghost use Rattle.slot_history.specs.declared.place.Place.TheVariants.{Asking};
-ghost use Rattle.slot_history.specs.Table.{nth_other};
+ghost use Rattle.slot_history.specs.Table as table;
 ghost use Rattle.slot_station.specs.Answers.{claim_of, shut_of, leave_of};
 ghost use Rattle.slot_station.specs.Answers.{reserver_of, finaliser_of, announcer_of};
 
@@ -72,15 +71,13 @@ pub fn left_by(worker: u32, slot: u32, id: u32, owes: bool) -> Leave
     }
 }
 
-/// The worker that a coordinator asks next: the workers in ascending order, itself left out.
-pub fn next_to_ask(worker: u32, place: &Place) -> u32
-    requires { (s id n m : ℕ) × (place.now ≡ Asking s id n m) × (n < MOST_WORKERS) }
-    ensures { (s id n m : ℕ) → place.now ≡ Asking s id n m → result ≡ nth_other worker n }
+/// The n-th of the workers in ascending order, this one left out: whom a coordinator asks after n
+/// others.
+pub fn nth_other(worker: u32, n: u32) -> u32
+    requires { n < MOST_WORKERS }
+    ensures { result ≡ table.nth_other worker n }
 {
-    let Place::Asking(_, _, asked, _) = *place else {
-        unreachable!()
-    };
-    if asked < worker { asked } else { asked + 1 }
+    if n < worker { n } else { n + 1 }
 }
 
 /// The holder that a worker becomes where it reserves a slot.

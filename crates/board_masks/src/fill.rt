@@ -6,8 +6,10 @@ ghost use Rattle.slot_history.specs.declared.place.Place.TheVariants.{Free};
 ghost use Rattle.slot_history.specs.declared.shape.TheConstants.{STAGES, MOST_TOTAL};
 ghost use Rattle.slot_history.specs.Allowed.{IsReady};
 ghost use Rattle.slot_history.specs.States.{next_id};
+ghost use Rattle.slot_history.specs.Subject.{InstallsOf};
 ghost use Rattle.slot_station.specs.declared.note.Note.TheVariants.{Empty, Fresh};
-ghost use Rattle.slot_station.specs.Desks.{AllNoted, HasTotal, Makes, Owns, own_holding, own_place};
+ghost use Rattle.slot_station.specs.Cells.{HasNoted};
+ghost use Rattle.slot_station.specs.Desks.{Makes, Owns, caller_of, own_holding, own_place, totals_of};
 ghost use Rattle.slot_station.specs.Replies.{reserve_act, admit_act, admitted_holder};
 ghost use Rattle.slot_station.specs.Tokens.{IsAnnouncer, IsHolder, ReserveGives};
 ghost use Rattle.board_rule.specs.Passes.{IsPassOf, seen_of};
@@ -16,7 +18,8 @@ use board_rule::atomic::{WordOperation, step};
 use board_rule::board::{Board, Pass};
 use slot_history::act::Act;
 use slot_proto::reading::{admit_read, reserve_read};
-use slot_station::moves::{held_at, place_after, slot_at};
+use slot_station::answers::announcer;
+use slot_station::moves::{place_after, slot_at};
 use slot_station::reply::{Admit, Reserve};
 use slot_station::station::Fits;
 use slot_station::steps::Steps;
@@ -147,21 +150,16 @@ pub fn install<B: Fits, L: Ledger>(
     requires holder { Owns IsHolder (seen_of board.now pass.old) holder }
     requires ready { IsReady (own_holding (seen_of board.now pass.old)) }
     requires id { id ≡ next_id (own_holding (seen_of board.now pass.old)) }
-    requires total { HasTotal B.total (seen_of board.now pass.old) id }
-    requires cells { AllNoted Fresh (seen_of board.now pass.old) }
+    requires total { let x = seen_of board.now pass.old in
+        InstallsOf (totals_of B.total x) (Install id) (own_holding x).total }
+    requires cells { HasNoted Fresh (caller_of (seen_of board.now pass.old)) }
     ensures pass { IsPassOf board.now pass.new }
     ensures made { Makes B.total (Install id)
         (seen_of board.now pass.old) (seen_of board.now pass.new) }
     ensures announcer { Owns IsAnnouncer (seen_of board.now pass.new) result }
     ensures ticks { steps.new ≡ steps.old + 1 }
 {
-    let announcer = Announcer {
-        worker: pass.worker,
-        slot: slot_at(&pass.place),
-        workers: board.shape.workers,
-        told: 0,
-        again: held_at(&pass.place).again,
-    };
+    let announcer = announcer(pass.worker, &pass.place, &board.shape);
     let state = Address::StateOf(slot_at(&pass.place));
     step::<Brand, B, L>(
         board,
@@ -186,7 +184,7 @@ pub fn release<B: Fits, L: Ledger>(
     requires holder { Owns IsHolder (seen_of board.now pass.old) holder }
     requires noted { (holder.query ≡ None)
         ⊎ (0 < (own_holding (seen_of board.now pass.old)).noted) }
-    requires cells { AllNoted Empty (seen_of board.now pass.old) }
+    requires cells { HasNoted Empty (caller_of (seen_of board.now pass.old)) }
     ensures pass { IsPassOf board.now pass.new }
     ensures made { Makes B.total Release
         (seen_of board.now pass.old) (seen_of board.now pass.new) }

@@ -1,5 +1,5 @@
 -- An exchange of a cell over a board: what its two loads owe, and what the pass is after them.
-use Rattle.std.proofs.Common.{◌≡◌, ℕ, ◌*◌, ◌<◌, Bool, true, List, ◌∷◌, cond, eqb, ◌&&◌, length, Option, Some, IfSome, refl, sym, ap, ap₂, ◌∙◌, subst, eq-eqb, ne_eqb, arith}
+use Rattle.std.proofs.Common.{◌≡◌, ℕ, ◌*◌, ◌<◌, true, List, ◌∷◌, cond, eqb, ◌&&◌, length, Option, Some, IfSome, refl, sym, ap, ap₂, ◌∙◌, subst, eq-eqb, ne_eqb, arith}
 use Rattle.std.specs.Prelude.{is_some, unwrap_or}
 use Rattle.std.proofs.Math.Bool.{and-false}
 use mathlib.Core.Option as std_option
@@ -7,21 +7,20 @@ use Rattle.atomic_table.specs.Table as table
 use Rattle.atomic_table.specs.Table.{Me, Allows, step, rest}
 use Rattle.atomic_table.specs.declared.shared.Seat.{Seat}
 use Rattle.slot_history.specs.declared.shape.Shape.{Shape}
-use Rattle.slot_history.specs.declared.place.Place.{Place}
-use Rattle.slot_history.specs.States.{has_cell}
 use Rattle.slot_history.specs.Histories.{IsLegal, place_of}
 use Rattle.slot_station.specs.declared.note.Note.{Note}
-use Rattle.slot_station.specs.Desks.{Desk, Exchanges}
+use Rattle.slot_station.specs.Desks.{Exchanges, caller_of, own_place}
+use Rattle.slot_station.specs.Exchanges.{MayExchange, MayPut, HoldsNoted, put_note}
 use Rattle.slot_station.specs.Log.{note_in}
 use Rattle.board_rule.specs.declared.view.View.{View}
 use Rattle.board_rule.specs.declared.board.Board.{Board}
 use Rattle.board_rule.specs.declared.board.Pass.{Pass}
-use Rattle.board_rule.specs.Cells.{HasAt, PutIf, SaysIf, Takes, Gives, index_in, note_if, note_put, taking, giving}
+use Rattle.board_rule.specs.Cells.{Takes, Gives, index_in, note_put, taking, giving}
 use Rattle.board_rule.specs.Passes.{shape_of, subject_of, seen_at, seen_of, IsSeatOf, IsPassOf}
 use Rattle.board_rule.specs.Rule.{RunningRule, Terms, terms_of}
-use Rattle.board_rule.specs.Views.{number, place_in, note_of, shown_by, with_out, exchanged}
+use Rattle.board_rule.specs.Views.{number, place_in, shown_in, with_out, exchanged}
 use Rattle.board_rule.proofs.Moves.{take-allowed, give-allowed}
-use Rattle.board_rule.proofs.Stepping.{place-is, place-in, still}
+use Rattle.board_rule.proofs.Stepping.{place-is, place-in, still, below, by-view, by-board}
 
 pair-heads : {X : Type 0} → (a c : ℕ) (x y : X) (r q : List (ℕ × X)) → (a, x) ∷ r ≡ (c, y) ∷ q → (a ≡ c) × (x ≡ y) × (r ≡ q)
 pair-heads {X} a c x y r q e =
@@ -30,7 +29,7 @@ pair-heads {X} a c x y r q e =
     let h : l ≡ m = cc in (ap (λ (z : ℕ × X). z.0) h, ap (λ (z : ℕ × X). z.1) h, cc)
 
 module _ {B Sub : Type 0} (total : Sub → ℕ → Option ℕ) (fits : Sub → ℕ → ℕ → List (ℕ × ℕ) → B → Type 0) (b : Board B Sub) (p : Pass B Sub)
-    (ours : IsPassOf b p) (u : ℕ) (has : HasAt (shape_of b) p.worker u p.place) where
+    (ours : IsPassOf b p) (u : ℕ) (has : MayExchange (caller_of (seen_of b p)) u) where
   abbrev d : Shape
   d = shape_of b
 
@@ -53,35 +52,29 @@ module _ {B Sub : Type 0} (total : Sub → ℕ → Option ℕ) (fits : Sub → �
   count : b.table.shared.table_id.slots ≡ d.slots * d.workers
   count = subst (λ (e : Shape). b.table.shared.table_id.slots ≡ e.slots * e.workers) (sym b.shape_is) b.cells_are
 
-  has-t : HasAt d p.worker u (place_of d v.trail p.worker)
-  has-t = subst (HasAt d p.worker u) (sym (place-is b p.worker p.place p.seat ours)) has
+  has-v : MayExchange (caller_of (shown_in v (subject_of b))) u
+  has-v = by-view b p.worker p.place p.seat ours (λ x. MayExchange (caller_of x) u) has
+
+  low : number v < d.workers
+  low = below b p.worker p.place p.seat ours
 
   pub take-step : Owes p.seat.id p.seat.me (taking fits u load_step p.seat.me)
-  take-step = take-allowed terms b.table.shared.table_id.slots p.seat.id v p.worker u p.seat.me.1 ours.2 ours.3 ours.1 has-t count load_step
+  take-step = take-allowed terms b.table.shared.table_id.slots p.seat.id v u p.seat.me.1 ours.2 low has-v count load_step
       (still b p.worker p.place p.seat ours)
 
-  here : place_in v ≡ p.place
-  here = place-in b p.worker p.place p.seat ours
-
-  desk-is : (x : Sub) → x ≡ subject_of b → ◌≡◌ {A = Desk Sub} (record { worker = number v; shape = v.shape; subject = x }) (seen_of b p).desk
-  desk-is x e = let f : (m : ℕ) (g : Shape) (y : Sub) → Desk Sub = λ m g y. record { worker = m; shape = g; subject = y } in
-      ap (λ m. f m v.shape x) ours.3 ∙ ap₂ (λ g y. f p.worker g y) ours.4 e
-
-  abbrev inside : Bool
-  inside = has_cell p.place
+  -- where the worker is, by the view and by what the pass shows
+  here : place_in v ≡ own_place (seen_of b p)
+  here = place-in b p.worker p.place p.seat ours ∙ sym (place-is b p.worker p.place p.seat ours)
 
   -- ---- the first load, after which the seat knows and holds `l`
 
   module _ (l : Me (Option B) (View Sub)) (t : Takes fits u p.seat.me l) where
     -- what the seat holds is the cell, as its note says
-    pub says : (spot : ℕ) (old : Option B) → l.1 ≡ (spot, old) ∷ rest l.1 → SaysIf fits (seen_of b p) u ((seen_of b p).notes u) old
+    pub says : (spot : ℕ) (old : Option B) → l.1 ≡ (spot, old) ∷ rest l.1 → HoldsNoted (seen_of b p) u fits old
     says spot old found =
         let heads = pair-heads spot (index_in v u) old t.value (rest l.1) p.seat.me.1 (sym found ∙ t.holds) in
-        let S : Desk Sub → Note → Option B → Type 0 = λ desk n y. SaysIf fits (shown_by desk v.trail (note_of v)) u n y in
-        let x : Sub = subject_of b in
-        let said : S (seen_of b p).desk (note_of v u) t.value = subst (λ desk. S desk (note_of v u) t.value) (desk-is x refl) (t.says x ours.5) in
-        subst (S (seen_of b p).desk (note_in v.own p.worker u)) (sym heads.1)
-        (subst (λ n. S (seen_of b p).desk n t.value) (ap (λ m. note_in v.own m u) ours.3) said)
+        subst (HoldsNoted (seen_of b p) u fits) (sym heads.1)
+        (by-board b p.worker p.place p.seat ours (λ x. HoldsNoted x u fits t.value) (t.says (subject_of b) ours.5))
 
     -- ---- and after the exchange it has `new` in place of `old`
 
@@ -93,25 +86,23 @@ module _ {B Sub : Type 0} (total : Sub → ℕ → Option ℕ) (fits : Sub → �
       holds : m ≡ (with_out v u, (index_in v u, new) ∷ rest l.1)
       holds = puts ∙ ap₂ (λ x y. (x, (y, new) ∷ rest l.1)) t.view heads.0
 
-      pub give-step : (i : ℕ) → IfSome new (PutIf fits (seen_of b p) u inside) → Owes i m (giving load_step m)
-      give-step i fit =
-          let w : View Sub = with_out v u in
-          let G : Desk Sub → Place → Type 0 = λ desk q. IfSome new (PutIf fits (shown_by desk v.trail (note_of v)) u (has_cell q)) in
-          subst (λ x. Owes i x (giving load_step x)) (sym holds)
-          (give-allowed terms b.table.shared.table_id.slots i w p.worker u ((index_in v u, new) ∷ rest l.1) ours.2 ours.3 ours.1 has-t count load_step new
+      pub give-step : (i : ℕ) → IfSome new (MayPut (seen_of b p) u fits) → Owes i m (giving load_step m)
+      give-step i fit = subst (λ x. Owes i x (giving load_step x)) (sym holds)
+          (give-allowed terms b.table.shared.table_id.slots i (with_out v u) u ((index_in v u, new) ∷ rest l.1) ours.2 low has-v count load_step new
           (rest l.1) refl refl
-          (λ x is. let e : x ≡ subject_of b = (let r : Some x ≡ Some (subject_of b) = sym is ∙ ours.5 in cc) in
-          subst (λ desk. G desk (place_in v)) (sym (desk-is x e)) (subst (G (seen_of b p).desk) (sym here) fit)))
+          (λ x is. let e : subject_of b ≡ x = (let r : Some (subject_of b) ≡ Some x = sym ours.5 ∙ is in cc) in
+          subst (λ s. IfSome new (MayPut (shown_in v s) u fits)) e
+          (by-view b p.worker p.place p.seat ours (λ y. IfSome new (MayPut y u fits)) fit)))
 
       -- ---- the second load, after which it knows and holds `n`
 
       module _ (n : Me (Option B) (View Sub)) (g : Gives m n) where
         abbrev noted : Note
-        noted = note_if inside new
+        noted = put_note (own_place (seen_of b p)) new
 
         view : n.0 ≡ exchanged v u noted
-        view = g.view ∙ ap (λ (x : Me (Option B) (View Sub)). exchanged x.0 (unwrap_or x.0.out 0) (note_put (has_cell (place_in x.0)) x.1)) holds
-            ∙ ap (λ q. exchanged v u (note_if (has_cell q) new)) here
+        view = g.view ∙ ap (λ (x : Me (Option B) (View Sub)). exchanged x.0 (unwrap_or x.0.out 0) (note_put (place_in x.0) x.1)) holds
+            ∙ ap (λ q. exchanged v u (put_note q new)) here
 
         module _ (s : Seat (Option B) (View Sub)) (me : s.me ≡ n) where
           knows : s.me.0 ≡ exchanged v u noted

@@ -1,6 +1,5 @@
 pub mod Allowed
 pub mod Callers
-pub mod Cells
 pub mod Copies
 pub mod Deals
 pub mod Exchanges

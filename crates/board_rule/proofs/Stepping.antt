@@ -15,7 +15,7 @@ use Rattle.slot_history.specs.Histories.{IsLegal, IsOfTotals, Called, entry, pla
 use Rattle.slot_history.specs.Calls.{Call, MayAt}
 use Rattle.slot_history.proofs.Own.{calls-go-on}
 use Rattle.slot_station.specs.Cells.{noted, CellsAllow}
-use Rattle.slot_station.specs.Desks.{Makes}
+use Rattle.slot_station.specs.Desks.{Makes, Seen, caller_of, own_place, totals_of}
 use Rattle.slot_station.specs.Log.{note_in}
 use Rattle.slot_words.specs.declared.address.Address.{Address}
 use Rattle.slot_words.specs.Addresses.{index, count_of_words}
@@ -29,7 +29,7 @@ use Rattle.board_rule.specs.declared.view.View.{View}
 use Rattle.board_rule.specs.Passes.{shape_of, subject_of, seen_at, IsSeatOf}
 use Rattle.board_rule.specs.Rule.{Terms, RunningRule, terms_of}
 use Rattle.board_rule.specs.Steps.{MayMake, MayStep, HasCalled}
-use Rattle.board_rule.specs.Views.{number, place_in, shown_in, grown}
+use Rattle.board_rule.specs.Views.{number, place_in, shown_by, shown_in, grown}
 use Rattle.board_rule.proofs.Allowed.{call-allowed}
 use Rattle.board_rule.proofs.Lists.{no-items, headed}
 
@@ -58,6 +58,19 @@ module _ {B Sub : Type 0} (board : Board B Sub) (w : ℕ) (p : Place) (seat : Se
   pub still : v.out ≡ None
   still = none-of v.out ours.7
 
+  -- what the worker shows, but for the station's origin: by the board, and by the view
+  abbrev pub shown : ℕ → Shape → Seen (Unit {0}) Sub
+  shown m e = shown_by (record { worker = m; shape = e; subject = subject_of board }) v.trail (note_in v.own m)
+
+  pub by-view : (P : Seen (Unit {0}) Sub → Type 0) → P (shown w d) → P (shown_in v (subject_of board))
+  by-view P h = subst (λ m. P (shown m v.shape)) (sym ours.3) (subst (λ e. P (shown w e)) (sym ours.4) h)
+
+  pub by-board : (P : Seen (Unit {0}) Sub → Type 0) → P (shown_in v (subject_of board)) → P (shown w d)
+  by-board P h = subst (λ e. P (shown w e)) ours.4 (subst (λ m. P (shown m v.shape)) ours.3 h)
+
+  pub below : number v < d.workers
+  below = subst (λ m. m < d.workers) (sym ours.3) ours.1
+
   -- ---- a step that is the call c
 
   module _ (total : Sub → ℕ → Option ℕ) (fits : Sub → ℕ → ℕ → List (ℕ × ℕ) → B → Type 0) (c : Call) (may : MayMake total (seen_at board w seat) c) where
@@ -66,20 +79,16 @@ module _ {B Sub : Type 0} (board : Board B Sub) (w : ℕ) (p : Place) (seat : Se
 
     -- what the worker may ask for, by the view alone
     may-in : MayMake total (shown_in v (subject_of board)) c
-    may-in =
-        let totals : ℕ → Option ℕ = total (subject_of board) in
-        let same : place_of d v.trail w ≡ place_in v = place-is ∙ sym place-in in
-        let at : MayAt v.shape (place_in v) c = subst (λ q. MayAt v.shape q c) same (subst (λ e. MayAt e (place_of d v.trail w) c) (sym ours.4) may.place) in
-        let f : ℕ → Shape → Type 0 = λ m e. CellsAllow totals (record { shape = e; worker = m; place = place_in v; notes = note_in v.own m }) c in
-        let cells : f w d =
-        subst (λ q. CellsAllow totals (record { shape = d; worker = w; place = q; notes = note_in v.own w }) c) same may.cells in
-        record { place = at; cells = subst (λ m. f m v.shape) (sym ours.3) (subst (λ e. f w e) (sym ours.4) cells) }
+    may-in = record {
+      place = by-view (λ x. MayAt x.desk.shape (own_place x) c) may.place;
+      cells = by-view (λ x. CellsAllow (totals_of total x) (caller_of x) c) may.cells;
+    }
 
     may-step : MayStep terms v c
     may-step = let l = headed v.numbers w ours.2 ours.3 in record {
       rest = l.0;
       numbers = l.1 ∙ ap (λ m. m ∷ l.0) (sym ours.3);
-      below = subst (λ m. m < d.workers) (sym ours.3) ours.1;
+      below = below;
       shape = ours.4;
       may = may-in;
       still = still;

@@ -4,27 +4,18 @@ use Rattle.atomic_table.specs.Table.{Step, Me}
 use Rattle.slot_history.specs.declared.act.Act.{Act}
 use Rattle.slot_history.specs.Histories.{Called, IsOfTotals, entry}
 use Rattle.slot_history.specs.Calls.{Call, MayAt}
-use Rattle.slot_station.specs.Cells.{Caller, CellsAllow}
-use Rattle.slot_station.specs.Desks.{Seen, own_place, totals_of}
+use Rattle.slot_station.specs.Cells.{CellsAllow}
+use Rattle.slot_station.specs.Desks.{Seen, caller_of, own_place, totals_of}
 use Rattle.slot_words.specs.Steps.{answer_of}
 use Rattle.board_rule.specs.declared.view.View.{View}
 use Rattle.board_rule.specs.Rule.{Terms}
 use Rattle.board_rule.specs.Views.{number, place_in, shown_in, grown}
 
--- the station's worker, as one that calls
-abbrev pub caller_in : {O Sub : Type 0} → Seen O Sub → Caller
-caller_in x = record {
-  shape = x.desk.shape;
-  worker = x.desk.worker;
-  place = own_place x;
-  notes = x.notes;
-}
-
 -- the station's worker may make the call, by its place, its notes and the subject
 pub record MayMake {O Sub : Type 0} (total : Sub → ℕ → Option ℕ) (x : Seen O Sub)
     (c : Call) : Type 0 where
   pub place : MayAt x.desk.shape (own_place x) c
-  pub cells : CellsAllow (totals_of total x) (caller_in x) c
+  pub cells : CellsAllow (totals_of total x) (caller_of x) c
 
 -- The seat with this view may make a step that is this call: its worker may make the call, by its
 -- own trail and notes; the seat has no cell out, and no other seat was joined into it.

@@ -3,10 +3,10 @@
 ghost use Rattle.std.specs.Prelude.{◌≡◌, ◌<◌, ◌+◌, ℕ, IfSome};
 ghost use mathlib.Core.Option.{none};
 ghost use Rattle.atomic_table.specs.Table.{Allows, step};
-ghost use Rattle.slot_station.specs.Cells.{has_cell};
-ghost use Rattle.slot_station.specs.Desks.{Exchanges};
-ghost use Rattle.board_rule.specs.Cells.{HasAt, PutIf, SaysIf, Takes, note_if, taking};
-ghost use Rattle.board_rule.specs.Passes.{IsPassOf, seen_of, shape_of};
+ghost use Rattle.slot_station.specs.Desks.{Exchanges, caller_of, own_place};
+ghost use Rattle.slot_station.specs.Exchanges.{HoldsNoted, MayExchange, MayPut, put_note};
+ghost use Rattle.board_rule.specs.Cells.{Takes, taking};
+ghost use Rattle.board_rule.specs.Passes.{IsPassOf, seen_of};
 ghost use Rattle.board_rule.specs.Rule.{RunningRule, terms_of};
 
 use crate::board::{Board, Pass};
@@ -51,14 +51,12 @@ pub fn exchange_cell<B: Fits, L: Ledger>(
     steps: &mut Steps<L>,
 ) -> Option<B>
     requires pass { IsPassOf board.now pass.old }
-    requires has { HasAt (shape_of board.now) pass.old.worker cell pass.old.place }
-    requires fits { let x = seen_of board.now pass.old in
-        IfSome new (PutIf B.fits x cell (has_cell pass.old.place)) }
+    requires has { MayExchange (caller_of (seen_of board.now pass.old)) cell }
+    requires fits { IfSome new (MayPut (seen_of board.now pass.old) cell B.fits) }
     ensures pass { IsPassOf board.now pass.new }
-    ensures says { let x = seen_of board.now pass.old in
-        SaysIf B.fits x cell (x.notes cell) result }
-    ensures put { Exchanges cell (note_if (has_cell pass.old.place) new)
-        (seen_of board.now pass.old) (seen_of board.now pass.new) }
+    ensures says { HoldsNoted (seen_of board.now pass.old) cell B.fits result }
+    ensures put { let x = seen_of board.now pass.old in
+        Exchanges cell (put_note (own_place x) new) x (seen_of board.now pass.new) }
     ensures ticks { steps.new ≡ steps.old + 1 }
 {
     steps.tick();

@@ -5,8 +5,9 @@ ghost use Rattle.slot_history.specs.declared.act.Act.TheVariants.{Enter};
 ghost use Rattle.slot_history.specs.declared.place.Place.TheVariants.{Free, Entered, Inside};
 ghost use Rattle.slot_history.specs.declared.shape.TheConstants.{MOST_CLAIM};
 ghost use Rattle.slot_history.specs.States.{can_leave};
-ghost use Rattle.slot_station.specs.Cells.{has_cell, kept_note};
-ghost use Rattle.slot_station.specs.Desks.{ExchangesOwn, KeptOwn, LeaderOwesNothing, Makes, OwnCellSays, OwnFits, Owns, own_place, own_ranges, own_total, totals_of};
+ghost use Rattle.slot_station.specs.Cells.{LeavesKept, has_cell, kept_note};
+ghost use Rattle.slot_station.specs.Desks.{ExchangesOwn, LeaderOwesNothing, Makes, OwnCellSays, OwnFits, Owns};
+ghost use Rattle.slot_station.specs.Desks.{caller_of, own_place, own_ranges, own_total, totals_of};
 ghost use Rattle.slot_station.specs.Replies.{look_act, claim_act, leave_act, SeesTaskSet, IsCutRange, LiesPast, OwesTaskSet};
 ghost use Rattle.slot_station.specs.Tokens.{ClaimGives, LeaveGives};
 ghost use Rattle.board_rule.specs.Passes.{IsPassOf, seen_of};
@@ -89,7 +90,7 @@ pub fn leave<B: Fits, L: Ledger>(
 ) -> Leave
     requires pass { IsPassOf board.now pass.old }
     requires place { can_leave (own_place (seen_of board.now pass.old)) ≡ true }
-    requires cell { KeptOwn (seen_of board.now pass.old) }
+    requires cell { LeavesKept (caller_of (seen_of board.now pass.old)) }
     ensures pass { IsPassOf board.now pass.new }
     ensures made { Makes B.total (leave_act result)
         (seen_of board.now pass.old) (seen_of board.now pass.new) }

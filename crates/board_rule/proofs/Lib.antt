@@ -9,6 +9,7 @@ pub mod Meets
 pub mod Moves
 pub mod Opens
 pub mod Operands
+pub mod Outs
 pub mod SameCaller
 pub mod Seats
 pub mod Stepping

@@ -42,7 +42,7 @@ found (x ∷ xs) zero h = (x, refl)
 found (x ∷ xs) (suc k) h = found xs k (omega arith)
 
 -- whoever is free has no cell
-free-has-none : (s u w : ℕ) (p : Place) → p ≡ Free → ((w ≡ u) × (has_own_cell p s ≡ true)) ⊎ (holds p s ≡ true) → ⊥
+pub free-has-none : (s u w : ℕ) (p : Place) → p ≡ Free → ((w ≡ u) × (has_own_cell p s ≡ true)) ⊎ (holds p s ≡ true) → ⊥
 free-has-none s u w p free has = ⊎_elim (λ own. true≢false (sym own.1 ∙ ap (λ q. has_own_cell q s) free))
     (λ held. true≢false (sym held ∙ ap (λ q. holds q s) free)) has
 

@@ -1,8 +1,10 @@
 -- The laws of the board, as the functions of module `laws` state them.
-use Rattle.std.specs.Prelude.{◌≡◌, ℕ, List, ◌∷◌, [], Option, slice_index}
+use Rattle.std.specs.Prelude.{◌≡◌, ℕ, ◌<◌, List, ◌∷◌, [], length, Option, Some, slice_index}
+use mathlib.Core.Option as std_option
 use mathlib.Core.Option.{some}
 use lib.ListN.{get_elem?}
 use Rattle.atomic_table.specs.Table.{State, stepped, keeps}
+use Rattle.slot_history.specs.States.{HasCell}
 use Rattle.slot_history.specs.Steps.{state_after}
 use Rattle.slot_history.specs.Histories.{Called, entry}
 use Rattle.slot_history.specs.Calls.{Call}
@@ -11,7 +13,7 @@ use Rattle.slot_words.specs.Addresses.{index}
 use Rattle.slot_words.specs.Steps.{address_of, change_of, answer_of}
 use Rattle.board_rule.specs.declared.rule.About.{About}
 use Rattle.board_rule.specs.declared.view.View.{View}
-use Rattle.board_rule.specs.Rule.{Knowledge, IsKnown, Terms, known_after, terms_of}
+use Rattle.board_rule.specs.Rule.{Knowledge, IsKnown, Terms, cell_index, known_after, terms_of}
 use Rattle.board_rule.specs.Steps.{MayStep}
 use Rattle.board_rule.specs.Views.{number, place_in, grown}
 
@@ -42,3 +44,23 @@ abbrev pub NoticesStay : {B Sub : Type 0} → (Sub → ℕ → Option ℕ)
 NoticesStay {B = B} {Sub = Sub} total fits = (about : About Sub) (known : Knowledge)
     (table : State (Option B) (View Sub)) → IsKnown (terms_of total fits about) known table
     → IsNoticed about.shape (state_after about.shape known.trail)
+
+-- The seat i has the cell of u at the slot s out: its view says that u's cell is, and its worker has
+-- this cell.
+pub record HasOut {B Sub : Type 0} (terms : Terms B Sub) (known : Knowledge)
+    (table : State (Option B) (View Sub)) (s u i : ℕ) : Type 0 where
+  pub view : View Sub
+  pub at : get_elem? table.views i ≡ some view
+  pub some_number : 0 < length view.numbers
+  pub out : view.out ≡ Some u
+  pub has : HasCell (state_after terms.shape known.trail) s u (number view)
+
+-- where the rule holds, a cell that is not in the table is out with exactly one seat
+abbrev pub OutWithOne : {B Sub : Type 0} → (Sub → ℕ → Option ℕ)
+    → (Sub → ℕ → ℕ → List (ℕ × ℕ) → B → Type 0) → Type 0
+OutWithOne {B = B} {Sub = Sub} total fits = (about : About Sub) (known : Knowledge)
+    (table : State (Option B) (View Sub)) → let terms = terms_of total fits about in
+    IsKnown terms known table → (s u : ℕ) → s < about.shape.slots → u < about.shape.workers
+    → get_elem? table.homes (cell_index about.shape s u) ≡ some std_option.none
+    → (i : ℕ) × HasOut terms known table s u i
+    × ((j : ℕ) → HasOut terms known table s u j → j ≡ i)

@@ -1,5 +1,5 @@
 //! The laws of the board. Each function does nothing, and its contract is a law.
-ghost use Rattle.board_rule.specs.Laws.{Extends, NoticesStay};
+ghost use Rattle.board_rule.specs.Laws.{Extends, NoticesStay, OutWithOne};
 
 use slot_station::station::Fits;
 
@@ -17,4 +17,11 @@ pub fn extends<B: Fits>()
 /// active record that lets it in, or a notice that will make it so is pending or still to be told.
 pub fn no_notice_is_lost<B: Fits>()
     ensures { NoticesStay B.total B.fits }
+{}
+
+/// A cell that is not in the table is out with exactly one seat. The seat's worker has the cell: it
+/// is its own while it is inside, or one of the slot that it holds. So no two threads ever have one
+/// cell.
+pub fn one_has_it_out<B: Fits>()
+    ensures { OutWithOne B.total B.fits }
 {}

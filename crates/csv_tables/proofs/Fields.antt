@@ -10,7 +10,7 @@ use Rattle.csv.specs.Writing.{default_writer, needs_byte}
 use Rattle.csv.specs.declared.parser.State.{State}
 use Rattle.csv.specs.declared.parser.State.TheVariants as st
 use Rattle.csv.proofs.RoundTrip.{field-run, plain-run, start-same}
-use Rattle.csv_tables.specs.Reading.{EndsField, EndsRecord, IsPlain}
+use Rattle.csv_tables.specs.Reading.{EndsField, EndsRecord, IsUnmarked}
 use Rattle.csv_tables.proofs.Texts.{plain_text}
 
 -- a range with one element more
@@ -27,7 +27,7 @@ both_false : (a b : Bool) → a ≡ false → b ≡ false → (a || b) ≡ false
 both_false a b ha hb = rw (ha, hb) refl
 
 -- no byte is in an empty range, and one more byte that is no mark
-pub plain_none : (bytes : List ℕ) (start : ℕ) → start ≤ length bytes → IsPlain bytes start start
+pub plain_none : (bytes : List ℕ) (start : ℕ) → start ≤ length bytes → IsUnmarked bytes start start
 plain_none bytes start within = let none : start - start ≡ 0 = omega arith in record {
   order = omega arith;
   within = within;
@@ -35,8 +35,8 @@ plain_none bytes start within = let none : start - start ≡ 0 = omega arith in 
       (λ n. list_any (needs_byte default_writer) (take n (drop start bytes))) none;
 }
 
-pub plain_more : (bytes : List ℕ) (start place : ℕ) → IsPlain bytes start place → place < length bytes → needs_byte default_writer (get_or bytes place 0)
-    ≡ false → IsPlain bytes start (place + 1)
+pub plain_more : (bytes : List ℕ) (start place : ℕ) → IsUnmarked bytes start place → place < length bytes → needs_byte default_writer (get_or bytes place 0)
+    ≡ false → IsUnmarked bytes start (place + 1)
 plain_more bytes start place plain within other = record {
   order = omega (arith, plain.order);
   within = omega arith;
@@ -102,7 +102,7 @@ record_ends fields x bytes rest plain (inr (byte, inr feed, text)) = (
 )
 
 -- a field without marks, and a comma: the record goes on after it
-pub field_more : (bytes : List ℕ) (start end next : ℕ) (fields : List (List ℕ)) (reads : Option Read) → IsPlain bytes start end → reads
+pub field_more : (bytes : List ℕ) (start end next : ℕ) (fields : List (List ℕ)) (reads : Option Read) → IsUnmarked bytes start end → reads
     ≡ next_record default_config st.StartField fields [] (drop start bytes)
     → EndsField false (drop end bytes) (drop next bytes) → reads
     ≡ next_record default_config st.StartField (fields ++ slice_range bytes start end ∷ []) [] (drop next bytes)
@@ -112,7 +112,7 @@ field_more bytes start end next fields reads plain so ends =
     ∙ comma_after fields (slice_range bytes start end) (drop next bytes) plain.plain
 
 -- and the last one: the record has ended
-pub field_last : (bytes : List ℕ) (start end next : ℕ) (fields : List (List ℕ)) (reads : Option Read) → IsPlain bytes start end → reads
+pub field_last : (bytes : List ℕ) (start end next : ℕ) (fields : List (List ℕ)) (reads : Option Read) → IsUnmarked bytes start end → reads
     ≡ next_record default_config st.StartField fields [] (drop start bytes)
     → EndsField true (drop end bytes) (drop next bytes) → (after : State) × (reads ≡ Some (fields ++ slice_range bytes start end ∷ [], after, drop next bytes))
 field_last bytes start end next fields reads plain so ends =

@@ -5,6 +5,7 @@ pub mod Fields
 pub mod Growth
 pub mod Headers
 pub mod Loading
+pub mod Longer
 pub mod Outcomes
 pub mod Reaching
 pub mod Records

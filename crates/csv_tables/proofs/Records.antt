@@ -1,15 +1,17 @@
 -- The records of a text, one after another.
-use Rattle.std.proofs.Common.{◌≡◌, ◌⊎◌, ℕ, zero, suc, ◌+◌, ◌<◌, ◌≤◌, Bool, true, false, List, [], ◌∷◌, Option, Some, None, length, refl, ap, inl, inr, arith, add-one, if◌then◌else◌, ◌==◌, drop, subst, sym, ◌∙◌}
+use Rattle.std.proofs.Common.{◌≡◌, ◌⊎◌, ℕ, zero, suc, ◌+◌, ◌<◌, ◌≤◌, Bool, true, false, List, [], ◌∷◌, Option, Some, None, length, refl, ap, inl, inr}
+use Rattle.std.proofs.Common.{arith, add-one, if◌then◌else◌, ◌==◌, drop, subst, sym, ◌∙◌}
 use Rattle.std.proofs.lemmas.Bool.{cases_Bool, eqb-true}
 use Rattle.std.proofs.lemmas.List.{length_push}
-use Rattle.csv.specs.Machine.{Read, carriage_return, ends_at_end, ends_with, field_after, fields_after, in_field, is_end, line_feed, next_record, start_field, start_record, step}
+use Rattle.csv.specs.Machine.{Read, carriage_return, ends_at_end, ends_with, field_after, fields_after, in_field, is_end, line_feed, next_record}
+use Rattle.csv.specs.Machine.{start_field, start_record, step}
 use Rattle.csv.specs.Reading.{default_config, records_from, records_next}
 use Rattle.csv.specs.declared.parser.Action.{Action}
 use Rattle.csv.specs.declared.parser.Action.TheVariants as act
 use Rattle.csv.specs.declared.parser.State.{State}
 use Rattle.csv.specs.declared.parser.State.TheVariants as st
 use Rattle.csv.specs.declared.parser.Terminator.TheVariants as term
-use Rattle.csv_tables.specs.Reading.{IsRecordAt, records_at}
+use Rattle.csv_tables.specs.Reading.{HasRecordAt, IsRecordAt, records_at}
 
 -- a step that ends a record leaves the machine between two records
 abbrev Between : State × Action → Type 0
@@ -50,12 +52,13 @@ read_if : (test : Bool) (r p : Read) (more : Option Read) → (if test then Some
 read_if true r p more h = inl (refl, (cc))
 read_if false r p more h = inr (refl, h)
 
--- the action that ends a record gives it a field
-ended_some : (action : Action) (fields : List (List ℕ)) (field : List ℕ) → is_end action ≡ true → 0 < length (fields_after action fields field)
-ended_some act.EndRecord fields field h = omega (arith, length_push fields field)
-ended_some act.Skip fields field h = cc
-ended_some act.Copy fields field h = cc
-ended_some act.EndField fields field h = cc
+-- the action that ends a record gives it a field more
+pub ended_more : (action : Action) (fields : List (List ℕ)) (field : List ℕ) → is_end action ≡ true
+    → length fields < length (fields_after action fields field)
+ended_more act.EndRecord fields field h = omega (arith, length_push fields field)
+ended_more act.Skip fields field h = cc
+ended_more act.Copy fields field h = cc
+ended_more act.EndField fields field h = cc
 
 -- a record has a field at least
 pub record-some : (s : State) (fields : List (List ℕ)) (field xs : List ℕ) (p : Read) → next_record default_config s fields field xs ≡ Some p → 0 < length p.0
@@ -67,7 +70,7 @@ record-some s fields field [] p h =
     ]
 record-some s fields field (c ∷ rest) p h =
     elim (read_if (is_end (step default_config s c).1) _ p _ h) [
-      | inl w ↦ rw w.1 (ended_some (step default_config s c).1 fields field w.0)
+      | inl w ↦ rw w.1 (omega (arith, ended_more (step default_config s c).1 fields field w.0))
       | inr w ↦ record-some (step default_config s c).0 (fields_after (step default_config s c).1 fields field)
           (field_after (step default_config s c).1 c field) rest p w.1
     ]
@@ -178,6 +181,11 @@ record_at bytes at next fields after within h = record {
       ∙ ap (λ rest. fields ∷ rest) (records_same (length (drop next bytes) + 1) after (drop next bytes)
       (between-more st.StartRecord (drop at bytes) (fields, after, drop next bytes) h));
 }
+
+pub has_record_at : (bytes : List ℕ) (at : ℕ) (read : Read) → next_record default_config st.StartRecord [] [] (drop at bytes) ≡ Some read
+    → HasRecordAt bytes at read.0
+has_record_at bytes at read h =
+    (records_from default_config (length read.2 + 1) read.1 read.2, records-more st.StartRecord (drop at bytes) read refl h)
 
 -- and one whose machine gives none has none
 pub no_record_at : (bytes : List ℕ) (at : ℕ) → next_record default_config st.StartRecord [] [] (drop at bytes) ≡ None → records_at bytes at ≡ []

@@ -1,6 +1,8 @@
 -- Reading a text record by record, by the machine of `csv`.
-use Rattle.std.specs.Prelude.{ℕ, ◌≡◌, ◌<◌, ◌≤◌, ◌⊎◌, Bool, true, false, List, [], ◌∷◌, length, drop, slice_range, Option, Some, None}
+use Rattle.std.specs.Prelude.{ℕ, ◌≡◌, ◌<◌, ◌≤◌, ◌⊎◌, Bool, true, false, List, [], ◌∷◌, length, drop}
+use Rattle.std.specs.Prelude.{Option, Some, slice_range}
 use Rattle.std.specs.List.{list_any}
+use Rattle.col_table.specs.declared.table.TheConstants.{MAX_COLUMNS}
 use Rattle.csv.specs.Machine.{Read, next_record, step as machine_step}
 use Rattle.csv.specs.Reading.{default_config, records}
 use Rattle.csv.specs.Writing.{default_writer, needs_byte}
@@ -8,6 +10,10 @@ use Rattle.csv.specs.declared.parser.Action.{Action}
 use Rattle.csv.specs.declared.parser.Action.TheVariants as act
 use Rattle.csv.specs.declared.parser.State.{State as MachineState}
 use Rattle.csv.specs.declared.parser.State.TheVariants as st
+use Rattle.csv_tables.specs.declared.scan.Found.{Found}
+use Rattle.csv_tables.specs.declared.scan.Found.TheVariants.{Nothing, Record, TooLong}
+use Rattle.csv_tables.specs.declared.scan.Progress.{Progress}
+use Rattle.csv_tables.specs.declared.scan.Progress.TheVariants as progress
 use Rattle.csv_tables.specs.declared.scan.State.{State}
 use Rattle.csv_tables.specs.declared.scan.State.TheVariants as state
 use Rattle.csv_tables.specs.declared.scan.Step.{Step}
@@ -22,6 +28,19 @@ pub record IsRecordAt (bytes : List ℕ) (at next : ℕ) (fields : List (List �
   pub within : next ≤ length bytes
   pub some : 0 < length fields
   pub records : records_at bytes at ≡ fields ∷ records_at bytes next
+
+-- a text has a record with these fields at a place, and other records after it
+abbrev pub HasRecordAt : List ℕ → ℕ → List (List ℕ) → Type 0
+HasRecordAt bytes at fields =
+    (others : List (List (List ℕ))) × (records_at bytes at ≡ fields ∷ others)
+
+-- what there is at a place: no record, or one with these few fields, or one with too many
+abbrev pub IsFound : List ℕ → ℕ → Found → List (List ℕ) → Type 0
+IsFound bytes at Nothing fields = records_at bytes at ≡ []
+IsFound bytes at (Record next) fields =
+    IsRecordAt bytes at next fields × (length fields ≤ MAX_COLUMNS)
+IsFound bytes at TooLong fields =
+    (line : List (List ℕ)) × HasRecordAt bytes at line × (MAX_COLUMNS < length line)
 
 -- the machine's name for a state within a record
 abbrev pub state_of : State → MachineState
@@ -52,16 +71,23 @@ abbrev pub reads_from : MachineState → Underway → List ℕ → Option Read
 reads_from from underway bytes =
     next_record default_config from underway.fields underway.field bytes
 
--- a byte makes the record under way another, read on from a state, or it ends the record
-abbrev pub TakesByte : MachineState → ℕ → Underway → Option State → Underway → Type 0
-TakesByte from byte old None new =
-    (rest : List ℕ)
-    → (after : MachineState) × (reads_from from old (byte ∷ rest) ≡ Some (new.fields, after, rest))
-TakesByte from byte old (Some next) new =
-    (rest : List ℕ) → reads_from from old (byte ∷ rest) ≡ reads_from (state_of next) new rest
+-- a byte makes the record under way another, read on from a state; or it ends the record; or the
+-- record is too long, whatever follows
+abbrev pub TakesByte : MachineState → ℕ → Underway → Progress → Underway → Type 0
+TakesByte from byte old (progress.Going next) new =
+    (length new.fields < MAX_COLUMNS)
+    × ((rest : List ℕ)
+    → reads_from from old (byte ∷ rest) ≡ reads_from (state_of next) new rest)
+TakesByte from byte old progress.Ended new =
+    (length new.fields ≤ MAX_COLUMNS)
+    × ((rest : List ℕ) → (after : MachineState)
+    × (reads_from from old (byte ∷ rest) ≡ Some (new.fields, after, rest)))
+TakesByte from byte old progress.TooLong new =
+    (rest : List ℕ) → (read : Read)
+    × (reads_from from old (byte ∷ rest) ≡ Some read) × (MAX_COLUMNS < length read.0)
 
 -- no byte from one place to another is a mark of the format
-pub record IsPlain (bytes : List ℕ) (start end : ℕ) : Type 0 where
+pub record IsUnmarked (bytes : List ℕ) (start end : ℕ) : Type 0 where
   pub order : start ≤ end
   pub within : end ≤ length bytes
   pub plain : list_any (needs_byte default_writer) (slice_range bytes start end) ≡ false

@@ -13,14 +13,12 @@ use std::alloc::Global;
 
 // The table with the names of a header and no rows.
 pub(crate) fn table_under(alloc: Global, header: &ByteRecord) -> Result<Table, TableRefusal>
-    requires { 0 < length (fields_of header.now) }
+    requires some { 0 < length (fields_of header.now) }
+    requires few { length (fields_of header.now) ≤ MAX_COLUMNS }
     ensures made { IfOk result (λ table. IsHeader (fields_of header.now)
         × (table ≡ no_rows (fields_of header.now))) }
     ensures refused { IfErr result (OrMemory (RefusesHeader (fields_of header.now))) }
 {
-    if header.len() > MAX_COLUMNS {
-        return Err(TableRefusal::TooManyColumns);
-    }
     let names = parse_names(alloc, header)?;
     Table::new(alloc, names).map_err(|_| TableRefusal::OutOfMemory)
 }

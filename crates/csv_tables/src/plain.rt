@@ -6,7 +6,7 @@ ghost use Rattle.csv.specs.declared.parser.State.TheVariants as st;
 ghost use Rattle.csv.specs.declared.parser.Terminator.TheVariants as term;
 ghost use Rattle.csv_tables.specs.Loading.{IsRow};
 ghost use Rattle.csv_tables.specs.Numbers.{number_of};
-ghost use Rattle.csv_tables.specs.Reading.{EndsField, IsPlain, IsRecordAt, reads_from};
+ghost use Rattle.csv_tables.specs.Reading.{EndsField, IsUnmarked, IsRecordAt, reads_from};
 
 use crate::number::parse_value;
 
@@ -58,7 +58,7 @@ fn ends_line(byte: u8) -> bool
 // The place of the first mark of the format from a place on.
 fn plain_end(bytes: &[u8], start: usize) -> usize
     requires { start ≤ length bytes.now }
-    ensures { IsPlain bytes.now start result }
+    ensures { IsUnmarked bytes.now start result }
 {
     for place in start..bytes.len() {
         if is_mark(bytes[place]) {

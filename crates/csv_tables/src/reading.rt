@@ -7,7 +7,7 @@ ghost use Rattle.csv_tables.specs.Refusals.{RefusesTable};
 use crate::header::table_under;
 use crate::refusal::TableRefusal;
 use crate::rows::read_rows;
-use crate::scan::{read_record, without_mark};
+use crate::scan::{Found, read_record, without_mark};
 use col_table::Table;
 use csv::ByteRecord;
 use std::alloc::Global;
@@ -27,8 +27,8 @@ use std::alloc::Global;
 /// 4. For each other record in order: `TooManyRows`, then `Ragged`, then for each of its fields in
 ///    order `NotANumber` or `OutOfRange`.
 ///
-/// `OutOfMemory` may happen at any text. `load` keeps no copy of the text. It reads a record whole
-/// before it refuses it, so a record of very many fields takes memory for all their places.
+/// `OutOfMemory` may happen at any text. `load` keeps no copy of the text. It reads no further than
+/// to the 33rd field of a record.
 pub fn load(alloc: Global, bytes: &[u8]) -> Result<Table, TableRefusal>
     ensures loaded { IfOk result (LoadsTable bytes.now) }
     ensures unique { IfOk result (λ table.
@@ -38,10 +38,13 @@ pub fn load(alloc: Global, bytes: &[u8]) -> Result<Table, TableRefusal>
     let bytes = without_mark(bytes);
     let mut fields = ByteRecord::new(alloc);
     let mut field = Vec::new(alloc);
-    let Some(at) = read_record(bytes, 0, &mut fields, &mut field)? else {
-        return Err(TableRefusal::NoHeader);
-    };
-    let mut table = table_under(alloc, &fields)?;
-    read_rows(bytes, at, &mut fields, &mut field, &mut table)?;
-    Ok(table)
+    match read_record(bytes, 0, &mut fields, &mut field)? {
+        Found::Nothing => Err(TableRefusal::NoHeader),
+        Found::TooLong => Err(TableRefusal::TooManyColumns),
+        Found::Record(next) => {
+            let mut table = table_under(alloc, &fields)?;
+            read_rows(bytes, next, &mut fields, &mut field, &mut table)?;
+            Ok(table)
+        }
+    }
 }

@@ -1,15 +1,16 @@
 // The rows of a table.
-ghost use Rattle.std.specs.Prelude.{◌≡◌, ◌<◌, ◌≤◌, ◌+◌, ℕ, List, IfErr, IfOk, MatchOption, OnOk, length, map, []};
+ghost use Rattle.std.specs.Prelude.{◌≡◌, ◌<◌, ◌≤◌, ℕ, List, IfErr, IfOk, MatchOption};
+ghost use Rattle.std.specs.Prelude.{OnOk, length, map, []};
 ghost use Rattle.csv.specs.Records.{fields_of};
 ghost use Rattle.csv_tables.specs.Loading.{GrowsBy, IsRow};
 ghost use Rattle.csv_tables.specs.Numbers.{number_of};
-ghost use Rattle.csv_tables.specs.Reading.{IsRecordAt, records_at};
+ghost use Rattle.csv_tables.specs.Reading.{HasRecordAt, IsRecordAt, records_at};
 ghost use Rattle.csv_tables.specs.Refusals.{OrMemory, RefusesLines, RefusesRecord, refusal_of};
 
 use crate::number::{FieldFault, parse_value};
 use crate::plain::read_plain_row;
 use crate::refusal::TableRefusal;
-use crate::scan::read_record;
+use crate::scan::{Found, read_record};
 use col_table::{MAX_COLUMNS, MAX_ROWS, Table};
 use csv::ByteRecord;
 
@@ -54,20 +55,24 @@ fn read_row(
         (λ next. (line : List (List ℕ))
         × IsRecordAt bytes.now at next line × IsRow (length row.old) line
         × (row.new ≡ map number_of line) × (number ≤ MAX_ROWS))) }
-    ensures refused { IfErr result (OrMemory (λ refusal. (next : ℕ) × (line : List (List ℕ))
-        × IsRecordAt bytes.now at next line × RefusesRecord (length row.old) number line refusal)) }
+    ensures refused { IfErr result (OrMemory (λ refusal. (line : List (List ℕ))
+        × HasRecordAt bytes.now at line × RefusesRecord (length row.old) number line refusal)) }
 {
     if number <= MAX_ROWS {
         if let Some(next) = read_plain_row(bytes, at, row) {
             return Ok(Some(next));
         }
     }
-    let Some(next) = read_record(bytes, at, fields, field)? else {
+    let found = read_record(bytes, at, fields, field)?;
+    if let Found::Nothing = found {
         return Ok(None);
-    };
+    }
     if number > MAX_ROWS {
         return Err(TableRefusal::TooManyRows);
     }
+    let Found::Record(next) = found else {
+        return Err(TableRefusal::Ragged(number));
+    };
     parse_row(fields, number, row)?;
     Ok(Some(next))
 }

@@ -3,12 +3,13 @@
 // The machine is that of `csv` with its defaults, and the contracts say so by the definitions of
 // `csv`. It is written again here because `csv` has no call that goes on in the middle of a text.
 // The rows of most tables take a shorter way (`plain`). All other records are read here.
-ghost use Rattle.std.specs.Prelude.{◌≡◌, ◌≤◌, ◌++◌, ◌∷◌, [], IfOk, MatchOption, OnOk, length};
+ghost use Rattle.std.specs.Prelude.{◌≡◌, ◌<◌, ◌≤◌, ◌++◌, ◌∷◌, [], IfOk, OnOk, length};
 ghost use Rattle.csv.specs.Reading.{strip_bom};
 ghost use Rattle.csv.specs.Records.{fields_of, partial_of};
 ghost use Rattle.csv.specs.declared.parser.State.TheVariants as st;
-ghost use Rattle.csv_tables.specs.Reading.{IsRecordAt, IsStep, TakesByte, records_at, state_of};
+ghost use Rattle.csv_tables.specs.Reading.{IsFound, IsStep, TakesByte, state_of};
 
+use col_table::MAX_COLUMNS;
 use csv::ByteRecord;
 use std::alloc::AllocError;
 
@@ -36,6 +37,28 @@ pub(crate) enum Step {
     Copy(State),
     EndField,
     EndRecord,
+}
+
+// What a byte makes of the record under way.
+#[derive(Clone, Copy)]
+pub(crate) enum Progress {
+    // It goes on from this state.
+    Going(State),
+    // It has ended.
+    Ended,
+    // It has more fields than a table has columns, whatever follows.
+    TooLong,
+}
+
+// What there is at a place between two records.
+#[derive(Clone, Copy)]
+pub(crate) enum Found {
+    // No record.
+    Nothing,
+    // A record, which ends before this place.
+    Record(usize),
+    // A record of more fields than a table has columns.
+    TooLong,
 }
 
 // What a byte does in a state.
@@ -79,60 +102,65 @@ fn in_field(byte: u8) -> Step
     }
 }
 
-// Reads the record that begins at a place between two records. Answers the place after the record,
-// or nothing if there is no record. `field` is memory that the caller lends for every record.
+// Reads the record that begins at a place between two records, if there is one. It reads no further
+// than to the field that makes the record too long. `field` is memory that the caller lends for
+// every record.
 pub(crate) fn read_record(
     bytes: &[u8],
     at: usize,
     fields: &mut ByteRecord,
     field: &mut Vec<u8>,
-) -> Result<Option<usize>, AllocError>
+) -> Result<Found, AllocError>
     requires { at ≤ length bytes.now }
-    ensures { IfOk result (λ next. MatchOption next (records_at bytes.now at ≡ [])
-        (λ next. IsRecordAt bytes.now at next (fields_of fields.new))) }
+    ensures { IfOk result (λ found. IsFound bytes.now at found (fields_of fields.new)) }
 {
     fields.clear();
     field.clear();
     let mut state = State::StartRecord;
     for place in at..bytes.len() {
         match take_byte(state, bytes[place], fields, field)? {
-            Some(next) => state = next,
-            None => return Ok(Some(place + 1)),
+            Progress::Going(next) => state = next,
+            Progress::Ended => return Ok(Found::Record(place + 1)),
+            Progress::TooLong => return Ok(Found::TooLong),
         }
     }
     if let State::StartRecord = state {
-        return Ok(None);
+        return Ok(Found::Nothing);
     }
     end_field(fields, field)?;
-    Ok(Some(bytes.len()))
+    Ok(Found::Record(bytes.len()))
 }
 
-// Takes one byte of a record. Answers the state after it, or nothing if it ends the record.
+// Takes one byte of a record.
 fn take_byte(
     state: State,
     byte: u8,
     fields: &mut ByteRecord,
     field: &mut Vec<u8>,
-) -> Result<Option<State>, AllocError>
-    requires { partial_of fields.old ≡ [] }
+) -> Result<Progress, AllocError>
+    requires partial { partial_of fields.old ≡ [] }
+    requires few { length (fields_of fields.old) < MAX_COLUMNS }
     ensures partial { OnOk result (partial_of fields.new ≡ []) }
-    ensures taken { IfOk result (λ next. TakesByte (state_of state) byte
-        (record { fields = fields_of fields.old; field = field.old.items }) next
+    ensures taken { IfOk result (λ progress. TakesByte (state_of state) byte
+        (record { fields = fields_of fields.old; field = field.old.items }) progress
         (record { fields = fields_of fields.new; field = field.new.items })) }
 {
     match step_of(state, byte) {
-        Step::Skip(next) => Ok(Some(next)),
+        Step::Skip(next) => Ok(Progress::Going(next)),
         Step::Copy(next) => {
             field.push(byte)?;
-            Ok(Some(next))
+            Ok(Progress::Going(next))
         }
         Step::EndField => {
             end_field(fields, field)?;
-            Ok(Some(State::StartField))
+            if fields.len() == MAX_COLUMNS {
+                return Ok(Progress::TooLong);
+            }
+            Ok(Progress::Going(State::StartField))
         }
         Step::EndRecord => {
             end_field(fields, field)?;
-            Ok(None)
+            Ok(Progress::Ended)
         }
     }
 }

@@ -72,7 +72,19 @@ fn tells_the_first_refusal(rt: HostRuntime) {
         (b"a,a,\x7f\n", TableRefusal::TwiceNamed(2)),
         (b"a,\x7f,a\n", TableRefusal::BadName(2)),
         (b"\xff\n1\n", TableRefusal::BadName(1)),
+        (
+            b"\x7f,,,,,,,,,,,,,,,,,,,,,,,,,,,,,,,,\n",
+            TableRefusal::TooManyColumns,
+        ),
+        (
+            b"\x7f,,,,,,,,,,,,,,,,,,,,,,,,,,,,,,,\n",
+            TableRefusal::BadName(1),
+        ),
         (b"a,b\nx\n1,2\n", TableRefusal::Ragged(1)),
+        (
+            b"a\n1\n,,,,,,,,,,,,,,,,,,,,,,,,,,,,,,,,,,,\"\n",
+            TableRefusal::Ragged(2),
+        ),
         (b"a,b,c\n1,2,3\n1,2\n", TableRefusal::Ragged(2)),
         (b"a\n1,x\n", TableRefusal::Ragged(1)),
         (

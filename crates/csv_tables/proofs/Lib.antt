@@ -4,6 +4,7 @@ pub mod Digits
 pub mod Fields
 pub mod Growth
 pub mod Headers
+pub mod Lines
 pub mod Loading
 pub mod Longer
 pub mod Outcomes

@@ -1,16 +1,17 @@
-// Writing a table record by record.
-ghost use Rattle.std.specs.Prelude.{◌≡◌, ◌<◌, ◌++◌, All, FitsSigned, IfOk, OnOk, length, map, slice_index_or, []};
+// Writing a table: its names by `csv`, and its rows, which need no quotes, straight into the text.
+ghost use Rattle.std.specs.Prelude.{◌≡◌, ◌<◌, ◌++◌, All, FitsSigned, IfOk, OnOk};
+ghost use Rattle.std.specs.Prelude.{length, map, slice_index_or, []};
 ghost use Rattle.std.specs.Fmt.{signed_decimal};
 ghost use Rattle.std.specs.Int.{w64};
 ghost use Rattle.col_table.specs.Name.{IsName};
 ghost use Rattle.col_table.specs.NamedRows.{name_at};
 ghost use Rattle.csv.specs.Records.{fields_of};
-ghost use Rattle.csv.specs.Writing.{default_writer, row_text};
+ghost use Rattle.csv.specs.Writing.{default_writer, next_sep, row_text};
 ghost use Rattle.csv_tables.specs.Loading.{LoadsTable};
-ghost use Rattle.csv_tables.specs.Writing.{BeginsWithMark, IsWriting, bytes_written, table_text};
+ghost use Rattle.csv_tables.specs.Writing.{BeginsWithMark, table_text};
 
 use col_table::Table;
-use csv::{ByteRecord, Writer, WriterBuilder};
+use csv::{ByteRecord, WriterBuilder};
 use itoa::Buffer;
 use std::alloc::{AllocError, Global};
 
@@ -24,18 +25,28 @@ pub fn write_table(alloc: Global, table: &Table) -> Result<Vec<u8>, AllocError>
     ensures loads { IfOk result (λ bytes. ¬ (BeginsWithMark (name_at table.now.names 0))
         → LoadsTable bytes.items table.now) }
 {
-    let mut writer = WriterBuilder::new().from_writer(Vec::new(alloc));
-    let mut fields = ByteRecord::new(alloc);
-    fill_names(table, &mut fields)?;
-    write_record(&mut writer, &fields)?;
+    let mut text = header_text(alloc, table)?;
     for row in 0..table.rows() {
-        fill_row(table, row, &mut fields)?;
-        write_record(&mut writer, &fields)?;
+        push_row(&mut text, table, row)?;
     }
-    writer.into_inner().map_err(|_| AllocError)
+    Ok(text)
 }
 
-// Makes a record of the names of a table.
+// The line of the names of a table. Only memory can fail, since a `Vec` takes all bytes.
+fn header_text(alloc: Global, table: &Table) -> Result<Vec<u8>, AllocError>
+    ensures { IfOk result (λ text. (text.items ≡ row_text default_writer table.now.names)
+        × All IsName table.now.names) }
+{
+    let mut fields = ByteRecord::new(alloc);
+    fill_names(table, &mut fields)?;
+    let mut writer = WriterBuilder::new().from_writer(Vec::new(alloc));
+    match writer.write_byte_record(&fields) {
+        Ok(()) => writer.into_inner().map_err(|_| AllocError),
+        Err(_) => Err(AllocError),
+    }
+}
+
+// Makes an empty record one of the names of a table.
 fn fill_names(table: &Table, fields: &mut ByteRecord) -> Result<(), AllocError>
     ensures { OnOk result ((fields_of fields.new ≡ table.now.names) × All IsName table.now.names) }
 {
@@ -46,31 +57,29 @@ fn fill_names(table: &Table, fields: &mut ByteRecord) -> Result<(), AllocError>
     Ok(())
 }
 
-// Makes a record of the values in a row of a table.
-fn fill_row(table: &Table, row: u32, fields: &mut ByteRecord) -> Result<(), AllocError>
+// Adds the line of a row of a table to a text.
+fn push_row(text: &mut Vec<u8>, table: &Table, row: u32) -> Result<(), AllocError>
     requires { row < length table.now.rows }
     ensures { let values = slice_index_or table.now.rows row [] in
-        OnOk result ((fields_of fields.new ≡ map signed_decimal values)
+        OnOk result ((text.new.items
+        ≡ text.old.items ++ row_text default_writer (map signed_decimal values))
         × All (FitsSigned w64) values) }
 {
-    fields.clear();
     let mut buffer = Buffer::new();
     for col in 0..table.cols() {
-        let text = buffer.format(table.value(row, col));
-        fields.push_field(text.as_bytes())?;
+        push_comma(text, col)?;
+        text.extend_from_slice(buffer.format(table.value(row, col)).as_bytes())?;
     }
+    text.push(b'\n')?;
     Ok(())
 }
 
-// Writes a record. Only memory can fail: all records have one length, and a `Vec` takes all bytes.
-fn write_record(writer: &mut Writer<Vec<u8>>, fields: &ByteRecord) -> Result<(), AllocError>
-    requires { IsWriting writer.old }
-    ensures writing { OnOk result (IsWriting writer.new) }
-    ensures bytes { OnOk result (bytes_written writer.new
-        ≡ bytes_written writer.old ++ row_text default_writer (fields_of fields.now)) }
+// Adds what stands before the value of a row in this column to a text.
+fn push_comma(text: &mut Vec<u8>, col: u32) -> Result<(), AllocError>
+    ensures { OnOk result (text.new.items ≡ text.old.items ++ next_sep default_writer col) }
 {
-    match writer.write_byte_record(fields) {
-        Ok(()) => Ok(()),
-        Err(_) => Err(AllocError),
+    if col > 0 {
+        text.push(b',')?;
     }
+    Ok(())
 }

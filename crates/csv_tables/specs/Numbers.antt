@@ -1,5 +1,6 @@
 -- Which fields are numbers, and which numbers they are.
-use Rattle.std.specs.Prelude.{ℕ, ℤ, pos, neg_ℤ, List, drop, if◌then◌else◌, FitsSigned}
+use Rattle.std.specs.Prelude.{ℕ, ℤ, pos, neg_ℤ, ◌≡◌, ◌-◌, ◌^◌, min, List, drop, if◌then◌else◌}
+use Rattle.std.specs.Prelude.{FitsSigned, MatchOption, Option}
 use Rattle.std.specs.Int.{w64}
 use Rattle.std.specs.Str.Parse.{IsNumeral, digits_value, starts_with_minus}
 use Rattle.csv_tables.specs.declared.number.FieldFault.{FieldFault}
@@ -27,3 +28,9 @@ IsValue field = IsNumber field × FitsSigned w64 (number_of field)
 abbrev pub HasFault : List ℕ → FieldFault → Type 0
 HasFault field NotANumber = ¬ (IsNumber field)
 HasFault field OutOfRange = IsNumber field × ¬ (FitsSigned w64 (number_of field))
+
+-- the number that digits write, cut off at the greatest of 64 bits, or none if they are no digits
+abbrev pub IsSizeOf : List ℕ → Option ℕ → Type 0
+IsSizeOf digits size =
+    MatchOption size (¬ (IsNumeral 10 digits))
+    (λ size. IsNumeral 10 digits × (size ≡ min (digits_value 10 digits) (2 ^ 64 - 1)))

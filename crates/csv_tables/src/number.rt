@@ -1,7 +1,6 @@
 // Numbers of fields.
-ghost use Rattle.std.specs.Prelude.{◌≡◌, ◌<◌, ◌≤◌, ◌-◌, ◌^◌, IfErr, IfOk, MatchOption, length, min};
-ghost use Rattle.std.specs.Str.Parse.{IsNumeral, digits_value};
-ghost use Rattle.csv_tables.specs.Numbers.{HasFault, IsValue, number_of};
+ghost use Rattle.std.specs.Prelude.{◌≡◌, ◌<◌, ◌≤◌, IfErr, IfOk, length};
+ghost use Rattle.csv_tables.specs.Numbers.{HasFault, IsSizeOf, IsValue, number_of};
 
 // What is wrong with a field of a row.
 #[derive(Clone, Copy)]
@@ -36,9 +35,7 @@ const SHORT: usize = 19;
 //
 // A number past 64 bits becomes the greatest `u64`, which no `i64` holds with either sign.
 fn parse_digits(digits: &[u8]) -> Option<u64>
-    ensures { MatchOption result (¬ (IsNumeral 10 digits.now))
-        (λ size. IsNumeral 10 digits.now
-        × (size ≡ min (digits_value 10 digits.now) (2 ^ 64 - 1))) }
+    ensures { IsSizeOf digits.now result }
 {
     if digits.is_empty() {
         return None;
@@ -54,9 +51,7 @@ fn parse_digits(digits: &[u8]) -> Option<u64>
 fn parse_short(digits: &[u8]) -> Option<u64>
     requires some { 0 < length digits.now }
     requires short { length digits.now ≤ SHORT }
-    ensures { MatchOption result (¬ (IsNumeral 10 digits.now))
-        (λ size. IsNumeral 10 digits.now
-        × (size ≡ min (digits_value 10 digits.now) (2 ^ 64 - 1))) }
+    ensures { IsSizeOf digits.now result }
 {
     let mut size: u64 = 0;
     for byte in digits {
@@ -72,9 +67,7 @@ fn parse_short(digits: &[u8]) -> Option<u64>
 #[inline(never)]
 fn parse_long(digits: &[u8]) -> Option<u64>
     requires { 0 < length digits.now }
-    ensures { MatchOption result (¬ (IsNumeral 10 digits.now))
-        (λ size. IsNumeral 10 digits.now
-        × (size ≡ min (digits_value 10 digits.now) (2 ^ 64 - 1))) }
+    ensures { IsSizeOf digits.now result }
 {
     let mut size: u64 = 0;
     for byte in digits {

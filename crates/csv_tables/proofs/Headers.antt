@@ -1,16 +1,17 @@
 -- Headers, and the places of their fields.
-use Rattle.std.proofs.Common.{◌≡◌, ℕ, ◌<◌, ◌≤◌, ◌+◌, ◌++◌, ◌∷◌, List, [], Bool, Some, Decides, length, get_or, take, nat_eq, arith, inl, inr, sym, subst, ◌∙◌}
+use Rattle.std.proofs.Common.{◌≡◌, ℕ, ◌<◌, ◌≤◌, ◌+◌, ◌++◌, ◌∷◌, List, [], Bool, Some, Decides, length, get_or, take, nat_eq, ap, arith, inl, inr, sym, subst}
+use Rattle.std.proofs.Common.{◌∙◌}
 use Rattle.std.specs.Cmp.Lexicographic.{pointwise}
 use Rattle.std.specs.List.{Contains, IsAnyAnswer}
 use Rattle.std.proofs.lemmas.Bool.{cases_lt}
-use Rattle.std.proofs.lemmas.List.{get_or_append_left, get_or_default, get_or_push, length_push}
+use Rattle.std.proofs.lemmas.List.{get_or_append_left, get_or_default, get_or_push, length-take-le, length_push}
 use Rattle.std.proofs.lemmas.List.Elements.{All-push, Decides-contains, contains_decides}
 use Rattle.std.proofs.lemmas.Slice.Eq.{bytes_eq-Decides}
 use Rattle.col_table.specs.Name.{IsName}
 use Rattle.col_table.specs.NamedRows.{AllDiffer}
 use Rattle.col_table.specs.declared.table.TheConstants.{MAX_COLUMNS}
-use Rattle.csv.specs.Records.{field_at}
-use Rattle.csv.proofs.RecordFacts.{field-none}
+use Rattle.csv.specs.Records.{Row, field_at, fields_of}
+use Rattle.csv.proofs.RecordFacts.{field-get, field-none}
 use Rattle.csv_tables.specs.Loading.{IsHeader}
 use Rattle.csv_tables.specs.Refusals.{AreNames, OrMemory, Reaches, RefusesHeader}
 use Rattle.csv_tables.specs.declared.refusal.TableRefusal.{TableRefusal}
@@ -18,9 +19,24 @@ use Rattle.csv_tables.specs.declared.refusal.TableRefusal.TheVariants.{BadName, 
 use Rattle.csv_tables.proofs.Reaching.{reaches_at}
 
 -- a field that is there is at a place of the record
-pub field_within : (fields : List (List ℕ)) (place : ℕ) (field : List ℕ) → field_at fields place ≡ Some field → place < length fields
+field_within : (fields : List (List ℕ)) (place : ℕ) (field : List ℕ) → field_at fields place ≡ Some field → place < length fields
 field_within fields place field h =
     elim (cases_lt place (length fields)) [ inl within ↦ within | inr past ↦ absurd (let none = field-none fields place past in cc) ]
+
+-- a field that a row gave at a place, if the row is the header
+pub record IsFieldAt (fields : List (List ℕ)) (index : ℕ) (field : List ℕ) : Type 0 where
+  pub within : index < length fields
+  pub here : get_or fields index [] ≡ field
+
+pub field_read : (row header : Row) (index : ℕ) (field : List ℕ) → row ≡ header → Some field ≡ field_at (fields_of row) index
+    → IsFieldAt (fields_of header) index field
+field_read row header index field same gave =
+    let there : field_at (fields_of header) index ≡ Some field = ap (λ row. field_at (fields_of row) index) (sym same) ∙ sym gave in
+    record { within = field_within (fields_of header) index field there; here = field-get (fields_of header) index field there }
+
+-- names that were taken are as many as their index says
+pub length_taken : (names header : List (List ℕ)) (index : ℕ) → names ≡ take index header → index < length header → length names ≡ index
+length_taken names header index taken within = omega (arith, ap length taken, length-take-le index header (omega arith))
 
 -- whether a name is among others
 pub name_decides : (names : List (List ℕ)) (name : List ℕ) (found : Bool) → IsAnyAnswer (λ other answer. pointwise nat_eq other name ≡ answer) names found

@@ -1,13 +1,13 @@
-use Rattle.std.proofs.Common.{◌≡◌, ◌+◌, ◌∙◌, ◌++◌, ◌∷◌, [], Some, ap, arith, inl, inr, length, subst, sym, take}
+use Rattle.std.proofs.Common.{◌≡◌, ◌+◌, ◌∙◌, ◌++◌, ◌∷◌, [], ap, arith, inl, inr, length, subst, sym, take}
 use Rattle.std.specs.List.{Contains}
 use Rattle.std.proofs.lemmas.Bool.{cases_lt, false≢true}
-use Rattle.std.proofs.lemmas.List.{length-take-le, take_all, take_more}
+use Rattle.std.proofs.lemmas.List.{take_all, take_more}
 use Rattle.std.proofs.lemmas.Result.{err_from_is_err_and}
 use Rattle.col_table.specs.Name.{IsName}
 use Rattle.csv.specs.Records.{field_at, fields_of}
-use Rattle.csv.proofs.RecordFacts.{field-get, field-there}
+use Rattle.csv.proofs.RecordFacts.{field-there}
 use Rattle.csv_tables.specs.Refusals.{AreNames}
-use Rattle.csv_tables.proofs.Headers.{field_within, name_decides, name_refused, names_push, twice_named}
+use Rattle.csv_tables.proofs.Headers.{field_read, length_taken, name_decides, name_refused, names_push, twice_named}
 use Rattle.csv_tables.proofs.header.parse_names.Goals as goal
 
 pub returns-in_err-name-clause-refused : goal.returns-in_err-name-clause-refused
@@ -15,12 +15,11 @@ returns-in_err-name-clause-refused c =
     let p = err_from_is_err_and c.from_residual-in_err-name.result c.from_residual-in_err-name.ensures.1 in
     let fields = fields_of c.args.header.now in
     let at = c.loop-field.field-iterator.at in
-    let there : field_at fields at ≡ Some c.in-Some.field.now = ap (λ row. field_at (fields_of row) at) (sym c.loop-field.invariant.row)
-    ∙ sym c.in-Some.ensures.steps.1 in
-    let within = field_within fields at c.in-Some.field.now there in
-    let here = field-get fields at c.in-Some.field.now there in
-    let counted : c.len-in-loop-field.result + 1 ≡ at + 1 = omega
-    (arith, c.loop-field.names.ok.0, ap length c.loop-field.invariant.names, length-take-le at fields (omega arith)) in
+    let field = field_read c.loop-field.field-iterator.row.now c.args.header.now at c.in-Some.field.now c.loop-field.invariant.row c.in-Some.ensures.steps.1 in
+    let within = field.within in
+    let here = field.here in
+    let taken = length_taken c.loop-field.names.items fields at c.loop-field.invariant.names within in
+    let counted : c.len-in-loop-field.result + 1 ≡ at + 1 = omega (arith, c.loop-field.names.ok.0, taken) in
     rw (p.1, p.2)
     (name_refused fields at
     (c.len-in-loop-field.result + 1) c.in-Some.field.now c.requires within here c.loop-field.invariant.good counted _ c.in_err-name.ensures.refused)
@@ -29,13 +28,12 @@ pub returns-then-contains-clause-refused : goal.returns-then-contains-clause-ref
 returns-then-contains-clause-refused c =
     let fields = fields_of c.args.header.now in
     let at = c.loop-field.field-iterator.at in
-    let there : field_at fields at ≡ Some c.in-Some.field.now = ap (λ row. field_at (fields_of row) at) (sym c.loop-field.invariant.row)
-    ∙ sym c.in-Some.ensures.steps.1 in
-    let within = field_within fields at c.in-Some.field.now there in
+    let field = field_read c.loop-field.field-iterator.row.now c.args.header.now at c.in-Some.field.now c.loop-field.invariant.row c.in-Some.ensures.steps.1 in
+    let within = field.within in
     let name = c.in_ok-name.ensures.name in
-    let here = field-get fields at c.in-Some.field.now there ∙ sym name.1 in
-    let counted : c.len-in-loop-field.result + 1 ≡ at + 1 = omega
-    (arith, c.loop-field.names.ok.0, ap length c.loop-field.invariant.names, length-take-le at fields (omega arith)) in
+    let here = field.here ∙ sym name.1 in
+    let taken = length_taken c.loop-field.names.items fields at c.loop-field.invariant.names within in
+    let counted : c.len-in-loop-field.result + 1 ≡ at + 1 = omega (arith, c.loop-field.names.ok.0, taken) in
     let twice = (name_decides c.deref.result.now c.in_ok-name.name c.contains.result c.contains.ensures.cases).0 c.if-contains.true in
     let among = subst (λ names. Contains names c.in_ok-name.name) (c.deref.ensures.value ∙ c.loop-field.invariant.names) twice in
     inr (twice_named fields at (c.len-in-loop-field.result + 1) c.in_ok-name.name c.requires within here c.loop-field.invariant.good counted
@@ -45,11 +43,10 @@ pub loop-field-preserved : goal.loop-field-preserved
 loop-field-preserved c =
     let fields = fields_of c.args.header.now in
     let at = c.loop-field.field-iterator.at in
-    let there : field_at fields at ≡ Some c.in-Some.field.now = ap (λ row. field_at (fields_of row) at) (sym c.loop-field.invariant.row)
-    ∙ sym c.in-Some.ensures.steps.1 in
-    let within = field_within fields at c.in-Some.field.now there in
+    let field = field_read c.loop-field.field-iterator.row.now c.args.header.now at c.in-Some.field.now c.loop-field.invariant.row c.in-Some.ensures.steps.1 in
+    let within = field.within in
     let name = c.in_ok-name.ensures.name in
-    let here = field-get fields at c.in-Some.field.now there ∙ sym name.1 in
+    let here = field.here ∙ sym name.1 in
     let next = c.in-Some.ensures.steps.2 in
     let more : take c.next.new.self.at fields ≡ take at fields ++ c.in_ok-name.name ∷ [] =
     ap (λ n. take n fields) next ∙ take_more fields at [] within ∙ ap (λ last. take at fields ++ last ∷ []) here in

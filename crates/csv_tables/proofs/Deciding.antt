@@ -1,5 +1,6 @@
 -- Each list of records stands for a table or has a first refusal.
-use Rattle.std.proofs.Common.{◌≡◌, ◌⊎◌, ℕ, zero, suc, ℤ, ◌<◌, ◌≤◌, ◌+◌, ◌^◌, ◌++◌, ◌∷◌, true, false, nat_eq, List, [], All, Option, None, Some, length, get_or, map, ap, add-one, arith, inl, inr, refl, subst, sym, ◌∙◌, append_assoc, FitsSigned}
+use Rattle.std.proofs.Common.{◌≡◌, ◌⊎◌, ℕ, zero, suc, ℤ, ◌<◌, ◌≤◌, ◌+◌, ◌^◌, ◌++◌, ◌∷◌, true, false, nat_eq, List, [], All, Option, None, Some, length, get_or}
+use Rattle.std.proofs.Common.{map, ap, add-one, arith, inl, inr, refl, subst, sym, ◌∙◌, append_assoc, FitsSigned}
 use Rattle.std.specs.Cmp.Lexicographic.{pointwise}
 use Rattle.std.specs.Int.{w64}
 use Rattle.std.specs.List.{Contains}
@@ -24,7 +25,8 @@ use Rattle.csv_tables.specs.Loading.{GrowsBy, IsHeader, IsRow, RecordsStandFor}
 use Rattle.csv_tables.specs.Numbers.{IsNumber, IsValue, digits_of, number_of}
 use Rattle.csv_tables.specs.Refusals.{AreNames, IsWide, Reaches, RefusesHeader, RefusesLines, RefusesRecord, RefusesRecords}
 use Rattle.csv_tables.specs.declared.refusal.TableRefusal.{TableRefusal}
-use Rattle.csv_tables.specs.declared.refusal.TableRefusal.TheVariants.{NoHeader, TooManyColumns, BadName, TwiceNamed, Ragged, NotANumber, OutOfRange, TooManyRows}
+use Rattle.csv_tables.specs.declared.refusal.TableRefusal.TheVariants.{NoHeader, TooManyColumns, BadName, TwiceNamed, Ragged, NotANumber, OutOfRange}
+use Rattle.csv_tables.specs.declared.refusal.TableRefusal.TheVariants.{TooManyRows}
 use Rattle.csv_tables.proofs.Headers.{header_from_names, names_none, names_push}
 use Rattle.csv_tables.proofs.Records.{record-some}
 

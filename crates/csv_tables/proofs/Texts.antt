@@ -1,5 +1,6 @@
 -- What the text of a table reads as.
-use Rattle.std.proofs.Common.{◌≡◌, ◌==◌, ◌&&◌, ℕ, suc, ℤ, pos, negsuc, neg_ℤ, ◌<◌, ◌++◌, ◌∷◌, Bool, true, false, List, [], All, length, map, get_or, if◌then◌else◌, ap, arith, inl, inr, refl, subst, sym, ◌∙◌, append_assoc, FitsSigned, nat_eq, take, drop}
+use Rattle.std.proofs.Common.{◌≡◌, ◌==◌, ◌&&◌, ℕ, suc, ℤ, pos, negsuc, neg_ℤ, ◌<◌, ◌++◌, ◌∷◌, Bool, true, false, List, [], All, length, map, get_or}
+use Rattle.std.proofs.Common.{if◌then◌else◌, ap, arith, inl, inr, refl, subst, sym, ◌∙◌, append_assoc, FitsSigned, nat_eq, take, drop}
 use Rattle.std.specs.Cmp.Lexicographic.{pointwise}
 use Rattle.std.specs.Fmt.{decimal, signed_decimal}
 use Rattle.std.specs.Int.{w64}

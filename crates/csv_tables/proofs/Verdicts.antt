@@ -1,5 +1,6 @@
 -- A list of records stands for one table, or has one first refusal.
-use Rattle.std.proofs.Common.{◌≡◌, ◌≢◌, ◌⊎◌, ℕ, ◌<◌, ◌≤◌, ◌++◌, ◌∷◌, List, [], All, length, map, ap, arith, inl, inr, refl, subst, sym, ◌∙◌, Result, Ok, Err, FitsSigned}
+use Rattle.std.proofs.Common.{◌≡◌, ◌≢◌, ◌⊎◌, ℕ, ◌<◌, ◌≤◌, ◌++◌, ◌∷◌, List, [], All, length, map, ap, arith, inl, inr, refl, subst, sym, ◌∙◌, Result, Ok, Err}
+use Rattle.std.proofs.Common.{FitsSigned}
 use Rattle.std.specs.Int.{w64}
 use Rattle.std.specs.List.{Contains}
 use Rattle.std.proofs.lemmas.List.{get_or_append_left, get_or_at, get_or_default, length-append, length-map}
@@ -11,7 +12,8 @@ use Rattle.csv_tables.specs.Loading.{GrowsBy, IsHeader, IsRow, RecordsStandFor, 
 use Rattle.csv_tables.specs.Numbers.{IsNumber, IsValue, number_of}
 use Rattle.csv_tables.specs.Refusals.{AreNames, IsWide, Reaches, RefusesHeader, RefusesLines, RefusesRecord, RefusesRecords}
 use Rattle.csv_tables.specs.declared.refusal.TableRefusal.{TableRefusal}
-use Rattle.csv_tables.specs.declared.refusal.TableRefusal.TheVariants.{NoHeader, TooManyColumns, BadName, TwiceNamed, Ragged, NotANumber, OutOfRange, TooManyRows, OutOfMemory}
+use Rattle.csv_tables.specs.declared.refusal.TableRefusal.TheVariants.{NoHeader, TooManyColumns, BadName, TwiceNamed, Ragged, NotANumber, OutOfRange}
+use Rattle.csv_tables.specs.declared.refusal.TableRefusal.TheVariants.{TooManyRows, OutOfMemory}
 use Rattle.csv_tables.specs.Verdicts.{HasOneVerdict, IsVerdict}
 use Rattle.csv_tables.proofs.Deciding.{verdict_of}
 use Rattle.csv_tables.proofs.Loading.{one_table}

@@ -1,7 +1,10 @@
 -- The text of a refusal, which names the record and the field.
 use Rattle.std.specs.Prelude.{ℕ, List, ◌++◌, codes, decimal}
 use Rattle.csv_tables.specs.declared.refusal.TableRefusal.{TableRefusal}
-use Rattle.csv_tables.specs.declared.refusal.TableRefusal.TheVariants.{NoHeader, TooManyColumns, BadName, TwiceNamed, Ragged, NotANumber, OutOfRange, TooManyRows, OutOfMemory}
+use Rattle.csv_tables.specs.declared.refusal.TableRefusal.TheVariants.{NoHeader, TooManyColumns}
+use Rattle.csv_tables.specs.declared.refusal.TableRefusal.TheVariants.{BadName, TwiceNamed, Ragged}
+use Rattle.csv_tables.specs.declared.refusal.TableRefusal.TheVariants.{NotANumber, OutOfRange}
+use Rattle.csv_tables.specs.declared.refusal.TableRefusal.TheVariants.{TooManyRows, OutOfMemory}
 
 -- a field of a record, both counted from 1
 abbrev pub place_text : ℕ → ℕ → List ℕ

@@ -1,5 +1,6 @@
 -- The first refusal of a text. Records and fields are counted from 1, without the header.
-use Rattle.std.specs.Prelude.{ℕ, ◌≡◌, ◌≢◌, ◌<◌, ◌≤◌, ◌+◌, ◌⊎◌, List, [], ◌∷◌, ◌++◌, length, All, Contains, FitsSigned}
+use Rattle.std.specs.Prelude.{ℕ, ◌≡◌, ◌≢◌, ◌<◌, ◌≤◌, ◌+◌, ◌⊎◌, List, [], ◌∷◌, ◌++◌, length, All}
+use Rattle.std.specs.Prelude.{Contains, FitsSigned}
 use Rattle.std.specs.Int.{w64}
 use Rattle.col_table.specs.Name.{IsName}
 use Rattle.col_table.specs.NamedRows.{AllDiffer}
@@ -9,7 +10,10 @@ use Rattle.csv_tables.specs.Numbers.{IsNumber, IsValue, number_of}
 use Rattle.csv_tables.specs.declared.number.FieldFault.{FieldFault}
 use Rattle.csv_tables.specs.declared.number.FieldFault.TheVariants as fault
 use Rattle.csv_tables.specs.declared.refusal.TableRefusal.{TableRefusal}
-use Rattle.csv_tables.specs.declared.refusal.TableRefusal.TheVariants.{NoHeader, TooManyColumns, BadName, TwiceNamed, Ragged, NotANumber, OutOfRange, TooManyRows, OutOfMemory}
+use Rattle.csv_tables.specs.declared.refusal.TableRefusal.TheVariants.{NoHeader, TooManyColumns}
+use Rattle.csv_tables.specs.declared.refusal.TableRefusal.TheVariants.{BadName, TwiceNamed, Ragged}
+use Rattle.csv_tables.specs.declared.refusal.TableRefusal.TheVariants.{NotANumber, OutOfRange}
+use Rattle.csv_tables.specs.declared.refusal.TableRefusal.TheVariants.{TooManyRows, OutOfMemory}
 
 -- a list begins with good items, and then has this one at this place, counted from 1
 pub record Reaches {A : Type 0} (AreGood : List A → Type 0) (items : List A) (place : ℕ) (item : A)

@@ -18,10 +18,12 @@ pub commas_more : {X : Type 0} (text : X → List ℕ) (xs : List X) (i : ℕ) (
 commas_more text xs i d short = ap (λ n. with_commas (map text (take n xs))) (add-one i) ∙ commas_after text xs i d short
 
 -- a text that grows by a comma, but for the first value, and then by the value
-pub text_more : {X : Type 0} (text : X → List ℕ) (xs : List X) (i : ℕ) (d : X) (start before comma after : List ℕ) → i < length xs → before ≡ start ++ with_commas (map text (take i xs))
+pub text_more : {X : Type 0} (text : X → List ℕ) (xs : List X) (i : ℕ) (d : X) (start before comma after : List ℕ) → i < length xs → before ≡ start ++
+    with_commas (map text (take i xs))
     → comma ≡ before ++ comma_before i → after ≡ comma ++ text (get_or xs i d) → after ≡ start ++ with_commas (map text (take (i + 1) xs))
 text_more text xs i d start before comma after short was put is =
     let value = text (get_or xs i d) in
     let so_far = with_commas (map text (take i xs)) in
-    is ∙ ap (λ v. v ++ value) (put ∙ ap (λ v. v ++ comma_before i) was) ∙ append_assoc (start ++ so_far) (comma_before i) value ∙ append_assoc start so_far (comma_before i ++ value)
+    is ∙ ap (λ v. v ++ value) (put ∙ ap (λ v. v ++ comma_before i) was) ∙ append_assoc (start ++ so_far) (comma_before i) value ∙ append_assoc start
+    so_far (comma_before i ++ value)
     ∙ ap (λ v. start ++ v) (sym (commas_more text xs i d short))

@@ -1,7 +1,9 @@
 // The printed text of answers.
 ghost use Rattle.std.specs.Prelude.{◌≡◌, ◌++◌, IfOk, OnOk, flat_map, length, map, string_bytes};
 ghost use Rattle.std.specs.Fmt.{signed_decimal};
-ghost use Rattle.report_text.specs.AnswersText.{answer_lines, answers_bytes, comma_before, group_line, heading, line, reply_bytes, row_line, row_text, total_text, totals_text, value_or_dash};
+ghost use Rattle.report_text.specs.AnswersText.{answer_lines, answers_bytes, comma_before};
+ghost use Rattle.report_text.specs.AnswersText.{group_line, heading, line, reply_bytes, row_line};
+ghost use Rattle.report_text.specs.AnswersText.{row_text, total_text, totals_text, value_or_dash};
 
 use crate::replies::{QueryReply, Reply};
 use col_table::ListOf;

@@ -1,5 +1,6 @@
 -- The pieces in which bytes are read and written.
-use Rattle.std.specs.Prelude.{◌≡◌, ℕ, ◌≤◌, ◌⊎◌, ◌↔◌, List, ◌++◌, length, take, drop, Option, Some, None, ⊤}
+use Rattle.std.specs.Prelude.{◌≡◌, ℕ, ◌≤◌, ◌⊎◌, ◌↔◌, List, ◌++◌, length, take, drop, Option, Some}
+use Rattle.std.specs.Prelude.{None, ⊤}
 use Rattle.std.specs.Io.{StartsWith}
 
 -- `buf` begins with the `count` bytes of the file from `at` on; `count` is 0 exactly if the buffer

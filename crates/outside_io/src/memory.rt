@@ -1,5 +1,7 @@
 //! Files and a sink in memory, whose contents contracts know.
-ghost use Rattle.std.specs.Prelude.{Some, ◌≡◌, ℕ, ◌+◌, ◌-◌, ◌^◌, ◌<◌, ◌≤◌, min, List, [], IfOk, IfSome, IsErr, OnErr, OnOk, MatchBool, MatchOption, if◌then◌else◌, length, vec_capacity, vec_len};
+ghost use Rattle.std.specs.Prelude.{Some, ◌≡◌, ℕ, ◌+◌, ◌-◌, ◌^◌, ◌<◌, ◌≤◌, min, List, [], IfOk};
+ghost use Rattle.std.specs.Prelude.{IfSome, IsErr, OnErr, OnOk, MatchBool, MatchOption};
+ghost use Rattle.std.specs.Prelude.{if◌then◌else◌, length, vec_capacity, vec_len};
 ghost use Rattle.std.specs.String.{string_bytes};
 ghost use Rattle.std.specs.Str.{bytes_eq};
 ghost use Rattle.std.specs.Io.KnownBytes.{WriteAppends};
@@ -23,7 +25,8 @@ pub struct MemFiles {
 }
 
 impl MemFiles {
-    ghost use Rattle.outside_io.specs.FilesInMemory.{added_bytes, failed_names, failing_calls, calls_made};
+    ghost use Rattle.outside_io.specs.FilesInMemory.{added_bytes, failed_names, failing_calls};
+    ghost use Rattle.outside_io.specs.FilesInMemory.{calls_made};
 
     /// No file yet. Calls of `read_piece` are numbered from 1, and those whose number is in `fails`
     /// fail.
@@ -59,7 +62,8 @@ impl MemFiles {
 }
 
 impl Files for MemFiles {
-    ghost use Rattle.outside_io.specs.FilesInMemory.{added_bytes, failed_names, failing_calls, calls_made, file_read_next};
+    ghost use Rattle.outside_io.specs.FilesInMemory.{added_bytes, failed_names, failing_calls};
+    ghost use Rattle.outside_io.specs.FilesInMemory.{calls_made, file_read_next};
 
     ghost content = { added_bytes };
 
@@ -187,7 +191,8 @@ impl MemSink {
 }
 
 impl Sink for MemSink {
-    ghost use Rattle.outside_io.specs.SinkInMemory.{taken_bytes, faults_met, refuses_piece, bytes_taken, KeepsTerms};
+    ghost use Rattle.outside_io.specs.SinkInMemory.{taken_bytes, faults_met, refuses_piece};
+    ghost use Rattle.outside_io.specs.SinkInMemory.{bytes_taken, KeepsTerms};
 
     ghost written = { λ sink. Some (taken_bytes sink) };
 

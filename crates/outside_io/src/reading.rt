@@ -1,5 +1,6 @@
 //! Files that are read in pieces.
-ghost use Rattle.std.specs.Prelude.{◌≡◌, ◌≢◌, ℕ, ◌+◌, ◌<◌, ◌≤◌, List, Option, None, IfOk, IfSome, IsOkUnless, OnOk, length, vec_len};
+ghost use Rattle.std.specs.Prelude.{◌≡◌, ◌≢◌, ℕ, ◌+◌, ◌<◌, ◌≤◌, List, Option, None, IfOk, IfSome};
+ghost use Rattle.std.specs.Prelude.{IsOkUnless, OnOk, length, vec_len};
 ghost use Rattle.outside_io.specs.Faults.{Grew, NameFailed, OnlyFailed};
 ghost use Rattle.outside_io.specs.Pieces.{AppendsPiece, IsPiece};
 

@@ -1,39 +1,472 @@
-//! Tests: how the program ends, by the words that it was given or couldn't get.
-use super::{Ended, run_program};
+//! Tests of `command`: worked words, scripts, queries and tables; limits; failing reads and writes.
+ghost use Rattle.std.specs.Prelude.{◌≤◌, length};
+
+use super::command::command;
 use outside_io::{CostMeter, MemFiles, MemSink};
-use std::io;
+use std::alloc::{AllocError, Global};
+use std::process::Abort;
 use std::test::Fail;
 
-#[test]
-fn ends_by_its_words(rt: HostRuntime) -> Result<(), Fail> {
+const SCRIPT: &str = r#"{"version":1,"tables":[{"name":"t","file":"t.csv"}],
+"queries":[{"scan":"t","output":{"totals":[{"fn":"sum","col":"v"}]}}]}"#;
+
+const TABLE: &str = "k,v\n1,10\n1,20\n2,5\n";
+
+const ANSWER: &str = "query 0 lines 1\ntotal 35\nend\n";
+
+// No write fails, and one takes 1,000 bytes.
+const ALL_WRITES: (u64, u32) = (0, 1000);
+
+// Two more tables, to be joined.
+const JOINED: &str = "k,w\n1,7\n2,8\n2,9\n3,1\n";
+
+const JOINED_NEXT: &str = "w,z\n7,100\n8,200\n8,300\n9,400\n";
+
+// The entries of all three tables in a script.
+const ENTRIES: &str = r#"{"name":"t","file":"t.csv"},{"name":"u","file":"u.csv"},
+{"name":"x","file":"x.csv"}"#;
+
+// Adds a file.
+fn add(alloc: Global, files: &mut MemFiles, name: &str, bytes: &[u8]) -> Result<(), AllocError> {
+    files.add(
+        String::from_str(alloc, name)?,
+        Vec::from_slice(alloc, bytes)?,
+    )
+}
+
+// The files `s.json`, `t.csv` and those to be joined. The reads with these numbers fail.
+fn files_of(
+    alloc: Global,
+    script: &[u8],
+    table: &[u8],
+    failing_reads: &[u64],
+) -> Result<MemFiles, AllocError> {
+    let mut files = MemFiles::new(alloc, Vec::from_slice(alloc, failing_reads)?);
+    add(alloc, &mut files, "s.json", script)?;
+    add(alloc, &mut files, "t.csv", table)?;
+    add(alloc, &mut files, "u.csv", JOINED.as_bytes())?;
+    add(alloc, &mut files, "x.csv", JOINED_NEXT.as_bytes())?;
+    Ok(files)
+}
+
+// Asserts with which status a command ends, and what it writes. The write of this number fails, and
+// a write takes at most so many bytes.
+fn ends(
+    rt: &(impl Abort + AllocGlobal),
+    words: &[&str],
+    files: &mut MemFiles,
+    writes: (u64, u32),
+    status: u8,
+    text: &str,
+) -> Result<(), Fail> {
     let alloc = rt.alloc();
-    let check = vec![in alloc;
-        String::from_str(alloc, "check")?,
-        String::from_str(alloc, "s")?,
-    ]?;
+    let mut given = Vec::new(alloc);
+    for word in words {
+        given.push(String::from_str(alloc, word)?)?;
+    }
+    let failing = vec![in alloc; writes.0]?;
+    let mut out = MemSink::new(alloc, 1000, writes.1.max(1), failing)?;
+    let mut meter = CostMeter::new();
+    let answered = command(alloc, given.as_slice(), files, &mut out, &mut meter);
+    assert_eq!(rt; out.written(), text.as_bytes(), "{text}");
+    assert_eq!(rt; answered, status, "{text}");
+    Ok(())
+}
+
+// Asserts how `check` of a script ends, over this table `t.csv` and those to be joined.
+fn check_ends(
+    rt: &(impl Abort + AllocGlobal),
+    script: &[u8],
+    table: &[u8],
+    status: u8,
+    text: &str,
+) -> Result<(), Fail> {
+    let mut files = files_of(rt.alloc(), script, table, &[])?;
+    ends(
+        rt,
+        &["check", "s.json"],
+        &mut files,
+        ALL_WRITES,
+        status,
+        text,
+    )
+}
+
+// A script with these entries of tables and these queries.
+fn script_of(alloc: Global, entries: &str, queries: &str) -> Result<String, AllocError> {
+    format!(in alloc; "{{\"version\":1,\"tables\":[{entries}],\"queries\":[{queries}]}}")
+}
+
+// Asserts what `check` writes at status 0 for queries over a table: each case is the queries, the
+// table and the text.
+fn answers(rt: &(impl Abort + AllocGlobal), cases: &[(&str, &str, &str)]) -> Result<(), Fail> {
+    for (queries, table, text) in cases {
+        let script = script_of(rt.alloc(), ENTRIES, queries)?;
+        check_ends(rt, script.as_bytes(), table.as_bytes(), 0, text)?;
+    }
+    Ok(())
+}
+
+#[test]
+fn reads_words(rt: HostRuntime) -> Result<(), Fail> {
     let usage = "error: usage\n";
-    let memory = "error: out of memory\n";
-    let cases = [
-        (Ok(check), 3, "error: cannot read s\n"),
-        (Ok(Vec::new(alloc)), 2, usage),
-        (Err(io::ErrorKind::InvalidData), 2, usage),
-        (Err(io::ErrorKind::OutOfMemory), 7, memory),
-        (Err(io::ErrorKind::Other), 7, memory),
+    let cases: [(&[&str], u8, &str); 8] = [
+        (&["check", "s.json"], 0, ANSWER),
+        (&[], 2, usage),
+        (&["check"], 2, usage),
+        (&["check", "s.json", "s.json"], 2, usage),
+        (&["check", ""], 2, usage),
+        (&["check", "-s.json"], 2, usage),
+        (&["turns", "s.json"], 2, usage),
+        (&["check", "-"], 3, "error: cannot read -\n"),
     ];
     for (words, status, text) in cases {
-        let mut files = MemFiles::new(alloc, Vec::new(alloc));
-        let mut out = MemSink::new(alloc, 100, 100, Vec::new(alloc))?;
-        let mut meter = CostMeter::new();
-        let ended = run_program(
-            alloc,
-            words.map_err(io::Error::from),
-            &mut files,
-            &mut out,
-            &mut meter,
-        );
-        let Ended { status: answered } = ended;
-        assert_eq!(rt; out.written(), text.as_bytes(), "{text}");
-        assert_eq!(rt; answered, status, "{text}");
+        let mut files = files_of(rt.alloc(), SCRIPT.as_bytes(), TABLE.as_bytes(), &[])?;
+        ends(&rt, words, &mut files, ALL_WRITES, status, text)?;
+    }
+    Ok(())
+}
+
+#[test]
+fn answers_queries(rt: HostRuntime) -> Result<(), Fail> {
+    let cases = [
+        (
+            r#"{"scan":"t","where":[{"col":"v","op":">=","value":10}],
+                "output":{"rows":["k","v"]}}"#,
+            TABLE,
+            "query 0 lines 2\nrow 1,10\nrow 1,20\nend\n",
+        ),
+        (
+            r#"{"scan":"t","where":[{"col":"k","op":"=","value":9}],"output":{"totals":[
+                {"fn":"count"},{"fn":"min","col":"v"},{"fn":"max","col":"v"}]}}"#,
+            TABLE,
+            "query 0 lines 1\ntotal 0,-,-\nend\n",
+        ),
+        (
+            r#"{"scan":"t","output":{"totals":[{"fn":"sum","col":"v"}]}}"#,
+            "v\n9223372036854775807\n9223372036854775807\n",
+            "query 0 lines 1\ntotal 18446744073709551614\nend\n",
+        ),
+        (
+            r#"{"scan":"t","output":{"totals":[{"fn":"sum","col":"v"}]}},
+                {"scan":"t","after":1,"output":{"rows":["v"]}}"#,
+            "v\n\"3\"\n-1\n",
+            "query 0 lines 1\ntotal 2\nquery 1 lines 2\nrow -1\nrow 3\nend\n",
+        ),
+    ];
+    answers(&rt, &cases)
+}
+
+#[test]
+fn answers_joins(rt: HostRuntime) -> Result<(), Fail> {
+    let cases = [
+        (
+            r#"{"scan":"t","joins":[{"table":"t","left":"k","right":"k"}],
+                "output":{"totals":[{"fn":"count"}]}}"#,
+            TABLE,
+            "query 0 lines 1\ntotal 5\nend\n",
+        ),
+        // A filter on the joined table.
+        (
+            r#"{"scan":"t","joins":[{"table":"u","left":"k","right":"k",
+                "where":[{"col":"w","op":">","value":7}]}],"output":{"rows":["k","v",[1,"w"]]}}"#,
+            TABLE,
+            "query 0 lines 2\nrow 2,5,8\nrow 2,5,9\nend\n",
+        ),
+        // The second join by a column of the first joined table.
+        (
+            r#"{"scan":"t","joins":[{"table":"u","left":"k","right":"k"},
+                {"table":"x","left":[1,"w"],"right":"w"}],
+                "output":{"rows":["v",[2,"z"],[1,"w"]]}}"#,
+            TABLE,
+            "query 0 lines 5\nrow 5,200,8\nrow 5,300,8\nrow 5,400,9\nrow 10,100,7\n\
+            row 20,100,7\nend\n",
+        ),
+        (
+            r#"{"scan":"t","joins":[{"table":"u","left":"k","right":"k"},
+                {"table":"x","left":[1,"w"],"right":"w"}],"output":{"totals":[{"fn":"count"},
+                {"fn":"sum","col":[2,"z"]},{"fn":"min","col":[1,"w"]},{"fn":"max","col":"v"}]}}"#,
+            TABLE,
+            "query 0 lines 1\ntotal 5,1100,7,20\nend\n",
+        ),
+    ];
+    answers(&rt, &cases)
+}
+
+#[test]
+fn answers_groups(rt: HostRuntime) -> Result<(), Fail> {
+    let cases = [
+        (
+            r#"{"scan":"t","output":{"groups":{"by":["k"],
+                "aggs":[{"fn":"sum","col":"v"},{"fn":"count"}]}}}"#,
+            TABLE,
+            "query 0 lines 2\ngroup 1: 30,2\ngroup 2: 5,1\nend\n",
+        ),
+        (
+            r#"{"scan":"t","joins":[{"table":"u","left":"k","right":"k"}],
+                "output":{"groups":{"by":["k",[1,"w"]],
+                "aggs":[{"fn":"count"},{"fn":"max","col":"v"}]}}}"#,
+            TABLE,
+            "query 0 lines 3\ngroup 1,7: 2,20\ngroup 2,8: 1,5\ngroup 2,9: 1,5\nend\n",
+        ),
+        (
+            r#"{"scan":"t","joins":[{"table":"u","left":"k","right":"k"},
+                {"table":"x","left":[1,"w"],"right":"w"}],"output":{"groups":{"by":[[2,"z"]],
+                "aggs":[{"fn":"min","col":[1,"w"]},{"fn":"sum","col":"v"}]}}}"#,
+            TABLE,
+            "query 0 lines 4\ngroup 100: 7,30\ngroup 200: 8,5\ngroup 300: 8,5\n\
+            group 400: 9,5\nend\n",
+        ),
+        // A group exists only if a row has it.
+        (
+            r#"{"scan":"t","where":[{"col":"k","op":"=","value":9}],
+                "output":{"groups":{"by":["v"],"aggs":[{"fn":"count"}]}}}"#,
+            TABLE,
+            "query 0 lines 0\nend\n",
+        ),
+    ];
+    answers(&rt, &cases)
+}
+
+#[test]
+fn refuses_scripts(rt: HostRuntime) -> Result<(), Fail> {
+    let cases = [
+        (r#"{"version":1,"quer"#, "not json"),
+        (r#"{"version":2}"#, "version unknown"),
+        (
+            r#"{"version":1,"x":1,"tables":[],"queries":[]}"#,
+            "unknown key in $",
+        ),
+        ("[]", "wrong shape $"),
+        (
+            r#"{"version":1,"tables":[1,2,3,4,5,6,7,8,9],"queries":[]}"#,
+            "too many $.tables",
+        ),
+    ];
+    for (script, cause) in cases {
+        let text = format!(in rt.alloc(); "error: script: {cause}\n")?;
+        check_ends(&rt, script.as_bytes(), TABLE.as_bytes(), 5, text.as_str())?;
+    }
+    Ok(())
+}
+
+#[test]
+fn refuses_queries(rt: HostRuntime) -> Result<(), Fail> {
+    let cases = [
+        (
+            r#"{"scan":"t","where":[{"col":"k","op":"~","value":1}],"output":{"rows":["k"]}}"#,
+            "bad text $.queries[0].where[0].op",
+        ),
+        (
+            r#"{"scan":"t","after":16385,"output":{"rows":["k"]}}"#,
+            "wrong number $.queries[0].after",
+        ),
+        (
+            r#"{"scan":"t","output":{"totals":[{"fn":"sum","col":"z"}]}}"#,
+            "query 0: unknown column z",
+        ),
+        (
+            r#"{"scan":"y","output":{"rows":["k"]}}"#,
+            "query 0: unknown table y",
+        ),
+        (
+            r#"{"scan":"t","output":{"rows":["k"]}},
+                {"scan":"t","after":2,"output":{"rows":["k"]}}"#,
+            "query 1: after too large",
+        ),
+        (
+            r#"{"scan":"t","output":{"groups":{"by":["k","z"],"aggs":[{"fn":"count"}]}}}"#,
+            "query 0: unknown column z",
+        ),
+        (
+            r#"{"scan":"t","joins":[{"table":"t","left":"k","right":"z"}],
+                "output":{"rows":["k"]}}"#,
+            "query 0: unknown column z",
+        ),
+        (
+            r#"{"scan":"t","output":{"groups":{"by":["k"],"aggs":[{"fn":"count"}]}}},
+                {"scan":"y","output":{"rows":["k"]}}"#,
+            "query 1: unknown table y",
+        ),
+    ];
+    for (queries, cause) in cases {
+        let script = script_of(rt.alloc(), ENTRIES, queries)?;
+        let text = format!(in rt.alloc(); "error: script: {cause}\n")?;
+        check_ends(&rt, script.as_bytes(), TABLE.as_bytes(), 5, text.as_str())?;
+    }
+    Ok(())
+}
+
+#[test]
+fn refuses_tables(rt: HostRuntime) -> Result<(), Fail> {
+    let cases = [
+        ("", "no header"),
+        ("a,\u{1}\n", "bad name field 2"),
+        ("a,b,a\n", "named twice field 3"),
+        ("a,b,c\n1,2\n", "ragged record 1"),
+        ("v\n1\nx\n", "not a number record 2 field 1"),
+        ("v\n9223372036854775808\n", "out of range record 1 field 1"),
+        (
+            "a,a1,a2,a3,a4,a5,a6,a7,a8,a9,b,b1,b2,b3,b4,b5,b6,b7,b8,b9,\
+            c,c1,c2,c3,c4,c5,c6,c7,c8,c9,d,d1,d2\n",
+            "too many columns",
+        ),
+    ];
+    for (table, cause) in cases {
+        let text = format!(in rt.alloc(); "error: table t.csv: {cause}\n")?;
+        check_ends(&rt, SCRIPT.as_bytes(), table.as_bytes(), 6, text.as_str())?;
+    }
+    Ok(())
+}
+
+// The first refusal counts: a script's before a table's, a table's before a query's.
+#[test]
+fn refuses_in_order(rt: HostRuntime) -> Result<(), Fail> {
+    let t = r#"{"name":"t","file":"t.csv"}"#;
+    let absent = r#"{"name":"a","file":"a.csv"}"#;
+    let twice = r#"{"name":"t","file":"a.csv"}"#;
+    let cases = [
+        (t, absent, "v\n", 3, "error: cannot read a.csv\n"),
+        (t, absent, "", 6, "error: table t.csv: no header\n"),
+        (absent, t, "", 3, "error: cannot read a.csv\n"),
+        (
+            t,
+            twice,
+            "",
+            5,
+            "error: script: named twice $.tables[1].name\n",
+        ),
+        (
+            t,
+            r#"{"name":"a","file":"t.csv"}"#,
+            "v\n",
+            5,
+            "error: script: query 0: unknown table y\n",
+        ),
+    ];
+    for (first, second, table, status, text) in cases {
+        let entries = format!(in rt.alloc(); "{first},{second}")?;
+        let query = r#"{"scan":"y","output":{"rows":["k"]}}"#;
+        let script = script_of(rt.alloc(), entries.as_str(), query)?;
+        check_ends(&rt, script.as_bytes(), table.as_bytes(), status, text)?;
+    }
+    Ok(())
+}
+
+#[test]
+fn reports_reads_that_fail(rt: HostRuntime) -> Result<(), Fail> {
+    let cases = [
+        (1, 3, "error: cannot read s.json\n"),
+        (2, 3, "error: cannot read s.json\n"),
+        (3, 3, "error: cannot read t.csv\n"),
+        (4, 3, "error: cannot read t.csv\n"),
+        (5, 0, ANSWER),
+    ];
+    for (call, status, text) in cases {
+        let mut files = files_of(rt.alloc(), SCRIPT.as_bytes(), TABLE.as_bytes(), &[call])?;
+        let words = ["check", "s.json"];
+        ends(&rt, &words, &mut files, ALL_WRITES, status, text)?;
+    }
+    Ok(())
+}
+
+#[test]
+fn reports_writes_that_fail(rt: HostRuntime) -> Result<(), Fail> {
+    let check: &[&str] = &["check", "s.json"];
+    let cases: [(&[&str], u64, u8, &str); 10] = [
+        (check, 1, 4, ""),
+        (check, 2, 4, "quer"),
+        (check, 3, 4, "query 0 "),
+        (check, 4, 4, "query 0 line"),
+        (check, 5, 4, "query 0 lines 1\n"),
+        (check, 6, 4, "query 0 lines 1\ntota"),
+        (check, 7, 4, "query 0 lines 1\ntotal 35"),
+        (check, 8, 4, "query 0 lines 1\ntotal 35\nend"),
+        (check, 9, 0, ANSWER),
+        (&[], 2, 4, "erro"),
+    ];
+    for (words, call, status, text) in cases {
+        let mut files = files_of(rt.alloc(), SCRIPT.as_bytes(), TABLE.as_bytes(), &[])?;
+        ends(&rt, words, &mut files, (call, 4), status, text)?;
+    }
+    Ok(())
+}
+
+// A text with spaces or empty lines behind it, so long in all.
+fn padded(alloc: Global, text: &str, with: u8, len: usize) -> Result<Vec<u8>, AllocError>
+    requires { length text.now ≤ len }
+{
+    let mut bytes = vec![in alloc; with; len]?;
+    bytes.as_mut_slice()[..text.len()].copy_from_slice(text.as_bytes());
+    Ok(bytes)
+}
+
+#[test]
+fn reads_a_script_at_the_limit(rt: HostRuntime) -> Result<(), Fail> {
+    let script = padded(rt.alloc(), SCRIPT, b' ', 67_108_864)?;
+    check_ends(&rt, script.as_slice(), TABLE.as_bytes(), 0, ANSWER)
+}
+
+#[test]
+fn reads_a_table_at_the_limit(rt: HostRuntime) -> Result<(), Fail> {
+    let table = padded(rt.alloc(), TABLE, b'\n', 67_108_864)?;
+    check_ends(&rt, SCRIPT.as_bytes(), table.as_slice(), 0, ANSWER)
+}
+
+#[test]
+fn refuses_a_script_past_the_limit(rt: HostRuntime) -> Result<(), Fail> {
+    let script = padded(rt.alloc(), SCRIPT, b' ', 67_108_865)?;
+    let text = "error: script: too long\n";
+    check_ends(&rt, script.as_slice(), TABLE.as_bytes(), 5, text)
+}
+
+#[test]
+fn refuses_a_table_past_the_limit(rt: HostRuntime) -> Result<(), Fail> {
+    let table = padded(rt.alloc(), TABLE, b'\n', 67_108_865)?;
+    let text = "error: table t.csv: too long\n";
+    check_ends(&rt, SCRIPT.as_bytes(), table.as_slice(), 6, text)
+}
+
+// The first text, and so many times the second.
+fn repeated(alloc: Global, first: &str, then: &str, count: usize) -> Result<String, AllocError> {
+    let mut text = String::from_str(alloc, first)?;
+    for _ in 0..count {
+        text.push_str(then)?;
+    }
+    Ok(text)
+}
+
+#[test]
+fn refuses_a_row_too_many(rt: HostRuntime) -> Result<(), Fail> {
+    let table = repeated(rt.alloc(), "v\n", "1\n", 1_048_577)?;
+    let text = "error: table t.csv: too many rows\n";
+    check_ends(&rt, SCRIPT.as_bytes(), table.as_bytes(), 6, text)
+}
+
+#[test]
+fn limits_the_bytes_of_names(rt: HostRuntime) -> Result<(), Fail> {
+    let alloc = rt.alloc();
+    // the bytes of the names of a file, a table and a column, and how it ends
+    let cases = [
+        (255, 64, 64, 0, "query 0 lines 1\ntotal 1\nend\n"),
+        (256, 64, 64, 5, "error: script: bad text $.tables[0].file\n"),
+        (255, 65, 64, 5, "error: script: bad text $.tables[0].name\n"),
+        (1, 64, 65, 6, "error: table f: bad name field 2\n"),
+    ];
+    for (file, table, column, status, text) in cases {
+        let file = repeated(alloc, "", "f", file)?;
+        let name = repeated(alloc, "", "t", table)?;
+        let column = repeated(alloc, "", "c", column)?;
+        let entry = format!(in alloc; "{{\"name\":\"{name}\",\"file\":\"{file}\"}}")?;
+        let query = format!(in alloc;
+            "{{\"scan\":\"{name}\",\"output\":{{\"totals\":[{{\"fn\":\"sum\",\"col\":\"v\"}}]}}}}"
+        )?;
+        let script = script_of(alloc, entry.as_str(), query.as_str())?;
+        let rows = format!(in alloc; "v,{column}\n1,2\n")?;
+        let mut files = files_of(alloc, script.as_bytes(), b"", &[])?;
+        add(alloc, &mut files, file.as_str(), rows.as_bytes())?;
+        let words = ["check", "s.json"];
+        ends(&rt, &words, &mut files, ALL_WRITES, status, text)?;
     }
     Ok(())
 }

@@ -1,12 +1,13 @@
 -- The laws of the behaviour of each command, on which the proof of `command` rests.
 use Rattle.std.proofs.Common.{◌≡◌, ℕ, List, Option, None, Some, ap, refl, sym, ◌∙◌}
-use Rattle.sched_tool.specs.Behaviours.{Behaviour, behaviour_of, check_behaviour, check_text, IsUsageRefused, OneAnswer, usage_behaviour}
-use Rattle.sched_tool.specs.Outsides.{Contents, Outside, surely_holds}
+use Rattle.sched_tool.specs.Behaviours.{Behaviour, behaviour_of, check_behaviour, check_text, IsUsageRefused, usage_behaviour}
+use Rattle.sched_tool.specs.Outsides.{Contents, known, Outside, surely_holds}
+use Rattle.sched_tool.specs.Verdicts.{OneAnswer, OneVerdict}
 use Rattle.sched_tool.specs.Words.{check, Meaning}
 use Rattle.sched_tool.specs.Writing.{IsFinding}
-use Rattle.sched_tool.specs.declared.refusal.Refusal.{Refusal}
-use Rattle.sched_tool.specs.declared.refusal.Refusal.TheVariants.{Usage, CannotRead, Script, Table, OutOfMemory}
-use Rattle.sched_tool.proofs.OutsideLemmas.{Agree, SameFiles, SameFiles-known}
+use Rattle.sched_tool.specs.declared.program.refusal.Refusal.{Refusal}
+use Rattle.sched_tool.specs.declared.program.refusal.Refusal.TheVariants.{Usage, CannotRead, Script, Table, OutOfMemory}
+use Rattle.sched_tool.proofs.OutsideLemmas.{Agree, Agree-known, SameFiles, SameFiles-known}
 use Rattle.sched_tool.proofs.UniqueLemmas.{accepted_not_refused, same_refusal, subject_is}
 
 -- the laws of a behaviour over one outside
@@ -73,3 +74,9 @@ one_answer content file a b x y =
     ∙ ap check_text
     (subject_is (surely_holds content) (surely_holds content) (SameFiles-known content) file x.0 y.0 x.1.held y.1.held)
     ∙ sym y.2
+
+pub one_verdict : (times : ℕ → ℕ → ℕ → Type 0) → OneVerdict times
+one_verdict times content meaning =
+    let outside = known content times in
+    let same = consistent outside outside (Agree-known content times) meaning in
+    record { apart = same.apart; only = same.only }

@@ -1,5 +1,6 @@
 -- What each status says, from how a command ended.
-use Rattle.std.proofs.Common.{◌≡◌, ◌⊎◌, ◌<◌, ℕ, zero, suc, get_or, List, [], ◌∷◌, Result, Ok, Err, IfOk, IfErr, Contains, arith, lit<, inl, inr, refl, subst, sym, ◌≢◌, ◌∙◌}
+use Rattle.std.proofs.Common.{◌≡◌, ◌⊎◌, ◌<◌, ℕ, zero, suc, get_or, List, [], ◌∷◌, Result, Ok, Err, IfOk, IfErr, Contains, arith, lit<, inl, inr, refl, subst}
+use Rattle.std.proofs.Common.{sym, ◌≢◌, ◌∙◌}
 use Rattle.std.specs.Io.KnownBytes.{Appends}
 use Rattle.outside_io.specs.Faults.{CountedOne, OnlyFailed}
 use Rattle.outside_io.specs.Pieces.{AppendsPrefix}
@@ -11,9 +12,9 @@ use Rattle.sched_tool.specs.ErrorLines.{error_bytes}
 use Rattle.sched_tool.specs.ReadFaults.{FaultsAt, OneFaultAtMost}
 use Rattle.sched_tool.specs.Statuses.{status_of, statuses}
 use Rattle.sched_tool.specs.Writing.{IsFinding, IsMemoryText, IsRefusalWritten, IsTextOf, IsWritten, SinkState, TellsRefusal, WritesOne}
-use Rattle.sched_tool.specs.declared.output.Output.{Output}
-use Rattle.sched_tool.specs.declared.refusal.Refusal.{Refusal}
-use Rattle.sched_tool.specs.declared.refusal.Refusal.TheVariants.{Usage, CannotRead, Script, Table, OutOfMemory}
+use Rattle.sched_tool.specs.declared.program.output.Output.{Output}
+use Rattle.sched_tool.specs.declared.program.refusal.Refusal.{Refusal}
+use Rattle.sched_tool.specs.declared.program.refusal.Refusal.TheVariants.{Usage, CannotRead, Script, Table, OutOfMemory}
 
 -- how a command ended: the faults of its reads, and what was written of which text or line
 pub data Ends (does : Behaviour) (before after : List (List ℕ)) (old new : SinkState) (result : ℕ) : Type 0 where
@@ -44,19 +45,12 @@ Ends-from does before after old new result (Err refusal) gives up written told =
     ]
 
 -- the status of a refusal is none of an answer or of a failed writing
-not_zero : (r : Refusal) → status_of r ≡ 0 → ⊥
-not_zero Usage e = omega arith
-not_zero (CannotRead file) e = omega arith
-not_zero (Script fault) e = omega arith
-not_zero (Table file fault) e = omega arith
-not_zero OutOfMemory e = omega arith
-
-not_four : (r : Refusal) → status_of r ≡ 4 → ⊥
-not_four Usage e = omega arith
-not_four (CannotRead file) e = omega arith
-not_four (Script fault) e = omega arith
-not_four (Table file fault) e = omega arith
-not_four OutOfMemory e = omega arith
+other_status : (r : Refusal) → (status_of r ≢ 0) × (status_of r ≢ 4)
+other_status Usage = (λ e. omega arith, λ e. omega arith)
+other_status (CannotRead file) = (λ e. omega arith, λ e. omega arith)
+other_status (Script fault) = (λ e. omega arith, λ e. omega arith)
+other_status (Table file fault) = (λ e. omega arith, λ e. omega arith)
+other_status OutOfMemory = (λ e. omega arith, λ e. omega arith)
 
 -- a status that a command ends with at a finding
 is_finding_status : (result k : ℕ) → k < 3 → get_or (2 ∷ 5 ∷ 6 ∷ []) k result ≡ result → (result ≡ 2) ⊎ ((result ≡ 5) ⊎ (result ≡ 6))
@@ -120,7 +114,7 @@ module _ (does : Behaviour) (before after : List (List ℕ)) (old new : SinkStat
   at_answered (whole text answers none (inr w)) is = absurd (omega (arith, w.0, is))
   at_answered (part text answers none (inl w)) is = absurd (omega (arith, w.0, is))
   at_answered (part text answers none (inr w)) is = absurd (omega (arith, w.0, is))
-  at_answered (refused r cause faults (inl w)) is = absurd (not_zero r (sym w.0 ∙ is))
+  at_answered (refused r cause faults (inl w)) is = absurd ((other_status r).0 (sym w.0 ∙ is))
   at_answered (refused r cause faults (inr w)) is = absurd (omega (arith, w.0, is))
   at_answered (unsaid r cause faults (inl w)) is = absurd (omega (arith, w.0, is))
   at_answered (unsaid r cause faults (inr w)) is = absurd (omega (arith, w.0, is))
@@ -170,7 +164,7 @@ module _ (does : Behaviour) (before after : List (List ℕ)) (old new : SinkStat
   at_cannot_write (whole text answers none (inr w)) is = (w.2, (text, inl (answers, none), w.1))
   at_cannot_write (part text answers none (inl w)) is = absurd (omega (arith, w.0, is))
   at_cannot_write (part text answers none (inr w)) is = (w.2, (text, inr (inr (inr answers)), w.1))
-  at_cannot_write (refused r cause faults (inl w)) is = absurd (not_four r (sym w.0 ∙ is))
+  at_cannot_write (refused r cause faults (inl w)) is = absurd ((other_status r).1 (sym w.0 ∙ is))
   at_cannot_write (refused r cause faults (inr w)) is =
       (w.2, (error_bytes r, inr (inl (record { refusal = r; cause = cause; faults = faults; line = refl })), w.1))
   at_cannot_write (unsaid r cause faults (inl w)) is = absurd (omega (arith, w.0, is))

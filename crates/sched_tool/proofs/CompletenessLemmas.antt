@@ -9,8 +9,8 @@ use Rattle.sched_tool.specs.ErrorLines.{error_bytes}
 use Rattle.sched_tool.specs.ReadFaults.{FaultsAt, NoCountRose}
 use Rattle.sched_tool.specs.Statuses.{status_of}
 use Rattle.sched_tool.specs.Writing.{IsFinding, SinkState, WritesOne}
-use Rattle.sched_tool.specs.declared.refusal.Refusal.{Refusal}
-use Rattle.sched_tool.specs.declared.refusal.Refusal.TheVariants.{Usage, CannotRead, Script, Table, OutOfMemory}
+use Rattle.sched_tool.specs.declared.program.refusal.Refusal.{Refusal}
+use Rattle.sched_tool.specs.declared.program.refusal.Refusal.TheVariants.{Usage, CannotRead, Script, Table, OutOfMemory}
 
 -- what a command does by what the files are known to hold, `known`, and by what they may hold, `may`
 module _ (known may : Behaviour) (sound : IsSound may) (same : AreConsistent known may) (back : AreConsistent may known) (before after : List (List ℕ))

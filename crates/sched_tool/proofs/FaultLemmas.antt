@@ -4,8 +4,8 @@ use Rattle.std.proofs.lemmas.List.Sums.{sum_by-append}
 use Rattle.std.proofs.lemmas.Slice.Eq.{bytes_eq-Decides}
 use Rattle.outside_io.specs.Faults.{CountedOne, CountRose, NameFailed, OnlyFailed}
 use Rattle.sched_tool.specs.ReadFaults.{FaultsAt, OneFaultAtMost}
-use Rattle.sched_tool.specs.declared.refusal.Refusal.{Refusal}
-use Rattle.sched_tool.specs.declared.refusal.Refusal.TheVariants.{Usage, CannotRead, Script, Table, OutOfMemory}
+use Rattle.sched_tool.specs.declared.program.refusal.Refusal.{Refusal}
+use Rattle.sched_tool.specs.declared.program.refusal.Refusal.TheVariants.{Usage, CannotRead, Script, Table, OutOfMemory}
 
 -- the count of a name that is put behind the others rose
 pub NameFailed-added : (old new : List (List ℕ)) (name : List ℕ) → OnlyFailed old new name → NameFailed old new name

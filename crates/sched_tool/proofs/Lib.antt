@@ -1,6 +1,7 @@
 mod BehaviourLemmas
 mod CommandLemmas
 mod CompletenessLemmas
+mod EndingLemmas
 mod FaultLemmas
 mod OutsideLemmas
 mod QueriesLemmas

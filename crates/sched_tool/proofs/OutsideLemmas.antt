@@ -26,3 +26,6 @@ all_possible content file a b is may = let same : b ≡ a = subst (λ o. IfSome 
 
 pub known-possible : (content : List ℕ → Option (List ℕ)) (times : ℕ → ℕ → ℕ → Type 0) → Agree (known content times) (possible content times)
 known-possible content times = record { files = all_possible content; times = refl }
+
+pub Agree-known : (content : List ℕ → Option (List ℕ)) (times : ℕ → ℕ → ℕ → Type 0) → Agree (known content times) (known content times)
+Agree-known content times = record { files = SameFiles-known content; times = refl }

@@ -7,8 +7,8 @@ use Rattle.sched_tool.specs.Refusals.{AreQueriesRefused, AreTablesRefused, IsChe
 use Rattle.sched_tool.specs.Subjects.{HoldsScript, HoldsSubject, IsNext}
 use Rattle.script_json.specs.declared.script.Script.{Script}
 use Rattle.script_json.specs.declared.script.TableEntry.{TableEntry}
-use Rattle.sched_tool.specs.declared.refusal.Refusal.{Refusal}
-use Rattle.sched_tool.specs.declared.refusal.Refusal.TheVariants as refusal
+use Rattle.sched_tool.specs.declared.program.refusal.Refusal.{Refusal}
+use Rattle.sched_tool.specs.declared.program.refusal.Refusal.TheVariants as refusal
 
 entry_refused : (holds : Contents) (file : List ℕ) (script : Script) (entry : TableEntry) (r : Refusal) → HoldsScript holds file script
     → IsNext holds script.tables entry → IsEntryRefused holds entry r → IsCheckRefused holds file r

@@ -18,14 +18,14 @@ use Rattle.sched_tool.specs.Subjects.{AllAnswerable, Holds, HoldsScript, HoldsSu
 use Rattle.sched_tool.specs.Writing.{IsFinding}
 use Rattle.script_json.specs.declared.script.Script.{Script}
 use Rattle.script_json.specs.declared.script.TableEntry.{TableEntry}
-use Rattle.sched_tool.specs.declared.refusal.Refusal.{Refusal}
-use Rattle.sched_tool.specs.declared.refusal.Refusal.TheVariants.{Usage, CannotRead, Script as ScriptRefused, Table, OutOfMemory}
+use Rattle.sched_tool.specs.declared.program.refusal.Refusal.{Refusal}
+use Rattle.sched_tool.specs.declared.program.refusal.Refusal.TheVariants.{Usage, CannotRead, Script as ScriptRefused, Table, OutOfMemory}
 use Rattle.plan_ast.specs.declared.queries.Query.{Query}
 use Rattle.plan_ast.specs.declared.refusals.PlanRefusal.{PlanRefusal}
-use Rattle.sched_tool.specs.declared.refusal.ScriptFault.{ScriptFault}
-use Rattle.sched_tool.specs.declared.refusal.ScriptFault.TheVariants as script_fault
-use Rattle.sched_tool.specs.declared.refusal.TableFault.{TableFault}
-use Rattle.sched_tool.specs.declared.refusal.TableFault.TheVariants as table_fault
+use Rattle.sched_tool.specs.declared.program.refusal.ScriptFault.{ScriptFault}
+use Rattle.sched_tool.specs.declared.program.refusal.ScriptFault.TheVariants as script_fault
+use Rattle.sched_tool.specs.declared.program.refusal.TableFault.{TableFault}
+use Rattle.sched_tool.specs.declared.program.refusal.TableFault.TheVariants as table_fault
 
 -- an accepted subject has no query that is refused
 answerable_not_refused : (tables : List NamedTable) (query : Query) (refusal : PlanRefusal) → IsAnswerable tables query

@@ -3,15 +3,16 @@ use Rattle.std.specs.Prelude.{◌≡◌, ℕ, List, ◌++◌, map, Option, None,
 use Rattle.std.specs.List.{enumerate_from}
 use Rattle.plan_ast.specs.Answer.{answer_of}
 use Rattle.plan_ast.specs.Subject.{Subject}
-use Rattle.sched_tool.specs.Outsides.{Contents, Outside, surely_holds}
+use Rattle.sched_tool.specs.Outsides.{Contents, Outside}
 use Rattle.report_text.specs.AnswersText.{answers_bytes, line}
 use Rattle.sched_tool.specs.Refusals.{IsCheckRefused}
 use Rattle.sched_tool.specs.Subjects.{IsAccepted, IsRead}
 use Rattle.sched_tool.specs.Words.{check, Meaning}
 use Rattle.report_text.specs.declared.replies.QueryReply.{QueryReply}
 use Rattle.report_text.specs.declared.replies.Reply.TheVariants.{Answer}
-use Rattle.sched_tool.specs.declared.refusal.Refusal.{Refusal}
-use Rattle.sched_tool.specs.declared.refusal.Refusal.TheVariants.{Usage, CannotRead, Script, Table, OutOfMemory}
+use Rattle.sched_tool.specs.declared.program.refusal.Refusal.{Refusal}
+use Rattle.sched_tool.specs.declared.program.refusal.Refusal.TheVariants.{Usage, CannotRead, Script}
+use Rattle.sched_tool.specs.declared.program.refusal.Refusal.TheVariants.{Table, OutOfMemory}
 
 -- the behaviour of a command over one outside: each command has one, and the contract of `command`
 -- speaks of nothing else
@@ -68,12 +69,6 @@ check_behaviour holds file = record {
   refuses = IsCheckRefused holds file;
   reads = IsRead holds file;
 }
-
--- an accepted script has one answer if the contents of its files are known
-abbrev pub OneAnswer : Type 0
-OneAnswer = (content : List ℕ → Option (List ℕ)) (file a b : List ℕ)
-    → (check_behaviour (surely_holds content) file).answers a
-    → (check_behaviour (surely_holds content) file).answers b → a ≡ b
 
 -- ---- all commands
 

@@ -5,11 +5,12 @@ use Rattle.std.specs.String.{string_bytes}
 use Rattle.sched_tool.specs.Behaviours.{Behaviour, behaviour_of}
 use Rattle.sched_tool.specs.Outsides.{Outside}
 use Rattle.sched_tool.specs.ReadFaults.{FaultsAt}
+use Rattle.sched_tool.specs.Statuses.{answer_status, memory_status}
 use Rattle.sched_tool.specs.Words.{check, Meaning, meaning_of}
-use Rattle.sched_tool.specs.declared.output.Output.{Output}
-use Rattle.sched_tool.specs.declared.refusal.Refusal.{Refusal}
-use Rattle.sched_tool.specs.declared.words.Command.{Command}
-use Rattle.sched_tool.specs.declared.words.Command.TheVariants.{Check}
+use Rattle.sched_tool.specs.declared.program.output.Output.{Output}
+use Rattle.sched_tool.specs.declared.program.refusal.Refusal.{Refusal}
+use Rattle.sched_tool.specs.declared.program.words.Command.{Command}
+use Rattle.sched_tool.specs.declared.program.words.Command.TheVariants.{Check}
 
 -- what a command asks for
 abbrev pub asked_by : Command → Meaning
@@ -23,12 +24,12 @@ asked words = meaning_of (map string_bytes words)
 abbrev pub behaviour_asked : Outside → List (String Global) → Behaviour
 behaviour_asked outside words = behaviour_of outside (asked words)
 
--- a command gave a text, and no read met a fault: it answers the command whole, at status 0, or in
--- part, at 7
+-- a command gave a text, and no read met a fault: it answers the command whole, at the status of an
+-- answer, or in part, at that of memory
 pub record Gives (does : Behaviour) (old new : List (List ℕ)) (output : Output) : Type 0 where
   pub no_fault : new ≡ old
-  pub text : ((output.status ≡ 0) × does.answers output.text.items)
-      ⊎ ((output.status ≡ 7) × does.answers_in_part output.text.items)
+  pub text : ((output.status ≡ answer_status) × does.answers output.text.items)
+      ⊎ ((output.status ≡ memory_status) × does.answers_in_part output.text.items)
 
 -- a command gave up for this reason, and reads met the faults that go with it
 pub record GivesUp (does : Behaviour) (old new : List (List ℕ)) (refusal : Refusal) : Type 0 where

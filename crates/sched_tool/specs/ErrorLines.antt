@@ -4,12 +4,13 @@ use Rattle.csv_tables.specs.RefusalText.{refusal_text as table_refusal_text}
 use Rattle.plan_ast.specs.RefusalText.{plan_refusal_text}
 use Rattle.report_text.specs.AnswersText.{line}
 use Rattle.script_json.specs.Paths.{refusal_text as script_refusal_text}
-use Rattle.sched_tool.specs.declared.refusal.ScriptFault.{ScriptFault}
-use Rattle.sched_tool.specs.declared.refusal.ScriptFault.TheVariants as script_fault
-use Rattle.sched_tool.specs.declared.refusal.TableFault.{TableFault}
-use Rattle.sched_tool.specs.declared.refusal.TableFault.TheVariants as table_fault
-use Rattle.sched_tool.specs.declared.refusal.Refusal.{Refusal}
-use Rattle.sched_tool.specs.declared.refusal.Refusal.TheVariants.{Usage, CannotRead, Script, Table, OutOfMemory}
+use Rattle.sched_tool.specs.declared.program.refusal.ScriptFault.{ScriptFault}
+use Rattle.sched_tool.specs.declared.program.refusal.ScriptFault.TheVariants as script_fault
+use Rattle.sched_tool.specs.declared.program.refusal.TableFault.{TableFault}
+use Rattle.sched_tool.specs.declared.program.refusal.TableFault.TheVariants as table_fault
+use Rattle.sched_tool.specs.declared.program.refusal.Refusal.{Refusal}
+use Rattle.sched_tool.specs.declared.program.refusal.Refusal.TheVariants.{Usage, CannotRead, Script}
+use Rattle.sched_tool.specs.declared.program.refusal.Refusal.TheVariants.{Table, OutOfMemory}
 
 abbrev pub script_fault_text : ScriptFault → List ℕ
 script_fault_text script_fault.TooLong = codes "too long"

@@ -1,5 +1,6 @@
 pub mod Behaviours
 pub mod Commands
+pub mod Endings
 pub mod ErrorLines
 pub mod Outsides
 pub mod Programs
@@ -7,5 +8,6 @@ pub mod ReadFaults
 pub mod Refusals
 pub mod Statuses
 pub mod Subjects
+pub mod Verdicts
 pub mod Words
 pub mod Writing

@@ -1,8 +1,9 @@
 -- The faults that reads met. Lists of faults have the name of the file for each fault, in order.
 use Rattle.std.specs.Prelude.{◌≡◌, ◌⊎◌, ℕ, List}
 use Rattle.outside_io.specs.Faults.{CountRose, NameFailed, OnlyFailed}
-use Rattle.sched_tool.specs.declared.refusal.Refusal.{Refusal}
-use Rattle.sched_tool.specs.declared.refusal.Refusal.TheVariants.{Usage, CannotRead, Script, Table, OutOfMemory}
+use Rattle.sched_tool.specs.declared.program.refusal.Refusal.{Refusal}
+use Rattle.sched_tool.specs.declared.program.refusal.Refusal.TheVariants.{Usage, CannotRead, Script}
+use Rattle.sched_tool.specs.declared.program.refusal.Refusal.TheVariants.{Table, OutOfMemory}
 
 -- reads met a fault only if the refusal names a file, and then just one, of that file
 abbrev pub FaultsAt : Refusal → List (List ℕ) → List (List ℕ) → Type 0

@@ -9,15 +9,17 @@ use Rattle.plan_ast.specs.declared.refusals.PlanRefusal.{PlanRefusal}
 use Rattle.plan_ast.specs.declared.refusals.PlanRefusal.TheVariants as plan
 use Rattle.sched_tool.specs.Outsides.{Contents}
 use Rattle.script_json.specs.Scripts.{RefusesScript}
-use Rattle.sched_tool.specs.Subjects.{AllAnswerable, Holds, HoldsSubject, HoldsTooMuch, IsNext, IsNextTable, IsRead}
+use Rattle.sched_tool.specs.Subjects.{AllAnswerable, Holds, HoldsSubject, HoldsTooMuch, IsNext}
+use Rattle.sched_tool.specs.Subjects.{IsNextTable, IsRead}
 use Rattle.script_json.specs.declared.refusal.ScriptRefusal.TheVariants as script
 use Rattle.script_json.specs.declared.script.TableEntry.{TableEntry}
-use Rattle.sched_tool.specs.declared.refusal.ScriptFault.{ScriptFault}
-use Rattle.sched_tool.specs.declared.refusal.ScriptFault.TheVariants as script_fault
-use Rattle.sched_tool.specs.declared.refusal.TableFault.{TableFault}
-use Rattle.sched_tool.specs.declared.refusal.TableFault.TheVariants as table_fault
-use Rattle.sched_tool.specs.declared.refusal.Refusal.{Refusal}
-use Rattle.sched_tool.specs.declared.refusal.Refusal.TheVariants.{Usage, CannotRead, Script, Table, OutOfMemory}
+use Rattle.sched_tool.specs.declared.program.refusal.ScriptFault.{ScriptFault}
+use Rattle.sched_tool.specs.declared.program.refusal.ScriptFault.TheVariants as script_fault
+use Rattle.sched_tool.specs.declared.program.refusal.TableFault.{TableFault}
+use Rattle.sched_tool.specs.declared.program.refusal.TableFault.TheVariants as table_fault
+use Rattle.sched_tool.specs.declared.program.refusal.Refusal.{Refusal}
+use Rattle.sched_tool.specs.declared.program.refusal.Refusal.TheVariants.{Usage, CannotRead, Script}
+use Rattle.sched_tool.specs.declared.program.refusal.Refusal.TheVariants.{Table, OutOfMemory}
 
 -- the first query that can't be answered has this number, and this is why
 pub record IsFirstRefused (subject : Subject) (number : ℕ) (refusal : PlanRefusal) : Type 0 where
@@ -68,10 +70,7 @@ AreTablesRefused holds entries refusal = (refusal ≡ OutOfMemory)
 -- the refusal of `check` that a refused query brings
 abbrev pub query_refusal : ℕ → PlanRefusal → Refusal
 query_refusal number plan.OutOfMemory = OutOfMemory
-query_refusal number (plan.UnknownTable name) =
-    Script (script_fault.Query number (plan.UnknownTable name))
-query_refusal number (plan.UnknownColumn name) =
-    Script (script_fault.Query number (plan.UnknownColumn name))
+query_refusal number refusal = Script (script_fault.Query number refusal)
 
 -- why the queries of a subject are refused: the first that is, or memory ran out
 abbrev pub AreQueriesRefused : Subject → Refusal → Type 0

@@ -6,9 +6,10 @@ use Rattle.outside_io.specs.Pieces.{AppendsPrefix}
 use Rattle.sched_tool.specs.Behaviours.{Behaviour}
 use Rattle.sched_tool.specs.ErrorLines.{error_bytes}
 use Rattle.sched_tool.specs.ReadFaults.{FaultsAt}
-use Rattle.sched_tool.specs.Statuses.{status_of}
-use Rattle.sched_tool.specs.declared.refusal.Refusal.{Refusal}
-use Rattle.sched_tool.specs.declared.refusal.Refusal.TheVariants.{Usage, CannotRead, Script, Table, OutOfMemory}
+use Rattle.sched_tool.specs.Statuses.{status_of, write_status}
+use Rattle.sched_tool.specs.declared.program.refusal.Refusal.{Refusal}
+use Rattle.sched_tool.specs.declared.program.refusal.Refusal.TheVariants.{Usage, CannotRead, Script}
+use Rattle.sched_tool.specs.declared.program.refusal.Refusal.TheVariants.{Table, OutOfMemory}
 
 -- the bytes written to a sink, if they are known, and the count of its faults
 pub record SinkState : Type 0 where
@@ -20,11 +21,12 @@ abbrev pub WritesOne : (List ℕ → Type 0) → Option (List ℕ) → Option (L
 WritesOne IsText old new = (text : List ℕ) × IsText text × Appends old new text
 
 -- the text was written, and this is its status; or one write failed, after a beginning of the text,
--- and the status is 4
+-- and the status says so
 abbrev pub IsWritten : SinkState → SinkState → List ℕ → ℕ → ℕ → Type 0
 IsWritten old new text status result =
     ((result ≡ status) × Appends old.written new.written text × (new.faults ≡ old.faults))
-    ⊎ ((result ≡ 4) × AppendsPrefix old.written new.written text × CountedOne old.faults new.faults)
+    ⊎ ((result ≡ write_status) × AppendsPrefix old.written new.written text
+    × CountedOne old.faults new.faults)
 
 -- a refusal was told by its line, or, if memory ran out for that, by the line that says so
 pub record IsRefusalWritten (old new : SinkState) (refusal : Refusal) (result : ℕ) : Type 0 where

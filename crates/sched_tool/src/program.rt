@@ -1,25 +1,34 @@
 //! The program's end: it ends with the status that its command answers, and with no other.
-ghost use Rattle.std.specs.Prelude.{◌≡◌, ◌∷◌, [], ℕ, List, Contains};
-ghost use Rattle.std.specs.Io.KnownBytes.{Appends};
-ghost use Rattle.outside_io.specs.Faults.{CountedOne, OnlyFailed};
-ghost use Rattle.outside_io.specs.Pieces.{AppendsPrefix};
+ghost use Rattle.std.specs.Prelude.{◌≡◌, ℕ, List};
 ghost use Rattle.std.specs.Process.{exit_status};
 ghost use Rattle.sched_tool.specs.Commands.{behaviour_asked};
+ghost use Rattle.sched_tool.specs.Endings.{EndsRightly};
 ghost use Rattle.sched_tool.specs.ErrorLines.{error_bytes};
-ghost use Rattle.sched_tool.specs.Outsides.{possible};
+ghost use Rattle.sched_tool.specs.Outsides.{known, possible};
 ghost use Rattle.sched_tool.specs.Programs.{end_status, words_in};
-ghost use Rattle.sched_tool.specs.Statuses.{statuses};
-ghost use Rattle.sched_tool.specs.Writing.{IsMemoryText, IsTextOf, TellsRefusal, WritesOne};
-ghost use Rattle.sched_tool.specs.declared.refusal.Refusal.{Refusal};
+ghost use Rattle.sched_tool.specs.Statuses.{memory_status};
+ghost use Rattle.sched_tool.specs.Writing.{IsWritten};
+ghost use Rattle.sched_tool.specs.declared.program.given.GivenWords.{GivenWords};
+ghost use Rattle.sched_tool.specs.declared.program.refusal.Refusal.{Refusal};
 
-use super::command::{command, end_without_memory};
-use outside_io::{Files, Meter, Sink};
-use std::alloc::Global;
-use std::io;
-use std::process::{ExitCode, Termination};
-
+mod check;
+mod command;
+mod error_lines;
+mod given;
+mod laws;
+mod output;
+mod refusal;
+mod status;
+mod subject;
 #[cfg(test)]
 mod tests;
+mod words;
+
+use command::{command, end_without_memory};
+pub use given::GivenWords;
+use outside_io::{Files, Meter, Sink};
+use std::alloc::Global;
+use std::process::{ExitCode, Termination};
 
 /// The end of the program. `main` answers one and can't make one, so the process ends with the
 /// status that `run_program` answered.
@@ -36,40 +45,38 @@ impl Termination for Ended {
     }
 }
 
-/// Runs the command that the words ask for. Words that are not UTF-8 (`InvalidData`) are outside
-/// the grammar, as no words at all are. Any other error of the words is that memory ran out.
+/// Runs the command that the words ask for, and promises what `command` promises. Words that are
+/// not UTF-8 are outside the grammar, as no words at all are. If there is no memory for the words,
+/// the line that says so is written.
 pub fn run_program<F: Files, S: Sink, M: Meter>(
     alloc: Global,
-    words: io::Result<Vec<String>>,
+    words: GivenWords,
     files: &mut F,
     out: &mut S,
     meter: &mut M,
 ) -> Ended
-    // What each status says is what it says of `command`.
-    ensures answered { end_status result ≡ 0 → WritesOne
-        (behaviour_asked (possible (F.content files.old) M.may_take) (words_in words)).answers
-        (S.written out.old) (S.written out.new) }
-    ensures refused { Contains (2 ∷ 5 ∷ 6 ∷ []) (end_status result) → TellsRefusal
+    ensures ends { EndsRightly
         (behaviour_asked (possible (F.content files.old) M.may_take) (words_in words))
-        (S.written out.old) (S.written out.new) (end_status result) }
-    ensures cannot_read { end_status result ≡ 3 → (file : List ℕ)
-        × (behaviour_asked (possible (F.content files.old) M.may_take) (words_in words)).reads file
-        × OnlyFailed (F.failed files.old) (F.failed files.new) file
-        × Appends (S.written out.old) (S.written out.new) (error_bytes (Refusal.CannotRead file)) }
-    ensures cannot_write { end_status result ≡ 4 → CountedOne (S.faults out.old) (S.faults out.new)
-        × ((text : List ℕ)
-        × IsTextOf (behaviour_asked (possible (F.content files.old) M.may_take) (words_in words))
-        (F.failed files.old) (F.failed files.new) text
-        × AppendsPrefix (S.written out.old) (S.written out.new) text) }
-    ensures memory { end_status result ≡ 7 → WritesOne (IsMemoryText
-        (behaviour_asked (possible (F.content files.old) M.may_take) (words_in words)))
-        (S.written out.old) (S.written out.new) }
-    ensures statuses { Contains statuses (end_status result) }
+        (behaviour_asked (known (F.content files.old) M.may_take) (words_in words))
+        (F.failed files.old) (F.failed files.new)
+        (record { written = S.written out.old; faults = S.faults out.old })
+        (record { written = S.written out.new; faults = S.faults out.new })
+        (end_status result) }
+    ensures memory { words ≡ GivenWords.OutOfMemory → IsWritten
+        (record { written = S.written out.old; faults = S.faults out.old })
+        (record { written = S.written out.new; faults = S.faults out.new })
+        (error_bytes Refusal.OutOfMemory) memory_status (end_status result) }
+    ensures kept { (any : List ℕ) → F.content files.new any ≡ F.content files.old any }
 {
-    let status = match words {
-        Ok(words) => command(alloc, words.as_slice(), files, out, meter),
-        Err(e) if e.kind() == io::ErrorKind::InvalidData => command(alloc, &[], files, out, meter),
-        Err(_) => end_without_memory(out),
-    };
-    Ended { status }
+    match words {
+        GivenWords::Words(words) => Ended {
+            status: command(alloc, words.as_slice(), files, out, meter),
+        },
+        GivenWords::NotText => Ended {
+            status: command(alloc, &[], files, out, meter),
+        },
+        GivenWords::OutOfMemory => Ended {
+            status: end_without_memory(out),
+        },
+    }
 }

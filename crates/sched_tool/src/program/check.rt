@@ -2,7 +2,7 @@
 ghost use Rattle.std.specs.Prelude.{◌≡◌, ◌≤◌, ℕ, List, All, IfErr, IfOk, OnOk, length, map};
 ghost use Rattle.plan_ast.specs.Bounds.{IsInBounds};
 ghost use Rattle.plan_ast.specs.Checks.{IsCheckedFor, query_of};
-ghost use Rattle.sched_tool.specs.Behaviours.{OneAnswer, check_behaviour, check_text, replies_of};
+ghost use Rattle.sched_tool.specs.Behaviours.{check_behaviour, check_text, replies_of};
 ghost use Rattle.sched_tool.specs.Commands.{Gives, GivesUp};
 ghost use Rattle.sched_tool.specs.Outsides.{may_hold};
 ghost use Rattle.sched_tool.specs.Refusals.{AreQueriesRefused, query_refusal};
@@ -37,11 +37,6 @@ pub fn check_script<F: Files>(alloc: Global, files: &mut F, file: &str) -> Resul
     let text = text_of(alloc, tables.as_slice(), checked.as_slice())?;
     Ok(Output::whole(text))
 }
-
-/// An accepted script has one answer if the contents of its files are known.
-pub fn one_answer()
-    ensures { OneAnswer }
-{}
 
 // Checks each query against the tables, in order.
 fn check_queries(

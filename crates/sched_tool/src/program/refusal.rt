@@ -43,7 +43,7 @@ pub enum Refusal {
 }
 
 impl From<AllocError> for Refusal {
-    ghost use Rattle.sched_tool.specs.declared.refusal.Refusal.TheVariants.{OutOfMemory};
+    ghost use Rattle.sched_tool.specs.declared.program.refusal.Refusal.TheVariants.{OutOfMemory};
 
     ghost from_gives = { λ _ refusal. refusal ≡ OutOfMemory };
 
@@ -53,7 +53,7 @@ impl From<AllocError> for Refusal {
 }
 
 impl<T: Drop> From<AllocFailed<T>> for Refusal {
-    ghost use Rattle.sched_tool.specs.declared.refusal.Refusal.TheVariants.{OutOfMemory};
+    ghost use Rattle.sched_tool.specs.declared.program.refusal.Refusal.TheVariants.{OutOfMemory};
 
     ghost from_gives = { λ _ refusal. refusal ≡ OutOfMemory };
 

@@ -1,9 +1,12 @@
 //! Tests of `command`: worked words, scripts, queries and tables; limits; failing reads and writes.
+//! And of `run_program`: how it ends by the words that it was given or couldn't get.
 ghost use Rattle.std.specs.Prelude.{◌≤◌, length};
 
 use super::command::command;
+use super::{Ended, GivenWords, run_program};
 use outside_io::{CostMeter, MemFiles, MemSink};
 use std::alloc::{AllocError, Global};
+use std::io;
 use std::process::Abort;
 use std::test::Fail;
 
@@ -443,6 +446,15 @@ fn refuses_a_row_too_many(rt: HostRuntime) -> Result<(), Fail> {
     check_ends(&rt, SCRIPT.as_bytes(), table.as_bytes(), 6, text)
 }
 
+// A script that sums one column of one table.
+fn sum_script(alloc: Global, table: &str, file: &str, column: &str) -> Result<String, AllocError> {
+    let entry = format!(in alloc; "{{\"name\":\"{table}\",\"file\":\"{file}\"}}")?;
+    let query = format!(in alloc;
+        "{{\"scan\":\"{table}\",\"output\":{{\"totals\":[{{\"fn\":\"sum\",\"col\":\"{column}\"}}]}}}}"
+    )?;
+    script_of(alloc, entry.as_str(), query.as_str())
+}
+
 #[test]
 fn limits_the_bytes_of_names(rt: HostRuntime) -> Result<(), Fail> {
     let alloc = rt.alloc();
@@ -457,16 +469,87 @@ fn limits_the_bytes_of_names(rt: HostRuntime) -> Result<(), Fail> {
         let file = repeated(alloc, "", "f", file)?;
         let name = repeated(alloc, "", "t", table)?;
         let column = repeated(alloc, "", "c", column)?;
-        let entry = format!(in alloc; "{{\"name\":\"{name}\",\"file\":\"{file}\"}}")?;
-        let query = format!(in alloc;
-            "{{\"scan\":\"{name}\",\"output\":{{\"totals\":[{{\"fn\":\"sum\",\"col\":\"v\"}}]}}}}"
-        )?;
-        let script = script_of(alloc, entry.as_str(), query.as_str())?;
+        let script = sum_script(alloc, name.as_str(), file.as_str(), "v")?;
         let rows = format!(in alloc; "v,{column}\n1,2\n")?;
         let mut files = files_of(alloc, script.as_bytes(), b"", &[])?;
         add(alloc, &mut files, file.as_str(), rows.as_bytes())?;
         let words = ["check", "s.json"];
         ends(&rt, &words, &mut files, ALL_WRITES, status, text)?;
+    }
+    Ok(())
+}
+
+// Names with characters of two and three bytes, and with U+0080, which is no ASCII control character.
+#[test]
+fn takes_names_of_many_bytes(rt: HostRuntime) -> Result<(), Fail> {
+    let alloc = rt.alloc();
+    let table = "größe,€\n1,10\n2,25\n";
+    let cases = [
+        (
+            "größe.csv",
+            "tä",
+            "€",
+            0,
+            "query 0 lines 1\ntotal 35\nend\n",
+        ),
+        (
+            "größe.csv",
+            "t\u{80}",
+            "größe",
+            0,
+            "query 0 lines 1\ntotal 3\nend\n",
+        ),
+        (
+            "größe.csv",
+            "tä",
+            "ß",
+            5,
+            "error: script: query 0: unknown column ß\n",
+        ),
+        (
+            "größen.csv",
+            "tä",
+            "€",
+            3,
+            "error: cannot read größen.csv\n",
+        ),
+    ];
+    for (file, name, column, status, text) in cases {
+        let script = sum_script(alloc, name, file, column)?;
+        let mut files = files_of(alloc, b"", b"", &[])?;
+        add(alloc, &mut files, "größe.csv", table.as_bytes())?;
+        add(alloc, &mut files, "größe.json", script.as_bytes())?;
+        let words = ["check", "größe.json"];
+        ends(&rt, &words, &mut files, ALL_WRITES, status, text)?;
+    }
+    Ok(())
+}
+
+#[test]
+fn ends_by_its_words(rt: HostRuntime) -> Result<(), Fail> {
+    let alloc = rt.alloc();
+    let check = vec![in alloc;
+        String::from_str(alloc, "check")?,
+        String::from_str(alloc, "s")?,
+    ]?;
+    let usage = "error: usage\n";
+    let memory = "error: out of memory\n";
+    let cases = [
+        (Ok(check), 3, "error: cannot read s\n"),
+        (Ok(Vec::new(alloc)), 2, usage),
+        (Err(io::ErrorKind::InvalidData), 2, usage),
+        (Err(io::ErrorKind::OutOfMemory), 7, memory),
+        (Err(io::ErrorKind::Other), 7, memory),
+    ];
+    for (words, status, text) in cases {
+        let words = GivenWords::of(words.map_err(io::Error::from));
+        let mut files = MemFiles::new(alloc, Vec::new(alloc));
+        let mut out = MemSink::new(alloc, 100, 100, Vec::new(alloc))?;
+        let mut meter = CostMeter::new();
+        let ended = run_program(alloc, words, &mut files, &mut out, &mut meter);
+        let Ended { status: answered } = ended;
+        assert_eq!(rt; out.written(), text.as_bytes(), "{text}");
+        assert_eq!(rt; answered, status, "{text}");
     }
     Ok(())
 }

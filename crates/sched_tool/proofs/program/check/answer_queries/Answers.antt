@@ -5,7 +5,7 @@ use Rattle.plan_ast.specs.declared.answers.Answer.{Answer}
 use Rattle.report_text.specs.declared.replies.QueryReply.{QueryReply}
 use Rattle.report_text.specs.declared.replies.Reply.TheVariants as reply
 use Rattle.sched_tool.proofs.QueriesLemmas.{replies_of-more}
-use Rattle.sched_tool.proofs.check.answer_queries.Goals as goal
+use Rattle.sched_tool.proofs.program.check.answer_queries.Goals as goal
 
 pub loop-query-preserved : goal.loop-query-preserved
 loop-query-preserved c =

@@ -8,7 +8,7 @@ use Rattle.sched_tool.specs.Refusals.{AreTablesRefused}
 use Rattle.sched_tool.specs.Subjects.{AllAnswerable, HoldsSubject, HoldTables}
 use Rattle.sched_tool.proofs.RefusalLemmas.{FaultsAt-queries, queries_refused, tables_refused}
 use Rattle.sched_tool.proofs.SubjectsLemmas.{same_content}
-use Rattle.sched_tool.proofs.check.check_script.Goals as goal
+use Rattle.sched_tool.proofs.program.check.check_script.Goals as goal
 
 pub text_of-requires-clause-placed : goal.text_of-requires-clause-placed
 text_of-requires-clause-placed g c =

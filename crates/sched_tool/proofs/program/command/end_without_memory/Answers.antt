@@ -1,8 +1,8 @@
 use Rattle.std.proofs.Common.{◌≡◌, subst}
 use Rattle.sched_tool.specs.Writing.{IsWritten, SinkState}
 use Rattle.sched_tool.specs.ErrorLines.{error_bytes}
-use Rattle.sched_tool.specs.declared.refusal.Refusal.TheVariants.{OutOfMemory}
-use Rattle.sched_tool.proofs.command.end_without_memory.Goals as goal
+use Rattle.sched_tool.specs.declared.program.refusal.Refusal.TheVariants.{OutOfMemory}
+use Rattle.sched_tool.proofs.program.command.end_without_memory.Goals as goal
 
 pub returns : goal.returns
 returns g c =

@@ -1,8 +1,8 @@
 use Rattle.std.proofs.Common.{◌≡◌, inl, inr, refl, subst, ◌∙◌}
 use Rattle.sched_tool.specs.Writing.{IsWritten, SinkState}
 use Rattle.sched_tool.specs.ErrorLines.{error_bytes}
-use Rattle.sched_tool.specs.declared.refusal.Refusal.TheVariants.{OutOfMemory}
-use Rattle.sched_tool.proofs.command.write_refusal.Goals as goal
+use Rattle.sched_tool.specs.declared.program.refusal.Refusal.TheVariants.{OutOfMemory}
+use Rattle.sched_tool.proofs.program.command.write_refusal.Goals as goal
 
 pub returns-in-Ok : goal.returns-in-Ok
 returns-in-Ok g c =

@@ -1,6 +1,6 @@
 use Rattle.std.proofs.Common.{◌≡◌, ◌<◌, IfSome, length, refl, subst}
 use Rattle.sched_tool.proofs.SubjectsLemmas.{holds_too_much}
-use Rattle.sched_tool.proofs.subject.open_table.Goals as goal
+use Rattle.sched_tool.proofs.program.subject.open_table.Goals as goal
 
 pub returns-in-Err-TooLong-clause-err : goal.returns-in-Err-TooLong-clause-err
 returns-in-Err-TooLong-clause-err g c =

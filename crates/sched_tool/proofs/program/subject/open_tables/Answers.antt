@@ -7,7 +7,7 @@ use Rattle.sched_tool.specs.ReadFaults.{FaultsAt}
 use Rattle.sched_tool.specs.Refusals.{IsEntryRefused}
 use Rattle.sched_tool.specs.Subjects.{HoldsTable, HoldTables}
 use Rattle.sched_tool.proofs.SubjectsLemmas.{HoldTables-push, same_content}
-use Rattle.sched_tool.proofs.subject.open_tables.Goals as goal
+use Rattle.sched_tool.proofs.program.subject.open_tables.Goals as goal
 
 pub returns-in_err-open_table-clause-faults : goal.returns-in_err-open_table-clause-faults
 returns-in_err-open_table-clause-faults g c =

@@ -2,7 +2,7 @@ use Rattle.std.proofs.Common.{◌≡◌, ℕ, List, ◌++◌}
 use Rattle.std.specs.Vec.Iter.{into_iter_items}
 use Rattle.sched_tool.specs.Outsides.{may_hold}
 use Rattle.sched_tool.specs.Subjects.{HoldTables}
-use Rattle.sched_tool.proofs.subject.open_tables.Given as goal
+use Rattle.sched_tool.proofs.program.subject.open_tables.Given as goal
 
 abbrev pub invariant-loop-entry : goal.invariant-loop-entry
 invariant-loop-entry g l = record {

@@ -124,31 +124,36 @@ looked_at (Open t) = LookOpen t.id
 looked_at (Shut t end) = LookInvalid
 looked_at (Finishing id w held) = LookInvalid
 
--- the call of w with its answer, at a slot in the state x
+-- the call of the worker with its answer, by the slot that the call is about
 abbrev pub answer_at : Shape → ObjectState → ℕ → Call → SlotState → Act
-answer_at d S w (Entering s) x = Enter s
-answer_at d S w Looking x = looked_at x
-answer_at d S w (Claiming n) x = let t = task_of x in
+answer_at shape state worker (Entering s) slot = Enter s
+answer_at shape state worker Looking slot = looked_at slot
+answer_at shape state worker (Claiming n) slot = let t = task_of slot in
     cond (ltb t.cursor t.total) (ClaimRange n t.cursor (min t.total (t.cursor + n))) (ClaimUsed n)
-answer_at d S w Shutting x = cond (is_open x) ShutWon ShutLost
-answer_at d S w Leaving x = cond (owes x w) (LeaveOwe (id_of x)) LeaveLeft
-answer_at d S w Paying x =
-    cond (is_swept x && eqb (debts d (ended d w PayDone x)) 0) PayLast PayDone
-answer_at d S w MarkingNext x = cond (next_is_at d S (slot_of (S.places w)) x) MarkMarked MarkMissed
-answer_at d S w Sweeping x = cond (eqb (debts d x) 0) SweepLast (SweepOthers (debts d x))
-answer_at d S w (Reserving s) x = cond (is_empty x) (ReserveGot s) (ReserveTaken s (slot_word x))
-answer_at d S w (Admitting q) x = cond (eqb S.admitted q) (AdmitGot q) (AdmitLost q S.admitted)
-answer_at d S w AskingArrivals x = Arrivals S.admitted
-answer_at d S w AskingFinished x = Finished S.finished
-answer_at d S w (NotingDone n) x = NoteDone n
-answer_at d S w (SettingTotal n) x = SetTotal n
-answer_at d S w (Installing id) x = Install id
-answer_at d S w Releasing x = Release
-answer_at d S w AnnouncingNext x = Announce
-answer_at d S w (TakingReturn part) x =
-    TakeReturn part (mask_of 64 (λ k. S.returns w (part * 64 + k)))
-answer_at d S w (TakingChange part) x =
-    TakeChange part (mask_of 64 (λ k. S.changes w (part * 64 + k)))
+answer_at shape state worker Shutting slot = cond (is_open slot) ShutWon ShutLost
+answer_at shape state worker Leaving slot =
+    cond (owes slot worker) (LeaveOwe (id_of slot)) LeaveLeft
+answer_at shape state worker Paying slot =
+    cond (is_swept slot && eqb (debts shape (ended shape worker PayDone slot)) 0) PayLast PayDone
+answer_at shape state worker MarkingNext slot =
+    cond (next_is_at shape state (slot_of (state.places worker)) slot) MarkMarked MarkMissed
+answer_at shape state worker Sweeping slot =
+    cond (eqb (debts shape slot) 0) SweepLast (SweepOthers (debts shape slot))
+answer_at shape state worker (Reserving s) slot =
+    cond (is_empty slot) (ReserveGot s) (ReserveTaken s (slot_word slot))
+answer_at shape state worker (Admitting q) slot =
+    cond (eqb state.admitted q) (AdmitGot q) (AdmitLost q state.admitted)
+answer_at shape state worker AskingArrivals slot = Arrivals state.admitted
+answer_at shape state worker AskingFinished slot = Finished state.finished
+answer_at shape state worker (NotingDone n) slot = NoteDone n
+answer_at shape state worker (SettingTotal n) slot = SetTotal n
+answer_at shape state worker (Installing id) slot = Install id
+answer_at shape state worker Releasing slot = Release
+answer_at shape state worker AnnouncingNext slot = Announce
+answer_at shape state worker (TakingReturn part) slot =
+    TakeReturn part (mask_of 64 (λ k. state.returns worker (part * 64 + k)))
+answer_at shape state worker (TakingChange part) slot =
+    TakeChange part (mask_of 64 (λ k. state.changes worker (part * 64 + k)))
 
 -- the slot that a call is about
 abbrev pub call_site : Call → Place → ℕ

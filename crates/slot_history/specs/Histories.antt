@@ -56,9 +56,9 @@ pub record Morsel : Type 0 where
 
 -- one more if the call is a claim that got a range, by a worker that is inside with the id
 abbrev pub claims_after : ℕ → Act → Place → ℕ → List Morsel → List Morsel
-claims_after w (ClaimRange n from to) p id ms =
-    cond (is_inside p id) (record { worker = w; from = from; to = to } ∷ ms) ms
-claims_after w _ p id ms = ms
+claims_after worker (ClaimRange n from to) place id claims =
+    cond (is_inside place id) (record { worker = worker; from = from; to = to } ∷ claims) claims
+claims_after worker _ place id claims = claims
 
 -- the ranges that were claimed of an id, newest first
 abbrev pub claims_of : Shape → ℕ → List Entry → List Morsel

@@ -13,6 +13,7 @@
 --   n   a number: of tuples, of bits, ..     k      a number that a function or a set takes
 --   f   a set or a function                  B      a book
 --   P   a property
+-- A definition with more than four parameters names them in words.
 pub mod Sets
 pub mod States
 pub mod Steps

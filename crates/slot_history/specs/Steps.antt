@@ -225,17 +225,17 @@ dropped_at p records = upd records (slot_of p) (dropped (records (slot_of p)))
 -- the records of the worker that calls; the pending notices are those before the call
 abbrev pub records_after : Act → Place → (ℕ → Bool) → (ℕ → Bool)
     → (ℕ → NoticeRecord) → ℕ → NoticeRecord
-records_after (LookOpen id) p changes returns records =
-    upd records (slot_of p) (looked (id / STAGES) (records (slot_of p)))
-records_after LookInvalid p changes returns records = dropped_at p records
-records_after LookVacant p changes returns records = dropped_at p records
-records_after ShutWon p changes returns records = dropped_at p records
-records_after ShutLost p changes returns records = dropped_at p records
-records_after (TakeReturn part bits) p changes returns records =
+records_after (LookOpen id) place changes returns records =
+    upd records (slot_of place) (looked (id / STAGES) (records (slot_of place)))
+records_after LookInvalid place changes returns records = dropped_at place records
+records_after LookVacant place changes returns records = dropped_at place records
+records_after ShutWon place changes returns records = dropped_at place records
+records_after ShutLost place changes returns records = dropped_at place records
+records_after (TakeReturn part bits) place changes returns records =
     joined_by_return part returns records
-records_after (TakeChange part bits) p changes returns records =
+records_after (TakeChange part bits) place changes returns records =
     joined_by_change part changes records
-records_after _ p changes returns records = records
+records_after _ place changes returns records = records
 
 -- ---- the whole object
 
@@ -247,17 +247,19 @@ abbrev pub finished_after : Act → ℕ → ℕ
 finished_after (NoteDone more) n = n + more
 finished_after _ n = n
 
--- the state after a call of w, which is at p: one slot changes, one place, one worker's records,
--- and the notices of one worker; what is not named here stays
+-- The state after a call of the worker, which is at this place. One slot changes, one place, one
+-- worker's records, and the notices of one worker. What is not named here stays.
 abbrev pub next_at : Shape → ObjectState → ℕ → Act → Place → ObjectState
-next_at d S w a p = record {
-  slots = upd S.slots (site a p) (slot_after d w a (S.slots (site a p)));
-  places = upd S.places w (moved d a p);
-  changes = changes_after w a p S.changes;
-  returns = returns_after w a p S.returns;
-  records = upd S.records w (records_after a p (S.changes w) (S.returns w) (S.records w));
-  admitted = admitted_after a S.admitted;
-  finished = finished_after a S.finished;
+next_at shape state worker act place = record {
+  slots = upd state.slots (site act place)
+      (slot_after shape worker act (state.slots (site act place)));
+  places = upd state.places worker (moved shape act place);
+  changes = changes_after worker act place state.changes;
+  returns = returns_after worker act place state.returns;
+  records = upd state.records worker (records_after act place (state.changes worker)
+      (state.returns worker) (state.records worker));
+  admitted = admitted_after act state.admitted;
+  finished = finished_after act state.finished;
 }
 
 abbrev pub next : Shape → ObjectState → ℕ → Act → ObjectState

@@ -32,7 +32,7 @@ use Rattle.slot_station.specs.declared.log.Logged.{Logged}
 use Rattle.plain_slots.specs.declared.slot.Slot.{Slot}
 use Rattle.plain_slots.specs.declared.slot.Slot.TheVariants as Slots
 use Rattle.slot_station.specs.Answers.{finaliser_of, sweep_of, pay_of, mark_of}
-use Rattle.plain_slots.specs.Slots.{shown, OfEach, is_last, debts_in}
+use Rattle.plain_slots.specs.Slots.{shown, OfEach, pays_last, debts_in}
 use Rattle.plain_slots.specs.Objects.{HasSlots, HasDebts, IsObject}
 use Rattle.slot_station.specs.Replies.{sweep_act, pay_act, mark_act}
 use Rattle.slot_station.specs.Tokens.{IsHolder, SweepGives, PayGives}
@@ -114,7 +114,7 @@ sweep-gives d w p c r is = subst (λ m. SweepGives d w (moved d (sweep_act m) p)
 
 pay-cases : (o : Inside) (ok : Kept o) (w : ℕ) (p : Place) (k id : ℕ) → Spot o w Paying p k → p ≡ Owing k id → (t : TaskSet) (e : Ending)
     → (now_of o).slots k ≡ Shut t e → (c : ℕ) → c ≡ debts o.shape (ended o.shape w PayDone (Shut t e))
-    → (owing : List Bool) → owing ≡ set o.owing.items (k * o.shape.workers + w) false → (b : Bool) → is_last c (Shut t e) ≡ b → (y : Slot)
+    → (owing : List Bool) → owing ≡ set o.owing.items (k * o.shape.workers + w) false → (b : Bool) → pays_last c (Shut t e) ≡ b → (y : Slot)
     → y ≡ cond b (shown (finalised_by w (Shut t e))) (shown (Shut t e)) → (r : Pay) → r ≡ pay_of w p b → (a' : Act) → a' ≡ pay_act r
     → (places : List Place) (log : List Logged) → Wrote o w a' places log
     → IsObject (record (contents o) { slots = set o.slots.items k y; owing = owing; places = places; log = log })
@@ -153,8 +153,8 @@ pay-cases o ok w p k id s at t e is c counts owing sets false more y holds r ans
 
 pub pay-after : (o : Inside) (ok : Kept o) (w : ℕ) (p : Place) (k : ℕ) → Spot o w Paying p k → (owing : List Bool)
     → owing ≡ set o.owing.items (k * o.shape.workers + w) false → (c : ℕ) → c ≡ debts_in o.shape owing k
-    → (y : Slot) → OfEach (shown ((now_of o).slots k)) (λ x. is_shut x ≡ true → y ≡ cond (is_last c x) (shown (finalised_by w x)) (shown x))
-    → (r : Pay) → OfEach (shown ((now_of o).slots k)) (λ x. r ≡ pay_of w p (is_last c x)) → (a' : Act) → a' ≡ pay_act r
+    → (y : Slot) → OfEach (shown ((now_of o).slots k)) (λ x. is_shut x ≡ true → y ≡ cond (pays_last c x) (shown (finalised_by w x)) (shown x))
+    → (r : Pay) → OfEach (shown ((now_of o).slots k)) (λ x. r ≡ pay_of w p (pays_last c x)) → (a' : Act) → a' ≡ pay_act r
     → (places : List Place) (log : List Logged) → Wrote o w a' places log
     → IsObject (record (contents o) { slots = set o.slots.items k y; owing = owing; places = places; log = log })
 pay-after o ok w p k s owing sets c counted y holds r answers a' act places log wrote =
@@ -167,7 +167,7 @@ pay-after o ok w p k s owing sets c counted y holds r answers a' act places log 
     (debts-set d o.owing.items S.slots k w x' false ok.debts_are s.in_slots s.low (paid-clear d e w)
     (λ v h ne. owing-else d e v w ne ∙ ap (λ x. owes x v) (sym is))) in
     pay-cases o ok w p k id s at t e is c (counted ∙ row-count d owing (upd S.slots k x') k row s.in_slots ∙ ap (debts d) (upd-same S.slots k x')) owing
-    sets (is_last c (Shut t e)) refl y
+    sets (pays_last c (Shut t e)) refl y
     (holds (Shut t e) (ap shown (sym is)) refl) r (answers (Shut t e) (ap shown (sym is))) a' act places log wrote
 
 pay-holds : (d : Shape) (w : ℕ) (p : Place) (b : Bool) → PayGives d w (moved d (pay_act (pay_of w p b)) p) (pay_of w p b)

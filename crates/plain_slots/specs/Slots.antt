@@ -57,8 +57,8 @@ ClaimFrom x n (Some r) = let task = state.task_of x in
     (r.0 ≡ task.cursor) × (r.0 < task.total) × (r.1 ≡ min task.total (r.0 + n))
 
 -- a payment is the last where so many other workers have to pay, if the slot was swept
-abbrev pub is_last : ℕ → state.SlotState → Bool
-is_last debts x = state.is_swept x && eqb debts 0
+abbrev pub pays_last : ℕ → state.SlotState → Bool
+pays_last debts x = state.is_swept x && eqb debts 0
 
 -- how many workers have to pay at a slot, by the list of those that have to
 abbrev pub debts_in : Shape → List Bool → ℕ → ℕ

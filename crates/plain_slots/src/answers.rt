@@ -7,18 +7,17 @@ ghost use Rattle.slot_history.specs.Steps as steps;
 ghost use Rattle.slot_station.specs.Answers.{mark_of, sweep_of, pay_of, reserve_of, admit_of};
 ghost use Rattle.slot_station.specs.Log.{call};
 ghost use Rattle.slot_station.specs.Places.{IsCounted};
-ghost use Rattle.plain_slots.specs.Slots.{shown, OfEach, OfPlace, is_last, debts_in, words_told, CanTell};
+ghost use Rattle.plain_slots.specs.Slots.{shown, OfEach, OfPlace, pays_last, debts_in, words_told, CanTell};
 
 use crate::slot::{Slot, id_in, is_swept, sweep_in, word_in};
 use slot_history::act::{Act, Entry};
 use slot_history::place::Place;
 use slot_history::shape::Shape;
-use slot_station::answers::{cell_index, finaliser, mask_index};
+use slot_station::answers::{cell_index, finaliser, mask_index, reserver};
 use slot_station::ghost_list::GhostList;
 use slot_station::log::Logged;
 use slot_station::moves::place_after;
 use slot_station::reply::{Admit, Mark, Pay, Reserve, Sweep};
-use slot_station::token::Holder;
 
 /// Puts the worker to its next place and notes its call.
 pub(crate) fn step(
@@ -84,9 +83,9 @@ pub(crate) fn swept_by(worker: u32, place: &Place, slot: &mut Slot, debts: u32) 
 
 /// Pays at a slot at which so many other workers have to pay.
 pub(crate) fn paid_by(worker: u32, place: &Place, slot: &mut Slot, debts: u32) -> Pay
-    ensures pay { OfEach slot.old (λ x. result ≡ pay_of worker place.now (is_last debts x)) }
+    ensures pay { OfEach slot.old (λ x. result ≡ pay_of worker place.now (pays_last debts x)) }
     ensures slot { OfEach slot.old (λ x. states.is_shut x ≡ true
-        → slot.new ≡ cond (is_last debts x) (shown (steps.finalised_by worker x)) (shown x)) }
+        → slot.new ≡ cond (pays_last debts x) (shown (steps.finalised_by worker x)) (shown x)) }
 {
     if is_swept(slot) && debts == 0 {
         *slot = Slot::Finishing(id_in(slot));
@@ -105,13 +104,7 @@ pub(crate) fn reserved_by(worker: u32, s: u32, slot: &mut Slot) -> Reserve
     match slot {
         Slot::Empty => {
             *slot = Slot::Reserved;
-            Reserve::Got(Holder {
-                worker,
-                slot: s,
-                query: None,
-                stage: 0,
-                again: false,
-            })
+            Reserve::Got(reserver(worker, s))
         }
         _ => Reserve::Taken(word_in(slot)),
     }
@@ -132,7 +125,7 @@ pub(crate) fn admit_at(admitted: &mut u32, q: u32) -> Admit
 }
 
 /// Gives the next worker that an announcer tells a notice of its slot.
-pub(crate) fn tell_at(place: &Place, returns: &mut Vec<u64>, changes: &mut Vec<u64>)
+pub(crate) fn announce_at(place: &Place, returns: &mut Vec<u64>, changes: &mut Vec<u64>)
     requires returns { CanTell place.now (length returns.old.items) }
     requires changes { CanTell place.now (length changes.old.items) }
     ensures returns { returns.new.items ≡ words_told true place.now returns.old.items }

@@ -1,12 +1,16 @@
 //! The object on one thread as the states of its slots and workers: what is kept of it at run time,
 //! and each call's step.
-use crate::answers::{admit_at, debts_at, mark_if, paid_by, reserved_by, step, swept_by, tell_at};
+use crate::answers::{
+    admit_at, announce_at, debts_at, mark_if, paid_by, reserved_by, step, swept_by,
+};
 use crate::slot::{Slot, Work, claim_in, id_in, seen_in, shut_in};
 use one_thread::object::SlotObject;
 use slot_history::act::Act;
 use slot_history::place::Place;
 use slot_history::shape::{PARTS, Shape};
-use slot_station::answers::{cell_index, claimed_by, left_by, mask_index, next_to_ask, shut_by};
+use slot_station::answers::{
+    announcer, cell_index, claimed_by, left_by, mask_index, nth_other, shut_by,
+};
 use slot_station::ghost_list::GhostList;
 use slot_station::log::{Exchange, Logged};
 use slot_station::moves::{held_at, is_at, slot_at};
@@ -168,7 +172,10 @@ impl SlotObject for PlainObject {
     fn mark_next(&mut self, worker: u32) -> Mark {
         let place = self.places[worker as usize];
         let s = slot_at(&place);
-        let next = next_to_ask(worker, &place);
+        let Place::Asking(_, _, asked, _) = place else {
+            unreachable!()
+        };
+        let next = nth_other(worker, asked);
         let is_there = is_at(&self.places[next as usize], s);
         let owes = &mut self.owing[cell_index(&self.shape, s, next)];
         let mark = mark_if(is_there, owes);
@@ -284,10 +291,9 @@ impl SlotObject for PlainObject {
 
     fn install(&mut self, worker: u32, id: u32) -> Announcer {
         let place = self.places[worker as usize];
-        let held = held_at(&place);
         self.slots[slot_at(&place) as usize] = Slot::Open(Work {
             id,
-            total: held.total.unwrap_or(0),
+            total: held_at(&place).total.unwrap_or(0),
             next: 0,
         });
         step(
@@ -297,13 +303,7 @@ impl SlotObject for PlainObject {
             worker,
             &Act::Install(id),
         );
-        Announcer {
-            worker,
-            slot: slot_at(&place),
-            workers: self.shape.workers,
-            told: 0,
-            again: held.again,
-        }
+        announcer(worker, &place, &self.shape)
     }
 
     fn release(&mut self, worker: u32) {
@@ -320,7 +320,7 @@ impl SlotObject for PlainObject {
 
     fn announce(&mut self, worker: u32) {
         let place = self.places[worker as usize];
-        tell_at(&place, &mut self.returns, &mut self.changes);
+        announce_at(&place, &mut self.returns, &mut self.changes);
         step(
             &self.shape,
             &mut self.places,

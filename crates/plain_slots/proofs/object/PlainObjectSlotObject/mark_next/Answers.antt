@@ -1,4 +1,6 @@
-use Rattle.std.proofs.Common.{◌≡◌, ◌+◌, ◌*◌, ◌<◌, slice_get, sym, ap, ◌∙◌, subst}
+use Rattle.std.proofs.Common.{◌≡◌, ℕ, ◌+◌, ◌*◌, ◌<◌, slice_get, sym, ap, ◌∙◌, subst}
+use Rattle.slot_history.specs.declared.place.Place.{Place}
+use Rattle.slot_history.specs.declared.place.Place.TheVariants.{Asking}
 use Rattle.slot_history.specs.Calls.{MarkingNext}
 use Rattle.slot_history.specs.States.{is_at}
 use Rattle.slot_history.specs.Table.{nth_other}
@@ -7,12 +9,18 @@ use Rattle.plain_slots.proofs.Endings.{asks-at, next-worker, mark-after}
 use Rattle.plain_slots.proofs.Following.{read, spot, place-is, place-index, counted-at, counted-then, makes}
 use Rattle.plain_slots.proofs.object.PlainObjectSlotObject.mark_next.Goals as goal
 
+-- the number asked, as the place says it
+asked-is : (w : ℕ) {p : Place} {s id n m t jd k l : ℕ} → p ≡ Asking s id n m → p ≡ Asking t jd k l → nth_other w n ≡ nth_other w k
+asked-is w {s = s} {id = id} {n = n} {m = m} {t = t} {jd = jd} {k = k} {l = l} one other =
+    let e : Asking s id n m ≡ Asking t jd k l = sym one ∙ other in
+    let asked : n ≡ k = cc in ap (nth_other w) asked
+
 pub index-requires-2 : goal.index-requires-2
 index-requires-2 c =
     let s = spot c.self.inside c.self.invariant _ c.self.view_is c.args.worker MarkingNext tt c.requires _ c.index.ensures _ c.slot_at-s.ensures in
     let (id, n, m, at, more) = asks-at c.self.inside c.args.worker c.index.result.now c.slot_at-s.result s in
-    place-index c.self.inside c.self.invariant c.next_to_ask-next.result (subst (λ v. v < c.self.inside.shape.workers)
-    (sym (c.next_to_ask-next.ensures _ id n m at)) (next-worker c.self.inside c.args.worker c.index.result.now c.slot_at-s.result n s more))
+    place-index c.self.inside c.self.invariant c.nth_other-next.result (subst (λ v. v < c.self.inside.shape.workers)
+    (sym (c.nth_other-next.ensures ∙ asked-is c.args.worker c.in-Asking.is at)) (next-worker c.self.inside c.args.worker c.index.result.now c.slot_at-s.result n s more))
 
 pub index_mut-owes-requires : goal.index_mut-owes-requires
 index_mut-owes-requires c =
@@ -20,7 +28,7 @@ index_mut-owes-requires c =
     let (id, n, m, at, more) = asks-at c.self.inside c.args.worker c.index.result.now c.slot_at-s.result s in
     let low = next-worker c.self.inside c.args.worker c.index.result.now c.slot_at-s.result n s more in
     debt-index c.self.inside c.self.invariant c.slot_at-s.result (nth_other c.args.worker n) s.in_slots low c.cell_index.result
-    (c.cell_index.ensures ∙ ap (λ u. c.slot_at-s.result * c.self.inside.shape.workers + u) (c.next_to_ask-next.ensures _ id n m at))
+    (c.cell_index.ensures ∙ ap (λ u. c.slot_at-s.result * c.self.inside.shape.workers + u) (c.nth_other-next.ensures ∙ asked-is c.args.worker c.in-Asking.is at))
 
 pub step-requires-clause-counted : goal.step-requires-clause-counted
 step-requires-clause-counted c = counted-at c.self.inside c.self.invariant c.args.worker
@@ -33,11 +41,11 @@ invariant_of-self c =
     let s = spot c.self.inside c.self.invariant _ c.self.view_is c.args.worker MarkingNext tt c.requires _ c.index.ensures _ c.slot_at-s.ensures in
     let (id, n, m, at, more) = asks-at o c.args.worker c.index.result.now c.slot_at-s.result s in
     let v = nth_other c.args.worker n in
-    let is : c.next_to_ask-next.result ≡ v = c.next_to_ask-next.ensures _ id n m at in
+    let is : c.nth_other-next.result ≡ v = c.nth_other-next.ensures ∙ asked-is c.args.worker c.in-Asking.is at in
     let low = next-worker o c.args.worker c.index.result.now c.slot_at-s.result n s more in
     let index : c.cell_index.result ≡ c.slot_at-s.result * o.shape.workers + v = c.cell_index.ensures ∙ ap
     (λ u. c.slot_at-s.result * o.shape.workers + u) is in
-    let there = read o.places.items c.next_to_ask-next.result _ c.index-2.result.now
+    let there = read o.places.items c.nth_other-next.result _ c.index-2.result.now
     (ap (λ u. slice_get o.places.items u) is ∙ place-is o ok v low) c.index-2.ensures in
     rw c.mark_if-mark.ensures.owes
     (mark-after o ok c.args.worker c.index.result.now c.slot_at-s.result id n m s at more

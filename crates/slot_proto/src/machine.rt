@@ -1,6 +1,6 @@
 //! The object as words on one thread, without its cells: each call reads one word and writes that
 //! word.
-ghost use Rattle.std.specs.Prelude.{◌≡◌, ℕ, ◌<◌};
+ghost use Rattle.std.specs.Prelude.{◌≡◌, ℕ, ◌<◌, ◌^◌};
 ghost use Rattle.slot_history.specs.Bounds.{IsPlaceWithin};
 ghost use Rattle.slot_history.specs.Calls.{Call};
 ghost use Rattle.slot_station.specs.Places.{IsCounted};
@@ -17,9 +17,10 @@ use one_thread::object::SlotObject;
 use slot_history::act::{Act, Entry};
 use slot_history::place::Place;
 use slot_history::shape::Shape;
+use slot_station::answers::announcer;
 use slot_station::ghost_list::GhostList;
 use slot_station::log::{Exchange, Logged};
-use slot_station::moves::{held_at, id_at, place_after, slot_at};
+use slot_station::moves::{id_at, place_after, slot_at};
 use slot_station::reply::{Admit, Claim, Leave, Look, Mark, Pay, Reserve, Shut, Sweep};
 use slot_station::token::Announcer;
 use slot_words::address::{Address, index};
@@ -74,6 +75,15 @@ impl Machine {
             → IsSmall (answer_of c (place_now self.now worker) result) }
     {
         self.words[index(&self.shape, address)]
+    }
+
+    /// What a call finds in a word whose content it answers as a number.
+    fn number(&self, worker: u32, address: Address) -> u32
+        requires { (c : Call) × IsCallOn self.now worker c address
+            × ((n : ℕ) → IsSmall (answer_of c (place_now self.now worker) n) → n < 2 ^ 32) }
+        ensures { result ≡ word_at self.now.shape self.now.words address }
+    {
+        self.found(worker, address) as u32
     }
 
     /// The one atomic step of a call: its word becomes `new`, its worker goes to its next place,
@@ -230,16 +240,16 @@ impl SlotObject for Machine {
     }
 
     fn arrivals(&mut self, worker: u32) -> u32 {
-        let found = self.found(worker, Address::ArrivalsAt);
-        let admitted = found as u32;
-        self.step(worker, Address::ArrivalsAt, found, &Act::Arrivals(admitted));
+        let admitted = self.number(worker, Address::ArrivalsAt);
+        let same = u64::from(admitted);
+        self.step(worker, Address::ArrivalsAt, same, &Act::Arrivals(admitted));
         admitted
     }
 
     fn finished(&mut self, worker: u32) -> u32 {
-        let found = self.found(worker, Address::FinishedAt);
-        let finished = found as u32;
-        self.step(worker, Address::FinishedAt, found, &Act::Finished(finished));
+        let finished = self.number(worker, Address::FinishedAt);
+        let same = u64::from(finished);
+        self.step(worker, Address::FinishedAt, same, &Act::Finished(finished));
         finished
     }
 
@@ -258,13 +268,7 @@ impl SlotObject for Machine {
         let place = self.worker_place(worker);
         let state = Address::StateOf(slot_at(&place));
         self.step(worker, state, open_word(id), &Act::Install(id));
-        Announcer {
-            worker,
-            slot: slot_at(&place),
-            workers: self.shape.workers,
-            told: 0,
-            again: held_at(&place).again,
-        }
+        announcer(worker, &place, &self.shape)
     }
 
     fn release(&mut self, worker: u32) {

@@ -8,18 +8,19 @@ ghost use Rattle.slot_history.specs.declared.shape.TheConstants.{MOST_WORKERS};
 ghost use Rattle.slot_history.specs.declared.place.Place.{Place};
 ghost use Rattle.slot_history.specs.States.{slot_of};
 ghost use Rattle.slot_history.specs.Steps.{moved};
-ghost use Rattle.slot_history.specs.Table.{nth_other};
-ghost use Rattle.slot_station.specs.Replies.{look_act, claim_act, shut_act, leave_act, mark_act, sweep_act, pay_act, reserve_act, admit_act};
-ghost use Rattle.slot_station.specs.Tokens.{ClaimGives, ShutGives, LeaveGives, SweepGives, PayGives, ReserveGives};
+ghost use Rattle.slot_history.specs.Table as table;
+ghost use Rattle.slot_station.specs.Replies.{look_act, claim_act, shut_act, leave_act, mark_act};
+ghost use Rattle.slot_station.specs.Replies.{sweep_act, pay_act, reserve_act, admit_act};
+ghost use Rattle.slot_station.specs.Tokens.{ClaimGives, ShutGives, LeaveGives, SweepGives};
+ghost use Rattle.slot_station.specs.Tokens.{PayGives, ReserveGives};
 ghost use Rattle.slot_words.specs.Numbers.{IsSmall};
 ghost use Rattle.slot_words.specs.Steps as step;
 
 use slot_history::place::Place;
 use slot_history::shape::Shape;
-use slot_station::answers::{claimed_by, finaliser, left_by, shut_by};
+use slot_station::answers::{claimed_by, finaliser, left_by, nth_other, reserver, shut_by};
 use slot_station::moves::slot_at;
 use slot_station::reply::{Admit, Claim, Leave, Look, Mark, Pay, Reserve, Shut, Sweep};
-use slot_station::token::Holder;
 use slot_words::address::Address;
 
 /// The counter's word at 0.
@@ -125,13 +126,7 @@ pub fn reserve_read(word: u64, worker: u32, s: u32) -> Reserve
         → ReserveGives d worker (moved d (reserve_act s result) p) result }
 {
     if word == 0 {
-        Reserve::Got(Holder {
-            worker,
-            slot: s,
-            query: None,
-            stage: 0,
-            again: false,
-        })
+        Reserve::Got(reserver(worker, s))
     } else {
         Reserve::Taken(word)
     }
@@ -153,10 +148,9 @@ pub fn admit_read(word: u64, q: u32) -> Admit
 /// left out.
 pub fn next_to_ask(worker: u32, place: &Place) -> u32
     requires { step.asked_at place.now < MOST_WORKERS }
-    ensures { result ≡ nth_other worker (step.asked_at place.now) }
+    ensures { result ≡ table.nth_other worker (step.asked_at place.now) }
 {
-    let asked = asked_at(place);
-    if asked < worker { asked } else { asked + 1 }
+    nth_other(worker, asked_at(place))
 }
 
 /// How many others a coordinator at this place has asked; at another place 0.

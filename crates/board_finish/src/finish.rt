@@ -3,8 +3,10 @@
 ghost use Rattle.std.specs.Prelude.{◌≡◌, ◌+◌, ◌<◌, IfSome};
 ghost use Rattle.slot_station.specs.Cells.{fresh_note};
 ghost use Rattle.slot_station.specs.Desks.{CellSays, Exchanges, Makes, NextFits, Owns};
-ghost use Rattle.slot_station.specs.Replies.{shut_act, mark_act, sweep_act, pay_act, marked_coordinator};
-ghost use Rattle.slot_station.specs.Tokens.{IsCoordinator, IsDebt, IsHolder, IsSpent, PayGives, ShutGives, SweepGives};
+ghost use Rattle.slot_station.specs.Replies.{shut_act, mark_act, sweep_act};
+ghost use Rattle.slot_station.specs.Replies.{pay_act, marked_coordinator};
+ghost use Rattle.slot_station.specs.Tokens.{IsCoordinator, IsDebt, IsHolder, IsSpent};
+ghost use Rattle.slot_station.specs.Tokens.{PayGives, ShutGives, SweepGives};
 ghost use Rattle.board_rule.specs.Passes.{IsPassOf, seen_of};
 
 use board_rule::atomic::{WordOperation, step};

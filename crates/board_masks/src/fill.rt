@@ -1,7 +1,8 @@
 //! The calls of a worker that reserves and holds a slot. Each makes one atomic step, takes no
 //! memory and never waits.
 ghost use Rattle.std.specs.Prelude.{◌≡◌, ◌⊎◌, ◌+◌, ◌<◌, ◌≤◌, None, IsSome};
-ghost use Rattle.slot_history.specs.declared.act.Act.TheVariants.{NoteDone, SetTotal, Install, Release};
+ghost use Rattle.slot_history.specs.declared.act.Act.TheVariants.{NoteDone, SetTotal};
+ghost use Rattle.slot_history.specs.declared.act.Act.TheVariants.{Install, Release};
 ghost use Rattle.slot_history.specs.declared.place.Place.TheVariants.{Free};
 ghost use Rattle.slot_history.specs.declared.shape.TheConstants.{STAGES, MOST_TOTAL};
 ghost use Rattle.slot_history.specs.Allowed.{IsReady};
@@ -9,7 +10,8 @@ ghost use Rattle.slot_history.specs.States.{next_id};
 ghost use Rattle.slot_history.specs.Subject.{InstallsOf};
 ghost use Rattle.slot_station.specs.declared.note.Note.TheVariants.{Empty, Fresh};
 ghost use Rattle.slot_station.specs.Cells.{HasNoted};
-ghost use Rattle.slot_station.specs.Desks.{Makes, Owns, caller_of, own_holding, own_place, totals_of};
+ghost use Rattle.slot_station.specs.Desks.{Makes, Owns, caller_of};
+ghost use Rattle.slot_station.specs.Desks.{own_holding, own_place, totals_of};
 ghost use Rattle.slot_station.specs.Replies.{reserve_act, admit_act, admitted_holder};
 ghost use Rattle.slot_station.specs.Tokens.{IsAnnouncer, IsHolder, ReserveGives};
 ghost use Rattle.board_rule.specs.Passes.{IsPassOf, seen_of};

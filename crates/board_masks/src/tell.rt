@@ -1,7 +1,8 @@
 //! The calls of a worker that tells of a slot, takes its notices, or asks for the two numbers. Each
 //! makes one atomic step, takes no memory and never waits.
 ghost use Rattle.std.specs.Prelude.{◌≡◌, ◌+◌, ◌<◌};
-ghost use Rattle.slot_history.specs.declared.act.Act.TheVariants.{Arrivals, Finished, Announce, TakeReturn, TakeChange};
+ghost use Rattle.slot_history.specs.declared.act.Act.TheVariants.{Arrivals, Finished, Announce};
+ghost use Rattle.slot_history.specs.declared.act.Act.TheVariants.{TakeReturn, TakeChange};
 ghost use Rattle.slot_history.specs.declared.shape.TheConstants.{PARTS};
 ghost use Rattle.slot_station.specs.Desks.{Makes, Owns};
 ghost use Rattle.slot_station.specs.Replies.{NamesSlots};

@@ -11,12 +11,12 @@ use Rattle.slot_words.specs.Steps.{address_of, change_of, answer_of}
 use Rattle.board_rule.specs.declared.view.View.{View}
 use Rattle.board_rule.specs.Rule.{Terms, RunningRule, known_after}
 use Rattle.board_rule.specs.Steps.{MayStep, HasCalled}
-use Rattle.board_rule.specs.Views.{number, place_in, grown}
+use Rattle.board_rule.specs.Views.{number, view_place, view_called}
 use Rattle.board_rule.proofs.Extends.{extended}
 
 module _ {B Sub : Type 0} (terms : Terms B Sub) (slots i : ℕ) (v : View Sub) (cells : List (ℕ × Option B)) (c : Call) (step : MayStep terms v c) where
   abbrev p : Place
-  p = place_in v
+  p = view_place v
 
   abbrev at_word : ℕ
   at_word = index terms.shape (address_of (number v) c p)
@@ -34,11 +34,11 @@ module _ {B Sub : Type 0} (terms : Terms B Sub) (slots i : ℕ) (v : View Sub) (
       let of : (x : Sub) → v.subject ≡ Some x → IsOfTotals (terms.total x) v.shape trail =
       λ x is. subst (λ d. IsOfTotals (terms.total x) d trail) (sym step.shape)
       (subst (λ y. IsOfTotals (terms.total y) terms.shape trail) (let r : Some terms.subject ≡ Some x = sym named ∙ is in cc) e.1.of_subject) in (
-        grown v (number v) trail a,
+        view_called v (number v) trail a,
         keeps,
         tt,
         (known_after (number v) a known, e.1),
-        tells n (grown v (number v) trail a, cells) (record { called = called; view = refl; holds = refl; of_subject = of }),
+        tells n (view_called v (number v) trail a, cells) (record { called = called; view = refl; holds = refl; of_subject = of }),
       )
 
   -- the same, as the caller of a step owes it

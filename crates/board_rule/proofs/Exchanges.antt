@@ -1,5 +1,6 @@
 -- An exchange of a cell over a board: what its two loads owe, and what the pass is after them.
-use Rattle.std.proofs.Common.{◌≡◌, ℕ, ◌*◌, ◌<◌, true, List, ◌∷◌, cond, eqb, ◌&&◌, length, Option, Some, IfSome, refl, sym, ap, ap₂, ◌∙◌, subst, eq-eqb, ne_eqb, arith}
+use Rattle.std.proofs.Common.{◌≡◌, ℕ, ◌*◌, ◌<◌, true, List, ◌∷◌, cond, eqb, ◌&&◌, length, Option}
+use Rattle.std.proofs.Common.{Some, IfSome, refl, sym, ap, ap₂, ◌∙◌, subst, eq-eqb, ne_eqb, arith}
 use Rattle.std.specs.Prelude.{is_some, unwrap_or}
 use Rattle.std.proofs.Math.Bool.{and-false}
 use mathlib.Core.Option as std_option
@@ -18,7 +19,7 @@ use Rattle.board_rule.specs.declared.board.Pass.{Pass}
 use Rattle.board_rule.specs.Cells.{Takes, Gives, index_in, note_put, taking, giving}
 use Rattle.board_rule.specs.Passes.{shape_of, subject_of, seen_at, seen_of, IsSeatOf, IsPassOf}
 use Rattle.board_rule.specs.Rule.{RunningRule, Terms, terms_of}
-use Rattle.board_rule.specs.Views.{number, place_in, shown_in, with_out, exchanged}
+use Rattle.board_rule.specs.Views.{number, view_place, seen_by_view, with_out, view_exchanged}
 use Rattle.board_rule.proofs.Moves.{take-allowed, give-allowed}
 use Rattle.board_rule.proofs.Stepping.{place-is, place-in, still, below, by-view, by-board}
 
@@ -52,7 +53,7 @@ module _ {B Sub : Type 0} (total : Sub → ℕ → Option ℕ) (fits : Sub → �
   count : b.table.shared.table_id.slots ≡ d.slots * d.workers
   count = subst (λ (e : Shape). b.table.shared.table_id.slots ≡ e.slots * e.workers) (sym b.shape_is) b.cells_are
 
-  has-v : MayExchange (caller_of (shown_in v (subject_of b))) u
+  has-v : MayExchange (caller_of (seen_by_view v (subject_of b))) u
   has-v = by-view b p.worker p.place p.seat ours (λ x. MayExchange (caller_of x) u) has
 
   low : number v < d.workers
@@ -63,7 +64,7 @@ module _ {B Sub : Type 0} (total : Sub → ℕ → Option ℕ) (fits : Sub → �
       (still b p.worker p.place p.seat ours)
 
   -- where the worker is, by the view and by what the pass shows
-  here : place_in v ≡ own_place (seen_of b p)
+  here : view_place v ≡ own_place (seen_of b p)
   here = place-in b p.worker p.place p.seat ours ∙ sym (place-is b p.worker p.place p.seat ours)
 
   -- ---- the first load, after which the seat knows and holds `l`
@@ -91,7 +92,7 @@ module _ {B Sub : Type 0} (total : Sub → ℕ → Option ℕ) (fits : Sub → �
           (give-allowed terms b.table.shared.table_id.slots i (with_out v u) u ((index_in v u, new) ∷ rest l.1) ours.2 low has-v count load_step new
           (rest l.1) refl refl
           (λ x is. let e : subject_of b ≡ x = (let r : Some (subject_of b) ≡ Some x = sym ours.5 ∙ is in cc) in
-          subst (λ s. IfSome new (MayPut (shown_in v s) u fits)) e
+          subst (λ s. IfSome new (MayPut (seen_by_view v s) u fits)) e
           (by-view b p.worker p.place p.seat ours (λ y. IfSome new (MayPut y u fits)) fit)))
 
       -- ---- the second load, after which it knows and holds `n`
@@ -100,12 +101,12 @@ module _ {B Sub : Type 0} (total : Sub → ℕ → Option ℕ) (fits : Sub → �
         abbrev noted : Note
         noted = put_note (own_place (seen_of b p)) new
 
-        view : n.0 ≡ exchanged v u noted
-        view = g.view ∙ ap (λ (x : Me (Option B) (View Sub)). exchanged x.0 (unwrap_or x.0.out 0) (note_put (place_in x.0) x.1)) holds
-            ∙ ap (λ q. exchanged v u (put_note q new)) here
+        view : n.0 ≡ view_exchanged v u noted
+        view = g.view ∙ ap (λ (x : Me (Option B) (View Sub)). view_exchanged x.0 (unwrap_or x.0.out 0) (note_put (view_place x.0) x.1)) holds
+            ∙ ap (λ q. view_exchanged v u (put_note q new)) here
 
         module _ (s : Seat (Option B) (View Sub)) (me : s.me ≡ n) where
-          knows : s.me.0 ≡ exchanged v u noted
+          knows : s.me.0 ≡ view_exchanged v u noted
           knows = ap (λ (x : Me (Option B) (View Sub)). x.0) me ∙ view
 
           trail : s.me.0.trail ≡ v.trail

@@ -1,6 +1,7 @@
 -- The extension law: where the rule holds, a call that its worker's trail and notes allow keeps it, and the calling seat's
 -- trail is then the longest trail and this call.
-use Rattle.std.proofs.Common.{◌≡◌, ◌≢◌, ℕ, ◌+◌, ◌<◌, ◌⊎◌, Bool, true, cond, ltb, List, [], ◌∷◌, Option, Some, None, slice_index, refl, sym, ap, ◌∙◌, subst, eq-eqb, ⊎_elim, arith}
+use Rattle.std.proofs.Common.{◌≡◌, ◌≢◌, ℕ, ◌+◌, ◌<◌, ◌⊎◌, Bool, true, cond, ltb, List, [], ◌∷◌}
+use Rattle.std.proofs.Common.{Option, Some, None, slice_index, refl, sym, ap, ◌∙◌, subst, eq-eqb, ⊎_elim, arith}
 use mathlib.Core.Option as std_option
 use mathlib.Core.Option.{some, some-ne-none}
 use mathlib.Core.Logic.{dite}
@@ -33,13 +34,13 @@ use Rattle.slot_words.specs.Steps.{address_of, change_of, answer_of}
 use Rattle.slot_words.specs.Laws.{IsLawful}
 use Rattle.slot_words.proofs.Law.{law}
 use Rattle.board_rule.specs.declared.view.View.{View}
-use Rattle.board_rule.specs.Rule.{Terms, Knowledge, IsViewOf, IsKnown, CellIs, known_after, moment_of, total_over}
+use Rattle.board_rule.specs.Rule.{Terms, Knowledge, IsViewOf, IsTrueOf, CellIs, known_after, moment_known, total_over}
 use Rattle.board_rule.specs.Steps.{MayStep}
-use Rattle.board_rule.specs.Views.{times, number, place_in, note_of, grown}
+use Rattle.board_rule.specs.Views.{times, number, view_place, note_of, view_called}
 use Rattle.board_rule.proofs.SameCaller.{cells-same}
 use Rattle.board_rule.proofs.Lists.{total-set, one-of, two-of, times-head, cons-head, one-at-most}
 
-module _ {B Sub : Type 0} (terms : Terms B Sub) (known : Knowledge) (st : table.State (Option B) (View Sub)) (ok : IsKnown terms known st) where
+module _ {B Sub : Type 0} (terms : Terms B Sub) (known : Knowledge) (st : table.State (Option B) (View Sub)) (ok : IsTrueOf terms known st) where
   abbrev d : Shape
   d = terms.shape
 
@@ -112,7 +113,7 @@ module _ {B Sub : Type 0} (terms : Terms B Sub) (known : Knowledge) (st : table.
       own-notes u = note-mine w a known.notes u ∙ ap (noted a w u) ((ok.views i v at).notes w ws nums u)
           ∙ sym (ap (λ b. cond b (noted a w u (note_in v.own w u)) (note_in v.own w u)) (eq-eqb w w refl))
 
-      view-own : v.heard ≡ [] → IsViewOf terms next (grown v w more a)
+      view-own : v.heard ≡ [] → IsViewOf terms next (view_called v w more a)
       view-own alone =
           let old = ok.views i v at in record {
             shape = old.shape;
@@ -129,7 +130,7 @@ module _ {B Sub : Type 0} (terms : Terms B Sub) (known : Knowledge) (st : table.
           }
 
       -- each cell, of which the worker has none out
-      cell : NotesAllow (terms.total terms.subject) (caller_then (moment_of terms known) w) a → v.out ≡ None
+      cell : NotesAllow (terms.total terms.subject) (caller_then (moment_known terms known) w) a → v.out ≡ None
           → (s u : ℕ) → u < d.workers → (x : std_option.Option (Option B)) → CellIs terms known s u x → CellIs terms next s u x
       cell allow still s u in_u std_option.none (z, in_z, is, has) =
           let other : z ≢ w = λ e. let r : Some u ≡ None = sym is ∙ ap known.outs e ∙ (ok.views i v at).out w ws nums ∙ still in absurd (cc) in (
@@ -168,24 +169,24 @@ module _ {B Sub : Type 0} (terms : Terms B Sub) (known : Knowledge) (st : table.
       asked : call_of a ≡ c
       asked = ap call_of lawful.reply ∙ (is-answered d S (places.table d known.trail ok.words_are.legal)).of_call w c
 
-      pub extends : NotesAllow (terms.total terms.subject) (caller_then (moment_of terms known) w) a → v.out ≡ None → v.heard ≡ []
-          → IsKnown terms (known_after w a known) (stepped st k (change_of c p found) i [] (grown v w (entry w a ∷ known.trail) a) keeps)
+      pub extends : NotesAllow (terms.total terms.subject) (caller_then (moment_known terms known) w) a → v.out ≡ None → v.heard ≡ []
+          → IsTrueOf terms (known_after w a known) (stepped st k (change_of c p found) i [] (view_called v w (entry w a ∷ known.trail) a) keeps)
       extends allow still alone = record {
         words_are = record { shape = ok.words_are.shape; legal = lawful.legal; stands = lawful.stands };
         of_subject = subject-goes-on (terms.total terms.subject) d (entry w a) known.trail ok.of_subject
-            (installs-of (terms.total terms.subject) (caller_then (moment_of terms known) w) a allow);
-        numbers = λ m. let t = total-set (times_in m) st.views i v (grown v w (entry w a ∷ known.trail) a) at in omega (arith, ok.numbers m);
+            (installs-of (terms.total terms.subject) (caller_then (moment_known terms known) w) a allow);
+        numbers = λ m. let t = total-set (times_in m) st.views i v (view_called v w (entry w a ∷ known.trail) a) at in omega (arith, ok.numbers m);
         views = λ j u at_j. ⊎_elim
             (λ r. subst (IsViewOf terms (known_after w a known)) r.1 (view-own a lawful.legal alone))
             (λ r. view-other a lawful.legal j u r.1 r.0)
-            (at_set st.views i j (grown v w (entry w a ∷ known.trail) a) u at_j);
+            (at_set st.views i j (view_called v w (entry w a ∷ known.trail) a) u at_j);
         cells = λ s u in_s in_u x at_x. cell a lawful.legal allow still s u in_u x (ok.cells s u in_s in_u x at_x);
         idle = idle a lawful.legal;
       }
 
-      pub allows : CellsAllow (terms.total terms.subject) (caller_then (moment_of terms known) w) c
-          → NotesAllow (terms.total terms.subject) (caller_then (moment_of terms known) w) a
-      allows cells = subst (CellsAllow (terms.total terms.subject) (caller_then (moment_of terms known) w)) (sym asked) cells
+      pub allows : CellsAllow (terms.total terms.subject) (caller_then (moment_known terms known) w) c
+          → NotesAllow (terms.total terms.subject) (caller_then (moment_known terms known) w) a
+      allows cells = subst (CellsAllow (terms.total terms.subject) (caller_then (moment_known terms known) w)) (sym asked) cells
 
   -- ---- of a view that may make the step
 
@@ -194,7 +195,7 @@ module _ {B Sub : Type 0} (terms : Terms B Sub) (known : Knowledge) (st : table.
     w = number v
 
     abbrev q : Place
-    q = place_in v
+    q = view_place v
 
     abbrev word : ℕ
     word = index d (address_of w c q)
@@ -208,7 +209,8 @@ module _ {B Sub : Type 0} (terms : Terms B Sub) (known : Knowledge) (st : table.
     abbrev Extended : Place → Type 0
     Extended r = let n = slice_index st.words (index d (address_of w c r)) in let b = answer_of c r n in
         Called d (entry w b) v.trail (entry w b ∷ known.trail)
-        × IsKnown terms (known_after w b known) (stepped st (index d (address_of w c r)) (change_of c r n) i [] (grown v w (entry w b ∷ known.trail) b) keeps)
+        × IsTrueOf terms (known_after w b known) (stepped st (index d (address_of w c r)) (change_of c r n) i []
+        (view_called v w (entry w b ∷ known.trail) b) keeps)
 
     same : place_of d known.trail w ≡ q
     same = found-place d w v.trail known.trail (mine i v at w step.rest step.numbers) ∙ ap (λ e. place_of e v.trail w) (sym step.shape)
@@ -216,7 +218,7 @@ module _ {B Sub : Type 0} (terms : Terms B Sub) (known : Knowledge) (st : table.
     at-known : MayAt d (place_of d known.trail w) c
     at-known = subst (λ r. MayAt d r c) (sym same) (subst (λ e. MayAt e q c) step.shape step.may.place)
 
-    cells-known : CellsAllow (terms.total terms.subject) (caller_then (moment_of terms known) w) c
+    cells-known : CellsAllow (terms.total terms.subject) (caller_then (moment_known terms known) w) c
     cells-known = cells-same (terms.total terms.subject) d w q (place_of d known.trail w) (note_of v) (known.notes w) (sym same)
         (λ u. sym ((ok.views i v at).notes w step.rest step.numbers u)) c
         (subst (λ e. CellsAllow (terms.total terms.subject) (record { shape = e; worker = w; place = q; notes = note_of v }) c) step.shape step.may.cells)

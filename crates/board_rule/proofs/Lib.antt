@@ -4,8 +4,8 @@ pub mod Copies
 pub mod Deals
 pub mod Exchanges
 pub mod Extends
+pub mod Joins
 pub mod Lists
-pub mod Meets
 pub mod Moves
 pub mod Opens
 pub mod Operands

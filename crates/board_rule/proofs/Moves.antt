@@ -1,5 +1,6 @@
 -- A cell is taken out of the table and given back.
-use Rattle.std.proofs.Common.{◌≡◌, ◌≢◌, ℕ, zero, suc, ◌*◌, ◌<◌, true, cond, eqb, ◌&&◌, List, [], ◌∷◌, length, set, Option, Some, None, IfSome, slice_index, refl, sym, ap, ap₂, ◌∙◌, subst, ◌⊎◌, ⊎_elim, ne_eqb, arith}
+use Rattle.std.proofs.Common.{◌≡◌, ◌≢◌, ℕ, zero, suc, ◌*◌, ◌<◌, true, cond, eqb, ◌&&◌, List, [], ◌∷◌, length, set}
+use Rattle.std.proofs.Common.{Option, Some, None, IfSome, slice_index, refl, sym, ap, ap₂, ◌∙◌, subst, ◌⊎◌, ⊎_elim, ne_eqb, arith}
 use Rattle.std.specs.Prelude.{unwrap_or}
 use Rattle.std.proofs.lemmas.Nat.{same_from_place}
 use mathlib.Core.Option as std_option
@@ -24,15 +25,14 @@ use Rattle.slot_station.specs.declared.note.Note.{Note}
 use Rattle.slot_station.specs.Desks.{Seen, caller_of}
 use Rattle.slot_station.specs.Exchanges.{MayExchange, MayPut, HoldsNoted, exchange_here, notes_exchanged, put_note}
 use Rattle.slot_station.specs.Laws.{ExchangeKeeps}
-use Rattle.slot_station.specs.Log.{note_in}
 use Rattle.slot_station.proofs.ExchangesSeen.{exchanges-go-on}
 use Rattle.slot_station.proofs.Lists.{pair-within}
 use Rattle.slot_words.specs.declared.address.Address.TheVariants.{Meeting}
 use Rattle.slot_words.proofs.Addresses.{stands-set}
 use Rattle.board_rule.specs.declared.view.View.{View}
 use Rattle.board_rule.specs.Cells.{index_in, note_put, taking, giving}
-use Rattle.board_rule.specs.Rule.{Terms, Knowledge, IsViewOf, IsKnown, CellIs, RunningRule, cell_index, moment_of}
-use Rattle.board_rule.specs.Views.{times, number, place_in, note_of, shown_in, with_out, exchanged}
+use Rattle.board_rule.specs.Rule.{Terms, Knowledge, IsViewOf, IsTrueOf, CellIs, RunningRule, cell_index, moment_known}
+use Rattle.board_rule.specs.Views.{times, number, view_place, seen_by_view, with_out, view_exchanged}
 use Rattle.board_rule.proofs.Extends as extends
 use Rattle.board_rule.proofs.Lists.{total-set, times-head, cons-head, headed}
 
@@ -47,7 +47,7 @@ free-has-none s u w p free has = ⊎_elim (λ own. true≢false (sym own.1 ∙ a
     (λ held. true≢false (sym held ∙ ap (λ q. holds q s) free)) has
 
 -- of a worker w, whose seat i has the view v
-module _ {B Sub : Type 0} (terms : Terms B Sub) (known : Knowledge) (st : table.State (Option B) (View Sub)) (ok : IsKnown terms known st) (i : ℕ)
+module _ {B Sub : Type 0} (terms : Terms B Sub) (known : Knowledge) (st : table.State (Option B) (View Sub)) (ok : IsTrueOf terms known st) (i : ℕ)
     (v : View Sub)
     (at : get_elem? st.views i ≡ some v) (w : ℕ) (ws : List ℕ) (nums : v.numbers ≡ w ∷ ws) where
   abbrev after : ObjectState
@@ -57,14 +57,16 @@ module _ {B Sub : Type 0} (terms : Terms B Sub) (known : Knowledge) (st : table.
   moves : (homes : List (std_option.Option (Option B))) (v' : View Sub) (N' : ℕ → ℕ → Note) (outs' : ℕ → Option ℕ)
       → v'.numbers ≡ v.numbers → let next = record known { notes = N'; outs = outs' } in IsViewOf terms next v'
       → ((m : ℕ) → m ≢ w → (outs' m ≡ known.outs m) × ((u : ℕ) → N' m u ≡ known.notes m u)) → (own_calls w known.trail ≡ [] → ⊥)
-      → ((s u : ℕ) → s < terms.shape.slots → u < terms.shape.workers → (x : std_option.Option (Option B)) → get_elem? homes (cell_index terms.shape s u) ≡ some x → CellIs terms next s u x)
-      → IsKnown terms next (record { words = set st.words 0 (slice_index st.words 0); homes = homes; views = set st.views i v' })
+      → ((s u : ℕ) → s < terms.shape.slots → u < terms.shape.workers → (x : std_option.Option (Option B)) → get_elem? homes
+      (cell_index terms.shape s u) ≡ some x → CellIs terms next s u x)
+      → IsTrueOf terms next (record { words = set st.words 0 (slice_index st.words 0); homes = homes; views = set st.views i v' })
   moves homes v' N' outs' same fit others busy cells =
       let next : Knowledge = record known { notes = N'; outs = outs' } in record {
         words_are = record {
           shape = ok.words_are.shape;
           legal = ok.words_are.legal;
-          stands = stands-set terms.shape st.words after after Meeting (slice_index st.words 0) ok.words_are.stands tt (ok.words_are.stands.each Meeting tt) (λ b in_b ne m h. h);
+          stands = stands-set terms.shape st.words after after Meeting (slice_index st.words 0) ok.words_are.stands tt
+              (ok.words_are.stands.each Meeting tt) (λ b in_b ne m h. h);
         };
         of_subject = ok.of_subject;
         numbers = λ m.
@@ -93,9 +95,9 @@ module _ {B Sub : Type 0} (terms : Terms B Sub) (known : Knowledge) (st : table.
       }
 
 -- of the worker of the view v, which the seat i has, and the cell of u, which is with that worker
-module _ {B Sub : Type 0} (terms : Terms B Sub) (known : Knowledge) (st : table.State (Option B) (View Sub)) (ok : IsKnown terms known st) (i : ℕ)
+module _ {B Sub : Type 0} (terms : Terms B Sub) (known : Knowledge) (st : table.State (Option B) (View Sub)) (ok : IsTrueOf terms known st) (i : ℕ)
     (v : View Sub) (at : get_elem? st.views i ≡ some v) (ws : List ℕ) (nums : v.numbers ≡ number v ∷ ws) (low : number v < terms.shape.workers)
-    (u : ℕ) (may : MayExchange (caller_of (shown_in v terms.subject)) u) where
+    (u : ℕ) (may : MayExchange (caller_of (seen_by_view v terms.subject)) u) where
   abbrev d : Shape
   d = terms.shape
 
@@ -103,7 +105,7 @@ module _ {B Sub : Type 0} (terms : Terms B Sub) (known : Knowledge) (st : table.
   w = number v
 
   abbrev p : Place
-  p = place_in v
+  p = view_place v
 
   abbrev S : ObjectState
   S = state_after d known.trail
@@ -112,14 +114,14 @@ module _ {B Sub : Type 0} (terms : Terms B Sub) (known : Knowledge) (st : table.
   k = cell_index d (slot_of p) u
 
   abbrev X : Seen (Unit {0}) Sub
-  X = shown_in v terms.subject
+  X = seen_by_view v terms.subject
 
   fit : IsViewOf terms known v
   fit = ok.views i v at
 
   -- the law of exchanges, by what the view shows
-  law : ExchangeKeeps terms.fits (Unit {0}) (moment_of terms known) terms.subject X u
-  law = exchanges-go-on terms.fits (Unit {0}) (moment_of terms known) terms.subject X (record {
+  law : ExchangeKeeps terms.fits (Unit {0}) (moment_known terms known) terms.subject X u
+  law = exchanges-go-on terms.fits (Unit {0}) (moment_known terms known) terms.subject X (record {
     legal = ok.words_are.legal;
     shape_is = fit.shape w ws nums;
     subject_is = refl;
@@ -201,8 +203,8 @@ module _ {B Sub : Type 0} (terms : Terms B Sub) (known : Knowledge) (st : table.
   words = set st.words 0 (slice_index st.words 0)
 
   abbrev Taken : Option B → Knowledge → Type 0
-  Taken y next = (get_elem? st.homes k ≡ some (some y)) × ((x : Sub) → v.subject ≡ Some x → HoldsNoted (shown_in v x) u terms.fits y)
-      × IsKnown terms next (record { words = words; homes = set st.homes k std_option.none; views = set st.views i (with_out v u) })
+  Taken y next = (get_elem? st.homes k ≡ some (some y)) × ((x : Sub) → v.subject ≡ Some x → HoldsNoted (seen_by_view v x) u terms.fits y)
+      × IsTrueOf terms next (record { words = words; homes = set st.homes k std_option.none; views = set st.views i (with_out v u) })
 
   pub take : v.out ≡ None → length st.homes ≡ d.slots * d.workers → (y : Option B) × (next : Knowledge) × Taken y next
   take still len =
@@ -216,7 +218,7 @@ module _ {B Sub : Type 0} (terms : Terms B Sub) (known : Knowledge) (st : table.
         unnoted n (Some u) mine,
         (
           e,
-          λ x is. subst (λ s. HoldsNoted (shown_in v s) u terms.fits y.0) (subject-is x is) said,
+          λ x is. subst (λ s. HoldsNoted (seen_by_view v s) u terms.fits y.0) (subject-is x is) said,
           moves terms known st ok i v at w ws nums (set st.homes k std_option.none) (with_out v u) known.notes (outs' n (Some u) mine) refl
               record {
                 shape = fit.shape;
@@ -237,18 +239,18 @@ module _ {B Sub : Type 0} (terms : Terms B Sub) (known : Knowledge) (st : table.
 
   -- what is put fits, by the view
   abbrev PutFits : Option B → Type 0
-  PutFits y = (x : Sub) → v.subject ≡ Some x → IfSome y (MayPut (shown_in v x) u terms.fits)
+  PutFits y = (x : Sub) → v.subject ≡ Some x → IfSome y (MayPut (seen_by_view v x) u terms.fits)
 
   pub give : v.out ≡ Some u → (y : Option B) → PutFits y
       → (next : Knowledge)
-      × IsKnown terms next (record { words = words; homes = set st.homes k (some y); views = set st.views i (exchanged v u (put_note p y)) })
+      × IsTrueOf terms next (record { words = words; homes = set st.homes k (some y); views = set st.views i (view_exchanged v u (put_note p y)) })
   give out y fit_so =
       let n : Note = put_note p y in
       let mine : (c : ℕ) → known.outs w ≡ Some c → c ≡ u = λ c is. let r : Some c ≡ Some u = sym is ∙ fit.out w ws nums ∙ out in cc in
       let next : Knowledge = noted n None mine in
       let c : CellIs terms next (slot_of p) u (some y) = law.put y (fit_so terms.subject (fit.subject_is w ws nums)) n refl in (
         next,
-        moves terms known st ok i v at w ws nums (set st.homes k (some y)) (exchanged v u n) next.notes next.outs refl
+        moves terms known st ok i v at w ws nums (set st.homes k (some y)) (view_exchanged v u n) next.notes next.outs refl
             record {
               shape = fit.shape;
               subject_is = fit.subject_is;
@@ -266,10 +268,10 @@ module _ {B Sub : Type 0} (terms : Terms B Sub) (known : Knowledge) (st : table.
 
 -- a seat i with the view v, whose worker has the cell of u, of a table with a slot for each cell
 module _ {B Sub : Type 0} (terms : Terms B Sub) (slots i : ℕ) (v : View Sub) (u : ℕ) (cells : List (ℕ × Option B))
-    (some_number : 0 < length v.numbers) (low : number v < terms.shape.workers) (may : MayExchange (caller_of (shown_in v terms.subject)) u)
+    (some_number : 0 < length v.numbers) (low : number v < terms.shape.workers) (may : MayExchange (caller_of (seen_by_view v terms.subject)) u)
     (count : slots ≡ terms.shape.slots * terms.shape.workers) where
   abbrev spot : ℕ
-  spot = cell_index terms.shape (slot_of (place_in v)) u
+  spot = cell_index terms.shape (slot_of (view_place v)) u
 
   nums : (ws : List ℕ) × (v.numbers ≡ number v ∷ ws)
   nums = headed v.numbers (number v) some_number refl
@@ -284,20 +286,20 @@ module _ {B Sub : Type 0} (terms : Terms B Sub) (slots i : ℕ) (v : View Sub) (
 
   -- the cell may be given back
   pub give-allowed : (s : table.Step (Option B)) (y : Option B) (r : List (ℕ × Option B)) → cells ≡ (index_in v u, y) ∷ r → v.out ≡ Some u
-      → ((x : Sub) → v.subject ≡ Some x → IfSome y (MayPut (shown_in v x) u terms.fits))
+      → ((x : Sub) → v.subject ≡ Some x → IfSome y (MayPut (seen_by_view v x) u terms.fits))
       → Allows (RunningRule terms) slots i (v, cells) 0 (λ n. n) (giving s (v, cells))
   give-allowed s y r is out fit st (known, ok) len at small =
       let same : index_in v u ≡ spot = index-is terms known st ok i v at nums.0 nums.1 low u may in
       let is' : cells ≡ (spot, y) ∷ r = is ∙ ap (λ j. (j, y) ∷ r) same in
-      let v' : View Sub = exchanged v u (put_note (place_in v) y) in
+      let v' : View Sub = view_exchanged v u (put_note (view_place v) y) in
       let (next, kept) = give terms known st ok i v at nums.0 nums.1 low u may out y fit in (
         v',
         gives,
         tt,
         (
           next,
-          subst (λ hs. IsKnown terms next (record { words = set st.words 0 (slice_index st.words 0); homes = hs; views = set st.views i v' }))
+          subst (λ hs. IsTrueOf terms next (record { words = set st.words 0 (slice_index st.words 0); homes = hs; views = set st.views i v' }))
               (sym (ap (put_back st.homes) is')) kept,
         ),
-        record { holds = refl; view = ap₂ (λ o z. exchanged v (unwrap_or o 0) (note_put (place_in v) z)) (sym out) (sym is') },
+        record { holds = refl; view = ap₂ (λ o z. view_exchanged v (unwrap_or o 0) (note_put (view_place v) z)) (sym out) (sym is') },
       )

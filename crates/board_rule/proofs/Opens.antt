@@ -1,5 +1,6 @@
 -- The rule holds of a new table.
-use Rattle.std.proofs.Common.{◌≡◌, ℕ, zero, suc, ◌+◌, ◌<◌, ◌≤◌, Bool, cond, eqb, ltb, List, [], ◌∷◌, replicate, map, Option, None, refl, sym, ap, subst, eq-eqb, lt-ltb, le-ltb, arith}
+use Rattle.std.proofs.Common.{◌≡◌, ℕ, zero, suc, ◌+◌, ◌<◌, ◌≤◌, Bool, cond, eqb, ltb, List, []}
+use Rattle.std.proofs.Common.{◌∷◌, replicate, map, Option, None, refl, sym, ap, subst, eq-eqb, lt-ltb, le-ltb, arith}
 use mathlib.Core.Option as std_option
 use mathlib.Core.Option.{some, some-injective, some-ne-none}
 use native.Mathlib.Decide.{ℕ_discrete}

@@ -1,5 +1,6 @@
 -- A cell that is out is out with exactly one seat.
-use Rattle.std.proofs.Common.{◌≡◌, ◌≢◌, ℕ, zero, suc, ◌+◌, ◌<◌, ◌⊎◌, Bool, true, false, cond, eqb, ltb, List, [], ◌∷◌, length, Option, Some, slice_index, refl, sym, ap, ◌∙◌, subst, inl, inr, ⊎_elim, eqb-true, lt-ltb, ltb-true, arith}
+use Rattle.std.proofs.Common.{◌≡◌, ℕ, suc, ◌<◌, ◌⊎◌, Bool, true, false, cond, eqb, ltb, List, [], ◌∷◌}
+use Rattle.std.proofs.Common.{length, Option, slice_index, refl, sym, ap, ◌∙◌, subst, inl, inr, ⊎_elim, eqb-true, lt-ltb, ltb-true, arith}
 use mathlib.Core.Option as std_option
 use mathlib.Core.Option.{some}
 use mathlib.Core.Logic.{dite}
@@ -14,7 +15,7 @@ use Rattle.slot_history.proofs.Places.{one-owner}
 use Rattle.slot_history.proofs.Table as places
 use Rattle.board_rule.specs.declared.view.View.{View}
 use Rattle.board_rule.specs.Laws.{HasOut}
-use Rattle.board_rule.specs.Rule.{Terms, Knowledge, IsKnown, cell_index, total_over}
+use Rattle.board_rule.specs.Rule.{Terms, Knowledge, IsTrueOf, cell_index, total_over}
 use Rattle.board_rule.specs.Views.{times, number}
 use Rattle.board_rule.proofs.Extends.{lone}
 use Rattle.board_rule.proofs.Lists.{headed, one-of, times-head}
@@ -41,7 +42,7 @@ first-or-further w x ws h = elim (eqb x w) as (λ b. eqb x w ≡ b → (x ≡ w)
   | false ↦ λ e. inr (let k : cond {A = ℕ} (eqb x w) 1 0 ≡ 0 = ap (λ (b : Bool). cond {A = ℕ} b 1 0) e in omega arith)
 ] refl
 
-module _ {B Sub : Type 0} (terms : Terms B Sub) (known : Knowledge) (st : table.State (Option B) (View Sub)) (ok : IsKnown terms known st) where
+module _ {B Sub : Type 0} (terms : Terms B Sub) (known : Knowledge) (st : table.State (Option B) (View Sub)) (ok : IsTrueOf terms known st) where
   abbrev d : Shape
   d = terms.shape
 

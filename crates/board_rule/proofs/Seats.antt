@@ -1,5 +1,6 @@
 -- Seats are split and joined.
-use Rattle.std.proofs.Common.{◌≡◌, ℕ, zero, suc, ◌+◌, ◌<◌, ◌≤◌, ◌⊎◌, Bool, true, false, cond, eqb, leb, List, [], ◌∷◌, ◌++◌, length, length-append, set, drop, None, slice_index, refl, sym, ap, ◌∙◌, subst, inl, inr, ⊎_elim, le-leb, leb-true, arith}
+use Rattle.std.proofs.Common.{◌≡◌, ℕ, zero, suc, ◌+◌, ◌<◌, ◌≤◌, ◌⊎◌, Bool, true, false, cond, eqb, leb, List, [], ◌∷◌, ◌++◌}
+use Rattle.std.proofs.Common.{length, length-append, set, drop, None, slice_index, refl, sym, ap, ◌∙◌, subst, inl, inr, ⊎_elim, le-leb, leb-true, arith}
 use mathlib.Core.Option.{some, some-injective, some-ne-none}
 use mathlib.Core.Logic.{dite}
 use native.Mathlib.Decide.{ℕ_discrete, dec_le}
@@ -15,7 +16,7 @@ use Rattle.slot_station.specs.declared.note.Note.TheVariants.{Loose}
 use Rattle.board_rule.specs.declared.view.View.{View}
 use Rattle.board_rule.specs.declared.view.Heard.{Heard}
 use Rattle.board_rule.specs.Rule.{Terms, Knowledge, IsHeard, IsViewOf, RunningRule}
-use Rattle.board_rule.specs.Views.{times, number, first_of, longer, kept_part, dealt_part, heard_of, joined, spent}
+use Rattle.board_rule.specs.Views.{times, number, only_first, longer, kept_part, dealt_part, heard_of, joined, spent}
 use Rattle.board_rule.proofs.Lists.{total-set, total-append, times-head, times-append, counts-not, cons-head, cons-tail}
 
 -- ---- a seat is split
@@ -24,11 +25,11 @@ module _ {B Sub : Type 0} (terms : Terms B Sub) (known : Knowledge) (v : View Su
     (old : IsViewOf terms known v) where
   view-kept : IsViewOf terms known (kept_part v)
   view-kept =
-      let e : first_of v.numbers ≡ w ∷ [] = ap first_of nums in record {
+      let e : only_first v.numbers ≡ w ∷ [] = ap only_first nums in record {
         shape = λ m ms k. old.shape w ws nums;
         subject_is = λ m ms k. old.subject_is w ws nums;
         begins = old.begins;
-        own = λ m has. old.own m (let t : times m (first_of v.numbers) ≡ times m (w ∷ []) = ap (times m) e in
+        own = λ m has. old.own m (let t : times m (only_first v.numbers) ≡ times m (w ∷ []) = ap (times m) e in
             let u : times m v.numbers ≡ times m (w ∷ ws) = ap (times m) nums in omega arith);
         notes = λ m ms k. old.notes m ws (nums ∙ ap (λ y. y ∷ ws) (cons-head (sym e ∙ k)));
         out = λ m ms k. old.out m ws (nums ∙ ap (λ y. y ∷ ws) (cons-head (sym e ∙ k)));
@@ -73,7 +74,7 @@ module _ {B Sub : Type 0} (terms : Terms B Sub) where
               let t = total-set f s.views i v (kept_part v) at in
               let a = total-append f (set s.views i (kept_part v)) (dealt_part v) in
               let u : times m v.numbers ≡ times m (w ∷ ws) = ap (times m) nums in
-              let k : times m (first_of v.numbers) ≡ times m (w ∷ []) = ap (λ l. times m (first_of l)) nums in
+              let k : times m (only_first v.numbers) ≡ times m (w ∷ []) = ap (λ l. times m (only_first l)) nums in
               let r : times m (drop 1 v.numbers) ≡ times m ws = ap (λ l. times m (drop 1 l)) nums in omega (arith, ok.numbers m);
           views = λ j u at_j. ⊎_elim
               (λ in_set. ⊎_elim

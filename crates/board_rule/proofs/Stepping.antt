@@ -28,8 +28,8 @@ use Rattle.board_rule.specs.declared.board.Board.{Board}
 use Rattle.board_rule.specs.declared.view.View.{View}
 use Rattle.board_rule.specs.Passes.{shape_of, subject_of, seen_at, IsSeatOf}
 use Rattle.board_rule.specs.Rule.{Terms, RunningRule, terms_of}
-use Rattle.board_rule.specs.Steps.{MayMake, MayStep, HasCalled}
-use Rattle.board_rule.specs.Views.{number, place_in, shown_by, shown_in, grown}
+use Rattle.board_rule.specs.Steps.{AllowsCall, MayStep, HasCalled}
+use Rattle.board_rule.specs.Views.{number, view_place, seen_with, seen_by_view, view_called}
 use Rattle.board_rule.proofs.Allowed.{call-allowed}
 use Rattle.board_rule.proofs.Lists.{no-items, headed}
 
@@ -52,7 +52,7 @@ module _ {B Sub : Type 0} (board : Board B Sub) (w : ℕ) (p : Place) (seat : Se
   pub place-is : place_of d v.trail w ≡ p
   place-is = ours.6
 
-  pub place-in : place_in v ≡ p
+  pub place-in : view_place v ≡ p
   place-in = ap₂ (λ e m. place_of e v.trail m) ours.4 ours.3 ∙ place-is
 
   pub still : v.out ≡ None
@@ -60,12 +60,12 @@ module _ {B Sub : Type 0} (board : Board B Sub) (w : ℕ) (p : Place) (seat : Se
 
   -- what the worker shows, but for the station's origin: by the board, and by the view
   abbrev pub shown : ℕ → Shape → Seen (Unit {0}) Sub
-  shown m e = shown_by (record { worker = m; shape = e; subject = subject_of board }) v.trail (note_in v.own m)
+  shown m e = seen_with (record { worker = m; shape = e; subject = subject_of board }) v.trail (note_in v.own m)
 
-  pub by-view : (P : Seen (Unit {0}) Sub → Type 0) → P (shown w d) → P (shown_in v (subject_of board))
+  pub by-view : (P : Seen (Unit {0}) Sub → Type 0) → P (shown w d) → P (seen_by_view v (subject_of board))
   by-view P h = subst (λ m. P (shown m v.shape)) (sym ours.3) (subst (λ e. P (shown w e)) (sym ours.4) h)
 
-  pub by-board : (P : Seen (Unit {0}) Sub → Type 0) → P (shown_in v (subject_of board)) → P (shown w d)
+  pub by-board : (P : Seen (Unit {0}) Sub → Type 0) → P (seen_by_view v (subject_of board)) → P (shown w d)
   by-board P h = subst (λ e. P (shown w e)) ours.4 (subst (λ m. P (shown m v.shape)) ours.3 h)
 
   pub below : number v < d.workers
@@ -73,12 +73,12 @@ module _ {B Sub : Type 0} (board : Board B Sub) (w : ℕ) (p : Place) (seat : Se
 
   -- ---- a step that is the call c
 
-  module _ (total : Sub → ℕ → Option ℕ) (fits : Sub → ℕ → ℕ → List (ℕ × ℕ) → B → Type 0) (c : Call) (may : MayMake total (seen_at board w seat) c) where
+  module _ (total : Sub → ℕ → Option ℕ) (fits : Sub → ℕ → ℕ → List (ℕ × ℕ) → B → Type 0) (c : Call) (may : AllowsCall total (seen_at board w seat) c) where
     abbrev terms : Terms B Sub
     terms = terms_of total fits board.table.shared.key
 
     -- what the worker may ask for, by the view alone
-    may-in : MayMake total (shown_in v (subject_of board)) c
+    may-in : AllowsCall total (seen_by_view v (subject_of board)) c
     may-in = record {
       place = by-view (λ x. MayAt x.desk.shape (own_place x) c) may.place;
       cells = by-view (λ x. CellsAllow (totals_of total x) (caller_of x) c) may.cells;
@@ -99,9 +99,10 @@ module _ {B Sub : Type 0} (board : Board B Sub) (w : ℕ) (p : Place) (seat : Se
     pub owes : (a : Address) → a ≡ address_of w c p → (word : ℕ) → word ≡ index board.shape a
         → (f : ℕ → ℕ) → ((n : ℕ) → f n ≡ change_of c p n) → (found : ℕ → ℕ) → ((n : ℕ) → answer_of c p (found n) ≡ answer_of c p n)
         → (seat.table_id ≡ board.table.shared.table_id) × (word < board.table.shared.table_id.words)
-        × Allows (RunningRule terms) board.table.shared.table_id.slots seat.id seat.me word f (λ n. HasCalled total (answer_of c (place_in v) (found n)) seat.me)
+        × Allows (RunningRule terms) board.table.shared.table_id.slots seat.id seat.me word f
+        (λ n. HasCalled total (answer_of c (view_place v) (found n)) seat.me)
     owes a on word is f changes found finds =
-        let at : (P : Place → Type 0) → P p → P (place_in v) = λ P h. subst P (sym place-in) h in
+        let at : (P : Place → Type 0) → P p → P (view_place v) = λ P h. subst P (sym place-in) h in
         let named : word ≡ index d (address_of w c p) = is ∙ ap₂ index (sym board.shape_is) on in
         let low : index d (address_of w c p) < count_of_words d = ∥∥₁_elim ours.10 (hlevel (props))
         (λ legal. subst (λ q. index d (address_of w c q) < count_of_words d) place-is
@@ -111,22 +112,22 @@ module _ {B Sub : Type 0} (board : Board B Sub) (w : ℕ) (p : Place) (seat : Se
           ours.0,
           subst (λ n. word < n) (sym words) (subst (λ n. n < count_of_words d) (sym named) low),
           call-allowed terms board.table.shared.table_id.slots seat.id v seat.me.1 c may-step word
-              (subst (λ m. word ≡ index d (address_of m c (place_in v))) (sym ours.3) (at (λ q. word ≡ index d (address_of w c q)) named))
+              (subst (λ m. word ≡ index d (address_of m c (view_place v))) (sym ours.3) (at (λ q. word ≡ index d (address_of w c q)) named))
               f (at (λ q. (n : ℕ) → f n ≡ change_of c q n) changes) found (at (λ q. (n : ℕ) → answer_of c q (found n) ≡ answer_of c q n) finds),
         )
 
   -- ---- the seat after it, which knows and holds `new`
 
   module _ (total : Sub → ℕ → Option ℕ) (c : Call) (n : ℕ) (new : Me (Option B) (View Sub))
-      (told : HasCalled total (answer_of c (place_in v) n) seat.me new) where
+      (told : HasCalled total (answer_of c (view_place v) n) seat.me new) where
     abbrev a : Act
     a = answer_of c p n
 
-    same : answer_of c (place_in v) n ≡ a
+    same : answer_of c (view_place v) n ≡ a
     same = ap (λ q. answer_of c q n) place-in
 
-    grows : new.0 ≡ grown v w new.0.trail a
-    grows = told.view ∙ ap₂ (λ m b. grown v m new.0.trail b) ours.3 same
+    grows : new.0 ≡ view_called v w new.0.trail a
+    grows = told.view ∙ ap₂ (λ m b. view_called v m new.0.trail b) ours.3 same
 
     called : Called d (entry w a) v.trail new.0.trail
     called = subst (λ e. Called e (entry w a) v.trail new.0.trail) ours.4 (subst (λ m. Called v.shape (entry m a) v.trail new.0.trail) ours.3
@@ -139,7 +140,7 @@ module _ {B Sub : Type 0} (board : Board B Sub) (w : ℕ) (p : Place) (seat : Se
     seat-after other id me =
         let goes = calls-go-on d w a v.trail new.0.trail called in
         let view : other.me.0 ≡ new.0 = ap (λ (m : Me (Option B) (View Sub)). m.0) me in
-        let all : other.me.0 ≡ grown v w new.0.trail a = view ∙ grows in
+        let all : other.me.0 ≡ view_called v w new.0.trail a = view ∙ grows in
         let trail : other.me.0.trail ≡ new.0.trail = ap (λ (z : View Sub). z.trail) view in (
           id ∙ ours.0,
           ours.1,

@@ -8,11 +8,11 @@ use Rattle.slot_station.specs.declared.note.Note.TheVariants.{Loose}
 use Rattle.slot_station.specs.Exchanges.{HoldsNoted, put_note}
 use Rattle.board_rule.specs.declared.view.View.{View}
 use Rattle.board_rule.specs.Rule.{cell_index}
-use Rattle.board_rule.specs.Views.{place_in, shown_in, with_out, exchanged}
+use Rattle.board_rule.specs.Views.{view_place, seen_by_view, with_out, view_exchanged}
 
 -- where this cell lies, of the slot at which the view's worker is
 abbrev pub index_in : {Sub : Type 0} → View Sub → ℕ → ℕ
-index_in v u = cell_index v.shape (slot_of (place_in v)) u
+index_in v u = cell_index v.shape (slot_of (view_place v)) u
 
 -- the note of the cell that was taken last, by what it has now
 abbrev pub note_put : {B : Type 0} → Place → List (ℕ × Option B) → Note
@@ -25,12 +25,13 @@ pub record Takes {B Sub : Type 0} (fits : Sub → ℕ → ℕ → List (ℕ × �
   pub value : Option B
   pub holds : new.1 ≡ (index_in old.0 u, value) ∷ old.1
   pub view : new.0 ≡ with_out old.0 u
-  pub says : (x : Sub) → old.0.subject ≡ Some x → HoldsNoted (shown_in old.0 x) u fits value
+  pub says : (x : Sub) → old.0.subject ≡ Some x → HoldsNoted (seen_by_view old.0 x) u fits value
 
 -- a load gives back the cell that is out, with a note of what was put into it
 pub record Gives {B Sub : Type 0} (old new : Me (Option B) (View Sub)) : Type 0 where
   pub holds : new.1 ≡ rest old.1
-  pub view : new.0 ≡ exchanged old.0 (unwrap_or old.0.out 0) (note_put (place_in old.0) old.1)
+  pub view : new.0
+      ≡ view_exchanged old.0 (unwrap_or old.0.out 0) (note_put (view_place old.0) old.1)
 
 abbrev pub taking : {B Sub : Type 0} → (Sub → ℕ → ℕ → List (ℕ × ℕ) → B → Type 0) → ℕ
     → Step (Option B) → Me (Option B) (View Sub) → ℕ → Me (Option B) (View Sub) → Type 0

@@ -13,21 +13,21 @@ use Rattle.slot_words.specs.Addresses.{index}
 use Rattle.slot_words.specs.Steps.{address_of, change_of, answer_of}
 use Rattle.board_rule.specs.declared.rule.About.{About}
 use Rattle.board_rule.specs.declared.view.View.{View}
-use Rattle.board_rule.specs.Rule.{Knowledge, IsKnown, Terms, cell_index, known_after, terms_of}
+use Rattle.board_rule.specs.Rule.{Knowledge, IsTrueOf, Terms, cell_index, known_after, terms_of}
 use Rattle.board_rule.specs.Steps.{MayStep}
-use Rattle.board_rule.specs.Views.{number, place_in, grown}
+use Rattle.board_rule.specs.Views.{number, view_place, view_called}
 
 module _ {B Sub : Type 0} (terms : Terms B Sub) (known : Knowledge)
     (table : State (Option B) (View Sub)) where
   -- After a step of the seat i, with the view v, that is the call c: the trail of the seat is the
   -- longest trail and this call, and what is known then is so of the table.
   abbrev pub GoesOn : ℕ → View Sub → Call → Type 0
-  GoesOn i v c = let w = number v in let p = place_in v in
+  GoesOn i v c = let w = number v in let p = view_place v in
       let word = index terms.shape (address_of w c p) in let found = slice_index table.words word in
       let a = answer_of c p found in let trail = entry w a ∷ known.trail in
       Called terms.shape (entry w a) v.trail trail
-      × IsKnown terms (known_after w a known)
-      (stepped table word (change_of c p found) i [] (grown v w trail a) keeps)
+      × IsTrueOf terms (known_after w a known)
+      (stepped table word (change_of c p found) i [] (view_called v w trail a) keeps)
 
 -- The extension law: where the rule holds, a step that is a call which the worker's own trail and
 -- notes allow keeps the rule.
@@ -35,14 +35,14 @@ abbrev pub Extends : {B Sub : Type 0} → (Sub → ℕ → Option ℕ)
     → (Sub → ℕ → ℕ → List (ℕ × ℕ) → B → Type 0) → Type 0
 Extends {B = B} {Sub = Sub} total fits = (about : About Sub) (known : Knowledge)
     (table : State (Option B) (View Sub)) (i : ℕ) (v : View Sub) (c : Call)
-    → let terms = terms_of total fits about in IsKnown terms known table
+    → let terms = terms_of total fits about in IsTrueOf terms known table
     → get_elem? table.views i ≡ some v → MayStep terms v c → GoesOn terms known table i v c
 
 -- where the rule holds, no notice of an open slot is lost
 abbrev pub NoticesStay : {B Sub : Type 0} → (Sub → ℕ → Option ℕ)
     → (Sub → ℕ → ℕ → List (ℕ × ℕ) → B → Type 0) → Type 0
 NoticesStay {B = B} {Sub = Sub} total fits = (about : About Sub) (known : Knowledge)
-    (table : State (Option B) (View Sub)) → IsKnown (terms_of total fits about) known table
+    (table : State (Option B) (View Sub)) → IsTrueOf (terms_of total fits about) known table
     → IsNoticed about.shape (state_after about.shape known.trail)
 
 -- The seat i has the cell of u at the slot s out: its view says that u's cell is, and its worker has
@@ -60,7 +60,7 @@ abbrev pub OutWithOne : {B Sub : Type 0} → (Sub → ℕ → Option ℕ)
     → (Sub → ℕ → ℕ → List (ℕ × ℕ) → B → Type 0) → Type 0
 OutWithOne {B = B} {Sub = Sub} total fits = (about : About Sub) (known : Knowledge)
     (table : State (Option B) (View Sub)) → let terms = terms_of total fits about in
-    IsKnown terms known table → (s u : ℕ) → s < about.shape.slots → u < about.shape.workers
+    IsTrueOf terms known table → (s u : ℕ) → s < about.shape.slots → u < about.shape.workers
     → get_elem? table.homes (cell_index about.shape s u) ≡ some std_option.none
     → (i : ℕ) × HasOut terms known table s u i
     × ((j : ℕ) → HasOut terms known table s u j → j ≡ i)

@@ -2,7 +2,9 @@
 use Rattle.std.specs.Prelude.{ℕ, bit_or}
 use Rattle.slot_words.specs.Steps.{added, one_less, compare_exchanged}
 use Rattle.board_rule.specs.declared.atomic.WordOperation.{WordOperation}
-use Rattle.board_rule.specs.declared.atomic.WordOperation.TheVariants.{Load, Store, Swap, Add, Decrement, SetBits, CompareExchange}
+use Rattle.board_rule.specs.declared.atomic.WordOperation.TheVariants.{Load, Store, Swap}
+use Rattle.board_rule.specs.declared.atomic.WordOperation.TheVariants.{Add, Decrement, SetBits}
+use Rattle.board_rule.specs.declared.atomic.WordOperation.TheVariants.{CompareExchange}
 
 -- what it makes of the word n
 abbrev pub changed : WordOperation → ℕ → ℕ

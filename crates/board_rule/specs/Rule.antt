@@ -48,8 +48,8 @@ known_after w a known =
     record known { trail = entry w a ∷ known.trail; notes = notes_after w a known.notes }
 
 -- the longest trail and the notes, as a moment of the slot object
-abbrev pub moment_of : {B Sub : Type 0} → Terms B Sub → Knowledge → Moment
-moment_of terms known =
+abbrev pub moment_known : {B Sub : Type 0} → Terms B Sub → Knowledge → Moment
+moment_known terms known =
     record { shape = terms.shape; history = known.trail; notes = known.notes }
 
 -- the place of the cell of a slot and a worker among all cells
@@ -67,7 +67,7 @@ module _ {B Sub : Type 0} (terms : Terms B Sub) (known : Knowledge) where
   abbrev pub CellIs : ℕ → ℕ → std_option.Option (Option B) → Type 0
   CellIs s u std_option.none = (w : ℕ) × (w < terms.shape.workers) × (known.outs w ≡ Some u)
       × HasCell (state_after terms.shape known.trail) s u w
-  CellIs s u (some x) = CellOf (terms.fits terms.subject u) (moment_of terms known)
+  CellIs s u (some x) = CellOf (terms.fits terms.subject u) (moment_known terms known)
       (record { slot = s; worker = u; value = x })
 
   -- what a seat was joined with is a beginning of the longest trail that has all of its worker's
@@ -97,7 +97,7 @@ module _ {B Sub : Type 0} (terms : Terms B Sub) (known : Knowledge) where
   -- words stand for the state that it leaves. Each number below the workers is in one view, once,
   -- and no other number is in a view. Each view says what is so, and so do the notes of each cell.
   -- A worker without a call has no cell out and no note.
-  pub record IsKnown (table : State (Option B) (View Sub)) : Type 0 where
+  pub record IsTrueOf (table : State (Option B) (View Sub)) : Type 0 where
     pub words_are : AreWordsOf terms.shape known.trail table.words
     pub of_subject : IsOfTotals (terms.total terms.subject) terms.shape known.trail
     pub numbers : (w : ℕ) → total_over (λ (v : View Sub). times w v.numbers) table.views
@@ -112,4 +112,4 @@ module _ {B Sub : Type 0} (terms : Terms B Sub) (known : Knowledge) where
 
 -- the running rule
 abbrev pub RunningRule : {B Sub : Type 0} → Terms B Sub → State (Option B) (View Sub) → Type 0
-RunningRule terms table = (known : Knowledge) × IsKnown terms known table
+RunningRule terms table = (known : Knowledge) × IsTrueOf terms known table

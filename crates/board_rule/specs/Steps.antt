@@ -9,10 +9,10 @@ use Rattle.slot_station.specs.Desks.{Seen, caller_of, own_place, totals_of}
 use Rattle.slot_words.specs.Steps.{answer_of}
 use Rattle.board_rule.specs.declared.view.View.{View}
 use Rattle.board_rule.specs.Rule.{Terms}
-use Rattle.board_rule.specs.Views.{number, place_in, shown_in, grown}
+use Rattle.board_rule.specs.Views.{number, view_place, seen_by_view, view_called}
 
 -- the station's worker may make the call, by its place, its notes and the subject
-pub record MayMake {O Sub : Type 0} (total : Sub → ℕ → Option ℕ) (x : Seen O Sub)
+pub record AllowsCall {O Sub : Type 0} (total : Sub → ℕ → Option ℕ) (x : Seen O Sub)
     (c : Call) : Type 0 where
   pub place : MayAt x.desk.shape (own_place x) c
   pub cells : CellsAllow (totals_of total x) (caller_of x) c
@@ -24,7 +24,7 @@ pub record MayStep {B Sub : Type 0} (terms : Terms B Sub) (v : View Sub) (c : Ca
   pub numbers : v.numbers ≡ number v ∷ rest
   pub below : number v < terms.shape.workers
   pub shape : v.shape ≡ terms.shape
-  pub may : MayMake terms.total (shown_in v terms.subject) c
+  pub may : AllowsCall terms.total (seen_by_view v terms.subject) c
   pub still : v.out ≡ None
   pub alone : v.heard ≡ []
 
@@ -33,11 +33,11 @@ module _ {S Sub : Type 0} (totals : Sub → ℕ → Option ℕ) where
   -- the subject. It holds as many cells as before.
   pub record HasCalled (a : Act) (old new : Me S (View Sub)) : Type 0 where
     pub called : Called old.0.shape (entry (number old.0) a) old.0.trail new.0.trail
-    pub view : new.0 ≡ grown old.0 (number old.0) new.0.trail a
+    pub view : new.0 ≡ view_called old.0 (number old.0) new.0.trail a
     pub holds : new.1 ≡ old.1
     pub of_subject : (x : Sub) → old.0.subject ≡ Some x
         → IsOfTotals (totals x) old.0.shape new.0.trail
 
   -- the step is this call, with the answer that the call reads in the word found
   abbrev pub IsCall : Call → Step S → Me S (View Sub) → ℕ → Me S (View Sub) → Type 0
-  IsCall c step old found new = HasCalled (answer_of c (place_in old.0) found) old new
+  IsCall c step old found new = HasCalled (answer_of c (view_place old.0) found) old new

@@ -1,5 +1,6 @@
 -- What a seat's view gives, and what steps make of it.
-use Rattle.std.specs.Prelude.{ℕ, ◌+◌, cond, eqb, leb, zero, suc, length, drop, List, [], ◌∷◌, ◌++◌, Some, None, slice_index}
+use Rattle.std.specs.Prelude.{ℕ, ◌+◌, cond, eqb, leb, zero, suc, length}
+use Rattle.std.specs.Prelude.{drop, List, [], ◌∷◌, ◌++◌, Some, None, slice_index}
 use Rattle.slot_history.specs.declared.shape.Shape.{Shape}
 use Rattle.slot_history.specs.declared.act.Act.{Act}
 use Rattle.slot_history.specs.declared.act.Entry.{Entry}
@@ -22,9 +23,9 @@ abbrev pub numbers_from : ℕ → ℕ → List ℕ
 numbers_from first zero = []
 numbers_from first (suc n) = first ∷ numbers_from (suc first) n
 
-abbrev pub first_of : List ℕ → List ℕ
-first_of [] = []
-first_of (x ∷ xs) = x ∷ []
+abbrev pub only_first : List ℕ → List ℕ
+only_first [] = []
+only_first (x ∷ xs) = x ∷ []
 
 -- the longer of two trails, of which one begins the other
 abbrev pub longer : List Entry → List Entry → List Entry
@@ -36,35 +37,35 @@ module _ {Sub : Type 0} where
   number v = slice_index v.numbers 0
 
   -- where that worker is
-  abbrev pub place_in : View Sub → Place
-  place_in v = place_of v.shape v.trail (number v)
+  abbrev pub view_place : View Sub → Place
+  view_place v = place_of v.shape v.trail (number v)
 
   -- its note of the cell of a worker
   abbrev pub note_of : View Sub → ℕ → Note
   note_of v u = note_in v.own (number v) u
 
   -- what a station shows of itself, but for its origin
-  abbrev pub shown_by : Desk Sub → List Entry → (ℕ → Note) → Seen (Unit {0}) Sub
-  shown_by desk trail notes = record { origin = tt; desk = desk; trail = trail; notes = notes }
+  abbrev pub seen_with : Desk Sub → List Entry → (ℕ → Note) → Seen (Unit {0}) Sub
+  seen_with desk trail notes = record { origin = tt; desk = desk; trail = trail; notes = notes }
 
   -- what the view shows as the station of its worker, for this subject
-  abbrev pub shown_in : View Sub → Sub → Seen (Unit {0}) Sub
-  shown_in v subject = shown_by (record { worker = number v; shape = v.shape; subject = subject })
+  abbrev pub seen_by_view : View Sub → Sub → Seen (Unit {0}) Sub
+  seen_by_view v subject = seen_with (record { worker = number v; shape = v.shape; subject = subject })
       v.trail (note_of v)
 
   -- ---- after steps
 
   -- the view after the call `a` of its worker w, with this trail
-  abbrev pub grown : View Sub → ℕ → List Entry → Act → View Sub
-  grown v w trail a = record v { trail = trail; own = call w a ∷ v.own }
+  abbrev pub view_called : View Sub → ℕ → List Entry → Act → View Sub
+  view_called v w trail a = record v { trail = trail; own = call w a ∷ v.own }
 
   -- with the cell of this worker out
   abbrev pub with_out : View Sub → ℕ → View Sub
   with_out v u = record v { out = Some u }
 
   -- after the worker exchanged the cell of u, of which it has this note now
-  abbrev pub exchanged : View Sub → ℕ → Note → View Sub
-  exchanged v u note = record v {
+  abbrev pub view_exchanged : View Sub → ℕ → Note → View Sub
+  view_exchanged v u note = record v {
     own = Exchanged (record { worker = number v; cell = u; note = note }) ∷ v.own;
     out = None;
   }
@@ -85,7 +86,7 @@ module _ {Sub : Type 0} where
 
   -- a seat that is split keeps its own number, and the new one gets the further numbers
   abbrev pub kept_part : View Sub → View Sub
-  kept_part v = record v { numbers = first_of v.numbers; heard = [] }
+  kept_part v = record v { numbers = only_first v.numbers; heard = [] }
 
   abbrev pub dealt_part : View Sub → View Sub
   dealt_part v =

@@ -11,8 +11,8 @@ ghost use Rattle.slot_words.specs.Steps.{address_of, change_of, answer_of};
 ghost use Rattle.board_rule.specs.Operations.{changed, answered};
 ghost use Rattle.board_rule.specs.Passes.{IsPassOf, HasStepped, seen_of};
 ghost use Rattle.board_rule.specs.Rule.{RunningRule, terms_of};
-ghost use Rattle.board_rule.specs.Steps.{HasCalled, MayMake};
-ghost use Rattle.board_rule.specs.Views.{place_in};
+ghost use Rattle.board_rule.specs.Steps.{HasCalled, AllowsCall};
+ghost use Rattle.board_rule.specs.Views.{view_place};
 
 use crate::board::{Board, Pass};
 use crate::rule::{Calling, NamesCall};
@@ -55,10 +55,10 @@ fn operate<K: NamesCall, B: Fits>(
     requires allowed { let t = board.now.table.shared in let me = seat.old.me in
         Allows (RunningRule (terms_of B.total B.fits t.key)) t.table_id.slots seat.old.id me word
         (changed operation)
-        (λ n. HasCalled B.total (answer_of K.call (place_in me.0) (answered operation n)) me) }
+        (λ n. HasCalled B.total (answer_of K.call (view_place me.0) (answered operation n)) me) }
     ensures table { seat.new.table_id ≡ seat.old.table_id }
     ensures called { let me = seat.old.me in
-        HasCalled B.total (answer_of K.call (place_in me.0) result) me seat.new.me }
+        HasCalled B.total (answer_of K.call (view_place me.0) result) me seat.new.me }
 {
     match operation {
         WordOperation::Load => board.table.shared.load::<Calling<K>>(seat, word),
@@ -88,7 +88,7 @@ pub fn step<K: NamesCall, B: Fits, L: Ledger>(
     steps: &mut Steps<L>,
 ) -> u64
     requires pass { IsPassOf board.now pass.old }
-    requires call { MayMake B.total (seen_of board.now pass.old) K.call }
+    requires call { AllowsCall B.total (seen_of board.now pass.old) K.call }
     requires on { address ≡ address_of pass.old.worker K.call pass.old.place }
     requires change { (n : ℕ) → changed operation n ≡ change_of K.call pass.old.place n }
     requires answer { (n : ℕ) → answer_of K.call pass.old.place (answered operation n)

@@ -6,9 +6,11 @@ ghost use Rattle.slot_history.specs.declared.place.Place.TheVariants.{Free, Ente
 ghost use Rattle.slot_history.specs.declared.shape.TheConstants.{MOST_CLAIM};
 ghost use Rattle.slot_history.specs.States.{can_leave};
 ghost use Rattle.slot_station.specs.Cells.{LeavesKept, has_cell, kept_note};
-ghost use Rattle.slot_station.specs.Desks.{ExchangesOwn, LeaderOwesNothing, Makes, OwnCellSays, OwnFits, Owns};
+ghost use Rattle.slot_station.specs.Desks.{ExchangesOwn, LeaderOwesNothing, Makes};
+ghost use Rattle.slot_station.specs.Desks.{OwnCellSays, OwnFits, Owns};
 ghost use Rattle.slot_station.specs.Desks.{caller_of, own_place, own_ranges, own_total, totals_of};
-ghost use Rattle.slot_station.specs.Replies.{look_act, claim_act, leave_act, SeesTaskSet, IsCutRange, LiesPast, OwesTaskSet};
+ghost use Rattle.slot_station.specs.Replies.{look_act, claim_act, leave_act, SeesTaskSet};
+ghost use Rattle.slot_station.specs.Replies.{IsCutRange, LiesPast, OwesTaskSet};
 ghost use Rattle.slot_station.specs.Tokens.{ClaimGives, LeaveGives};
 ghost use Rattle.board_rule.specs.Passes.{IsPassOf, seen_of};
 
@@ -32,7 +34,8 @@ pub fn enter<B: Fits, L: Ledger>(board: &Board<B>, pass: &mut Pass<B>, s: u32, s
     requires place { own_place (seen_of board.now pass.old) ≡ Free }
     requires slot { s < (seen_of board.now pass.old).desk.shape.slots }
     ensures pass { IsPassOf board.now pass.new }
-    ensures made { Makes B.total (Enter s) (seen_of board.now pass.old) (seen_of board.now pass.new) }
+    ensures made { Makes B.total (Enter s)
+        (seen_of board.now pass.old) (seen_of board.now pass.new) }
     ensures ticks { steps.new ≡ steps.old + 1 }
 {
     let own = Address::WorkerOf(pass.worker);

@@ -1,5 +1,5 @@
 use Rattle.std.proofs.Common.{[], ◌∷◌}
-use Rattle.board_rule.proofs.Meets.{shift, done-mid, join-step, gathered-first, gathered-more}
+use Rattle.board_rule.proofs.Joins.{shift, done-mid, join-step, gathered-first, gathered-more}
 use Rattle.board_rule.proofs.life.gather.Goals as goal
 
 pub loop-pass-init : goal.loop-pass-init

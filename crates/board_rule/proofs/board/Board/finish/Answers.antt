@@ -1,4 +1,4 @@
-use Rattle.board_rule.proofs.Meets.{finished}
+use Rattle.board_rule.proofs.Joins.{finished}
 use Rattle.board_rule.proofs.board.Board.finish.Goals as goal
 
 pub returns : goal.returns

@@ -1,14 +1,13 @@
 -- An exchange of a cell over a board: what its two loads owe, and what the pass is after them.
 use Rattle.std.proofs.Common.{◌≡◌, ℕ, ◌*◌, ◌<◌, true, List, ◌∷◌, cond, eqb, ◌&&◌, length, Option}
-use Rattle.std.proofs.Common.{Some, IfSome, refl, sym, ap, ap₂, ◌∙◌, subst, eq-eqb, ne_eqb, arith}
-use Rattle.std.specs.Prelude.{is_some, unwrap_or}
+use Rattle.std.proofs.Common.{Some, IfSome, None, refl, sym, ap, ap₂, ◌∙◌, subst, eq-eqb, ne_eqb, arith}
+use Rattle.std.specs.Prelude.{unwrap_or}
 use Rattle.std.proofs.Math.Bool.{and-false}
 use mathlib.Core.Option as std_option
 use Rattle.atomic_table.specs.Table as table
 use Rattle.atomic_table.specs.Table.{Me, Allows, step, rest}
 use Rattle.atomic_table.specs.declared.shared.Seat.{Seat}
 use Rattle.slot_history.specs.declared.shape.Shape.{Shape}
-use Rattle.slot_history.specs.Histories.{IsLegal, place_of}
 use Rattle.slot_station.specs.declared.note.Note.{Note}
 use Rattle.slot_station.specs.Desks.{Exchanges, caller_of, own_place}
 use Rattle.slot_station.specs.Exchanges.{MayExchange, MayPut, HoldsNoted, put_note}
@@ -21,7 +20,7 @@ use Rattle.board_rule.specs.Passes.{shape_of, subject_of, seen_at, seen_of, IsSe
 use Rattle.board_rule.specs.Rule.{RunningRule, Terms, terms_of}
 use Rattle.board_rule.specs.Views.{number, view_place, seen_by_view, with_out, view_exchanged}
 use Rattle.board_rule.proofs.Moves.{take-allowed, give-allowed}
-use Rattle.board_rule.proofs.Stepping.{place-is, place-in, still, below, by-view, by-board}
+use Rattle.board_rule.proofs.Stepping.{place-is, place-in, still, below, by-view, by-board, goes-on}
 
 pair-heads : {X : Type 0} → (a c : ℕ) (x y : X) (r q : List (ℕ × X)) → (a, x) ∷ r ≡ (c, y) ∷ q → (a ≡ c) × (x ≡ y) × (r ≡ q)
 pair-heads {X} a c x y r q e =
@@ -116,19 +115,8 @@ module _ {B Sub : Type 0} (total : Sub → ℕ → Option ℕ) (fits : Sub → �
           carries = ap (λ (x : Me (Option B) (View Sub)). x.1) me ∙ g.holds ∙ ap (λ (x : Me (Option B) (View Sub)). rest x.1) puts ∙ heads.2
 
           pub pass-after : s.table_id ≡ p.seat.table_id → IsSeatOf b p.worker p.place s
-          pass-after id = (
-            id ∙ ours.0,
-            ours.1,
-            subst (λ (z : View Sub). 0 < length z.numbers) (sym knows) ours.2,
-            ap (λ (z : View Sub). number z) knows ∙ ours.3,
-            ap (λ (z : View Sub). z.shape) knows ∙ ours.4,
-            ap (λ (z : View Sub). z.subject) knows ∙ ours.5,
-            ap (λ t. place_of d t p.worker) trail ∙ ours.6,
-            ap (λ (z : View Sub). is_some z.out) knows,
-            ap (λ (z : View Sub). length z.heard) knows ∙ ours.8,
-            ap length carries ∙ ours.9,
-            subst (λ t. ∥ IsLegal d t ∥₁) (sym trail) ours.10,
-          )
+          pass-after id = goes-on b p.worker p.place p.seat ours v.trail (view_exchanged v u noted).own None p.place
+              (place-is b p.worker p.place p.seat ours) refl ours.10 s id knows (ap length carries ∙ ours.9)
 
           pub put-after : Exchanges u noted (seen_of b p) (seen_at b p.worker s)
           put-after =

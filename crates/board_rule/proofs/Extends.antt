@@ -197,15 +197,6 @@ module _ {B Sub : Type 0} (terms : Terms B Sub) (known : Knowledge) (st : table.
     abbrev q : Place
     q = view_place v
 
-    abbrev word : ℕ
-    word = index d (address_of w c q)
-
-    abbrev reads : ℕ
-    reads = slice_index st.words word
-
-    abbrev answer : Act
-    answer = answer_of c q reads
-
     abbrev Extended : Place → Type 0
     Extended r = let n = slice_index st.words (index d (address_of w c r)) in let b = answer_of c r n in
         Called d (entry w b) v.trail (entry w b ∷ known.trail)

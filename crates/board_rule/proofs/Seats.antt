@@ -1,11 +1,11 @@
 -- Seats are split and joined.
 use Rattle.std.proofs.Common.{◌≡◌, ℕ, zero, suc, ◌+◌, ◌<◌, ◌≤◌, ◌⊎◌, Bool, true, false, cond, eqb, leb, List, [], ◌∷◌, ◌++◌}
-use Rattle.std.proofs.Common.{length, length-append, set, drop, None, slice_index, refl, sym, ap, ◌∙◌, subst, inl, inr, ⊎_elim, le-leb, leb-true, arith}
+use Rattle.std.proofs.Common.{length, length-append, set, drop, Option, None, slice_index, refl, sym, ap, ◌∙◌, subst, inl, inr, ⊎_elim, le-leb, leb-true, arith}
 use mathlib.Core.Option.{some, some-injective, some-ne-none}
 use mathlib.Core.Logic.{dite}
 use native.Mathlib.Decide.{ℕ_discrete, dec_le}
 use lib.ListN.{get_elem?}
-use Rattle.atomic_table.specs.Table.{Splits, Joins}
+use Rattle.atomic_table.specs.Table.{State, Splits, Joins}
 use Rattle.atomic_table.proofs.Lists.{at_set, at_snoc}
 use Rattle.slot_history.specs.declared.act.Entry.{Entry}
 use Rattle.slot_history.specs.declared.place.Place.TheVariants.{Free}
@@ -15,9 +15,22 @@ use Rattle.slot_history.proofs.Own.{found-place}
 use Rattle.slot_station.specs.declared.note.Note.TheVariants.{Loose}
 use Rattle.board_rule.specs.declared.view.View.{View}
 use Rattle.board_rule.specs.declared.view.Heard.{Heard}
-use Rattle.board_rule.specs.Rule.{Terms, Knowledge, IsHeard, IsViewOf, RunningRule}
+use Rattle.board_rule.specs.Rule.{Terms, Knowledge, IsHeard, IsTrueOf, IsViewOf, RunningRule, total_over}
 use Rattle.board_rule.specs.Views.{times, number, only_first, longer, kept_part, dealt_part, heard_of, joined, spent}
 use Rattle.board_rule.proofs.Lists.{total-set, total-append, times-head, times-append, counts-not, cons-head, cons-tail}
+
+-- the table with other views, which say what is so and have each number as often as before
+with-views : {B Sub : Type 0} → (terms : Terms B Sub) (known : Knowledge) (st : State (Option B) (View Sub)) → IsTrueOf terms known st
+    → (views : List (View Sub)) → ((m : ℕ) → total_over (λ (z : View Sub). times m z.numbers) views ≡ total_over (λ (z : View Sub). times m z.numbers) st.views)
+    → ((i : ℕ) (v : View Sub) → get_elem? views i ≡ some v → IsViewOf terms known v) → IsTrueOf terms known (record st { views = views })
+with-views terms known st ok views count each = record {
+  words_are = ok.words_are;
+  of_subject = ok.of_subject;
+  numbers = λ m. count m ∙ ok.numbers m;
+  views = each;
+  cells = ok.cells;
+  idle = ok.idle;
+}
 
 -- ---- a seat is split
 
@@ -66,26 +79,21 @@ module _ {B Sub : Type 0} (terms : Terms B Sub) where
   splits i v w ws nums fresh s (known, ok) at =
       let old = ok.views i v at in (
         known,
-        record {
-          words_are = ok.words_are;
-          of_subject = ok.of_subject;
-          numbers = λ m.
-              let f : View Sub → ℕ = λ z. times m z.numbers in
-              let t = total-set f s.views i v (kept_part v) at in
-              let a = total-append f (set s.views i (kept_part v)) (dealt_part v) in
-              let u : times m v.numbers ≡ times m (w ∷ ws) = ap (times m) nums in
-              let k : times m (only_first v.numbers) ≡ times m (w ∷ []) = ap (λ l. times m (only_first l)) nums in
-              let r : times m (drop 1 v.numbers) ≡ times m ws = ap (λ l. times m (drop 1 l)) nums in omega (arith, ok.numbers m);
-          views = λ j u at_j. ⊎_elim
-              (λ in_set. ⊎_elim
-              (λ r. subst (IsViewOf terms known) r.1 (view-kept terms known v w ws nums old))
-              (λ r. ok.views j u r.1)
-              (at_set s.views i j (kept_part v) u in_set))
-              (λ r. subst (IsViewOf terms known) r (view-dealt terms known v w ws nums old fresh ok.idle))
-              (at_snoc (set s.views i (kept_part v)) (dealt_part v) u j at_j);
-          cells = ok.cells;
-          idle = ok.idle;
-        },
+        with-views terms known s ok (set s.views i (kept_part v) ++ dealt_part v ∷ [])
+            (λ m.
+            let f : View Sub → ℕ = λ z. times m z.numbers in
+            let t = total-set f s.views i v (kept_part v) at in
+            let a = total-append f (set s.views i (kept_part v)) (dealt_part v) in
+            let u : times m v.numbers ≡ times m (w ∷ ws) = ap (times m) nums in
+            let k : times m (only_first v.numbers) ≡ times m (w ∷ []) = ap (λ l. times m (only_first l)) nums in
+            let r : times m (drop 1 v.numbers) ≡ times m ws = ap (λ l. times m (drop 1 l)) nums in omega arith)
+            (λ j u at_j. ⊎_elim
+            (λ in_set. ⊎_elim
+            (λ r. subst (IsViewOf terms known) r.1 (view-kept terms known v w ws nums old))
+            (λ r. ok.views j u r.1)
+            (at_set s.views i j (kept_part v) u in_set))
+            (λ r. subst (IsViewOf terms known) r (view-dealt terms known v w ws nums old fresh ok.idle))
+            (at_snoc (set s.views i (kept_part v)) (dealt_part v) u j at_j)),
       )
 
 -- ---- the longer of two beginnings of a history
@@ -193,22 +201,17 @@ module _ {B Sub : Type 0} (terms : Terms B Sub) where
   joins i v j u w x ws xs nums nums' free s (known, ok) at ne at_j =
       let old_u : get_elem? s.views j ≡ some u = ⊎_elim (λ r. absurd (ne r.0)) (λ r. r.1) (at_set s.views i j (joined v u) u at_j) in (
         known,
-        record {
-          words_are = ok.words_are;
-          of_subject = ok.of_subject;
-          numbers = λ m.
-              let f : View Sub → ℕ = λ z. times m z.numbers in
-              let t = total-set f s.views i v (joined v u) at in
-              let r = total-set f (set s.views i (joined v u)) j u spent at_j in
-              let k = times-append m v.numbers u.numbers in omega (arith, ok.numbers m);
-          views = λ k z at_k. ⊎_elim
-              (λ r. subst (IsViewOf terms known) r.1 (view-spent terms known))
-              (λ r. ⊎_elim
-              (λ q. subst (IsViewOf terms known) q.1 (view-joined terms known v u w x ws xs nums nums' free (ok.views i v at) (ok.views j u old_u)))
-              (λ q. ok.views k z q.1)
-              (at_set s.views i k (joined v u) z r.1))
-              (at_set (set s.views i (joined v u)) j k spent z at_k);
-          cells = ok.cells;
-          idle = ok.idle;
-        },
+        with-views terms known s ok (set (set s.views i (joined v u)) j spent)
+            (λ m.
+            let f : View Sub → ℕ = λ z. times m z.numbers in
+            let t = total-set f s.views i v (joined v u) at in
+            let r = total-set f (set s.views i (joined v u)) j u spent at_j in
+            let k = times-append m v.numbers u.numbers in omega arith)
+            (λ k z at_k. ⊎_elim
+            (λ r. subst (IsViewOf terms known) r.1 (view-spent terms known))
+            (λ r. ⊎_elim
+            (λ q. subst (IsViewOf terms known) q.1 (view-joined terms known v u w x ws xs nums nums' free (ok.views i v at) (ok.views j u old_u)))
+            (λ q. ok.views k z q.1)
+            (at_set s.views i k (joined v u) z r.1))
+            (at_set (set s.views i (joined v u)) j k spent z at_k)),
       )

@@ -8,6 +8,7 @@ use Rattle.atomic_table.specs.Table.{Me, Allows}
 use Rattle.atomic_table.specs.declared.shared.Seat.{Seat}
 use Rattle.slot_history.specs.declared.shape.Shape.{Shape}
 use Rattle.slot_history.specs.declared.act.Act.{Act}
+use Rattle.slot_history.specs.declared.act.Entry.{Entry}
 use Rattle.slot_history.specs.declared.place.Place.{Place}
 use Rattle.slot_history.specs.Bounds.{IsShape}
 use Rattle.slot_history.specs.Steps.{moved}
@@ -16,7 +17,8 @@ use Rattle.slot_history.specs.Calls.{Call, MayAt}
 use Rattle.slot_history.proofs.Own.{calls-go-on}
 use Rattle.slot_station.specs.Cells.{noted, CellsAllow}
 use Rattle.slot_station.specs.Desks.{Makes, Seen, caller_of, own_place, totals_of}
-use Rattle.slot_station.specs.Log.{note_in}
+use Rattle.slot_station.specs.declared.log.Logged.{Logged}
+use Rattle.slot_station.specs.Log.{note_in, call}
 use Rattle.slot_words.specs.declared.address.Address.{Address}
 use Rattle.slot_words.specs.Addresses.{index, count_of_words}
 use Rattle.slot_words.specs.Numbers.{IsSmall}
@@ -70,6 +72,24 @@ module _ {B Sub : Type 0} (board : Board B Sub) (w : ℕ) (p : Place) (seat : Se
 
   pub below : number v < d.workers
   below = subst (λ m. m < d.workers) (sym ours.3) ours.1
+
+  -- the seat goes on with this trail, these own calls and exchanges, and this cell out, and is at the place q then
+  pub goes-on : (trail : List Entry) (own : List Logged) (out : Option ℕ) (q : Place) → place_of d trail w ≡ q → is_some out ≡ false
+      → ∥ IsLegal d trail ∥₁ → (other : Seat (Option B) (View Sub)) → other.table_id ≡ seat.table_id
+      → other.me.0 ≡ record v { trail = trail; own = own; out = out } → length other.me.1 ≡ 0 → IsSeatOf board w q other
+  goes-on trail own out q there none legal other id view carries = (
+    id ∙ ours.0,
+    ours.1,
+    subst (λ (z : View Sub). 0 < length z.numbers) (sym view) ours.2,
+    ap (λ (z : View Sub). number z) view ∙ ours.3,
+    ap (λ (z : View Sub). z.shape) view ∙ ours.4,
+    ap (λ (z : View Sub). z.subject) view ∙ ours.5,
+    ap (λ (z : View Sub). place_of d z.trail w) view ∙ there,
+    ap (λ (z : View Sub). is_some z.out) view ∙ none,
+    ap (λ (z : View Sub). length z.heard) view ∙ ours.8,
+    carries,
+    subst (λ t. ∥ IsLegal d t ∥₁) (sym (ap (λ (z : View Sub). z.trail) view)) legal,
+  )
 
   -- ---- a step that is the call c
 
@@ -139,21 +159,10 @@ module _ {B Sub : Type 0} (board : Board B Sub) (w : ℕ) (p : Place) (seat : Se
     pub seat-after : (other : Seat (Option B) (View Sub)) → other.table_id ≡ seat.table_id → other.me ≡ new → IsSeatOf board w (moved board.shape a p) other
     seat-after other id me =
         let goes = calls-go-on d w a v.trail new.0.trail called in
-        let view : other.me.0 ≡ new.0 = ap (λ (m : Me (Option B) (View Sub)). m.0) me in
-        let all : other.me.0 ≡ view_called v w new.0.trail a = view ∙ grows in
-        let trail : other.me.0.trail ≡ new.0.trail = ap (λ (z : View Sub). z.trail) view in (
-          id ∙ ours.0,
-          ours.1,
-          subst (λ (z : View Sub). 0 < length z.numbers) (sym all) ours.2,
-          ap (λ (z : View Sub). number z) all ∙ ours.3,
-          ap (λ (z : View Sub). z.shape) all ∙ ours.4,
-          ap (λ (z : View Sub). z.subject) all ∙ ours.5,
-          ap (λ l. place_of d l w) trail ∙ goes.place ∙ ap₂ (λ e q. moved e a q) board.shape_is place-is,
-          ap (λ (z : View Sub). is_some z.out) all ∙ ours.7,
-          ap (λ (z : View Sub). length z.heard) all ∙ ours.8,
-          ap (λ (m : Me (Option B) (View Sub)). length m.1) me ∙ ap length told.holds ∙ ours.9,
-          ∣ subst (IsLegal d) (sym trail) called.4 ∣₁,
-        )
+        let trail = new.0.trail in
+        goes-on trail (call w a ∷ v.own) v.out (moved board.shape a p) (goes.place ∙ ap₂ (λ e q. moved e a q) board.shape_is place-is) ours.7 ∣ called.4 ∣₁
+        other id (ap (λ (m : Me (Option B) (View Sub)). m.0) me ∙ grows)
+        (ap (λ (m : Me (Option B) (View Sub)). length m.1) me ∙ ap length told.holds ∙ ours.9)
 
     pub made : (other : Seat (Option B) (View Sub)) → other.me ≡ new → Makes total a (seen_at board w seat) (seen_at board w other)
     made other me =

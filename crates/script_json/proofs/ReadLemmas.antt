@@ -1,18 +1,25 @@
 -- What a read of bytes says of them.
-use Rattle.std.proofs.Common.{◌≡◌, ℕ, List, All, IfOk, IfErr, Ok, Err, sym, ap, ◌∙◌, subst}
+use Rattle.std.proofs.Common.{◌≡◌, ◌≢◌, ℕ, List, All, IfOk, IfErr, Ok, Err, sym, ap, ◌∙◌, subst}
 use Rattle.std.specs.Prelude.{◌⊎◌}
 use Rattle.std.proofs.Common.{inl, inr}
 use Rattle.serde_json.specs.Data.{Data}
 use Rattle.plan_ast.specs.Bounds.{IsInBounds}
 use Rattle.script_json.specs.Forms.{Gives, Reading}
 use Rattle.script_json.specs.Format.{script}
-use Rattle.script_json.specs.Scripts.{IsJson, ReadsScript, RefusesScript}
+use Rattle.script_json.specs.Scripts.{IsJson, ReadsScript, RefusesJson, RefusesScript}
 use Rattle.script_json.specs.WellFormed.{IsScript}
 use Rattle.script_json.specs.declared.refusal.ScriptRefusal.{ScriptRefusal}
-use Rattle.script_json.specs.declared.refusal.ScriptRefusal.TheVariants.{NotJson, VersionUnknown, UnknownKey, WrongShape, WrongNumber, TooMany, BadText, TwiceNamed, AfterTooLarge, OutOfMemory}
+use Rattle.script_json.specs.declared.refusal.ScriptRefusal.TheVariants.{NotJson, VersionUnknown, UnknownKey, WrongShape, WrongNumber, TooMany, BadText}
+use Rattle.script_json.specs.declared.refusal.ScriptRefusal.TheVariants.{TwiceNamed, AfterTooLarge, OutOfMemory}
 use Rattle.script_json.specs.declared.script.Script.{Script}
 use Rattle.script_json.proofs.FormatMakes.{script-makes}
 use Rattle.script_json.proofs.Makes.{Makes}
+
+-- a refusal other than out of memory is of the JSON value
+RefusesJson-said : (bytes : List ℕ) (value : Data) (refusal : ScriptRefusal) → refusal ≢ OutOfMemory → IsJson bytes value
+    → (refusal ≡ OutOfMemory) ⊎ (script value ≡ Err refusal) → RefusesJson bytes refusal
+RefusesJson-said bytes value refusal known json (inl memory) = absurd (known memory)
+RefusesJson-said bytes value refusal known json (inr said) = record { value = value; json = json; says = said }
 
 -- a refusal of a JSON value is one of its bytes
 pub RefusesScript-said : (bytes : List ℕ) (value : Data) (refusal : ScriptRefusal) → IsJson bytes value
@@ -20,22 +27,14 @@ pub RefusesScript-said : (bytes : List ℕ) (value : Data) (refusal : ScriptRefu
 RefusesScript-said bytes value NotJson json (inl e) = absurd cc
 RefusesScript-said bytes value NotJson json (inr said) = absurd (subst (λ r. Makes IsScript r) said (script-makes value))
 RefusesScript-said bytes value OutOfMemory json h = tt
-RefusesScript-said bytes value VersionUnknown json (inl e) = absurd cc
-RefusesScript-said bytes value VersionUnknown json (inr said) = record { value = value; json = json; says = said }
-RefusesScript-said bytes value (UnknownKey path) json (inl e) = absurd cc
-RefusesScript-said bytes value (UnknownKey path) json (inr said) = record { value = value; json = json; says = said }
-RefusesScript-said bytes value (WrongShape path) json (inl e) = absurd cc
-RefusesScript-said bytes value (WrongShape path) json (inr said) = record { value = value; json = json; says = said }
-RefusesScript-said bytes value (WrongNumber path) json (inl e) = absurd cc
-RefusesScript-said bytes value (WrongNumber path) json (inr said) = record { value = value; json = json; says = said }
-RefusesScript-said bytes value (TooMany path) json (inl e) = absurd cc
-RefusesScript-said bytes value (TooMany path) json (inr said) = record { value = value; json = json; says = said }
-RefusesScript-said bytes value (BadText path) json (inl e) = absurd cc
-RefusesScript-said bytes value (BadText path) json (inr said) = record { value = value; json = json; says = said }
-RefusesScript-said bytes value (TwiceNamed path) json (inl e) = absurd cc
-RefusesScript-said bytes value (TwiceNamed path) json (inr said) = record { value = value; json = json; says = said }
-RefusesScript-said bytes value (AfterTooLarge query) json (inl e) = absurd cc
-RefusesScript-said bytes value (AfterTooLarge query) json (inr said) = record { value = value; json = json; says = said }
+RefusesScript-said bytes value VersionUnknown json h = RefusesJson-said bytes value _ (λ memory. cc) json h
+RefusesScript-said bytes value (UnknownKey path) json h = RefusesJson-said bytes value _ (λ memory. cc) json h
+RefusesScript-said bytes value (WrongShape path) json h = RefusesJson-said bytes value _ (λ memory. cc) json h
+RefusesScript-said bytes value (WrongNumber path) json h = RefusesJson-said bytes value _ (λ memory. cc) json h
+RefusesScript-said bytes value (TooMany path) json h = RefusesJson-said bytes value _ (λ memory. cc) json h
+RefusesScript-said bytes value (BadText path) json h = RefusesJson-said bytes value _ (λ memory. cc) json h
+RefusesScript-said bytes value (TwiceNamed path) json h = RefusesJson-said bytes value _ (λ memory. cc) json h
+RefusesScript-said bytes value (AfterTooLarge query) json h = RefusesJson-said bytes value _ (λ memory. cc) json h
 
 pub refused-IsJson : (bytes : List ℕ) (value : Data) (result : Reading Script)
     → IsJson bytes value → Gives (script value) result → IfErr result (RefusesScript bytes)

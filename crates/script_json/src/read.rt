@@ -41,7 +41,7 @@ fn parse(alloc: Global, bytes: &[u8]) -> Result<Value, ScriptRefusal>
     ensures refused { IfErr result (λ refusal. (refusal ≡ ScriptRefusal.OutOfMemory)
         ⊎ ((refusal ≡ ScriptRefusal.NotJson) × ((value : Data) → ¬ IsJson bytes.now value))) }
 {
-    match Value::from_slice(alloc, after_mark(bytes)) {
+    match Value::from_slice(alloc, without_mark(bytes)) {
         Ok(value) => Ok(value),
         Err(e) if e.classify() == Category::Memory => Err(ScriptRefusal::OutOfMemory),
         Err(_e) => Err(ScriptRefusal::NotJson),
@@ -49,7 +49,7 @@ fn parse(alloc: Global, bytes: &[u8]) -> Result<Value, ScriptRefusal>
 }
 
 // The bytes after a byte order mark, if they begin with one.
-fn after_mark(bytes: &[u8]) -> &[u8]
+fn without_mark(bytes: &[u8]) -> &[u8]
     ensures { result.now ≡ without_mark bytes.now }
 {
     match bytes.strip_prefix(b"\xEF\xBB\xBF") {

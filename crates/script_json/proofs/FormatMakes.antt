@@ -1,5 +1,6 @@
 -- What each form of the format makes of a value.
-use Rattle.std.proofs.Common.{◌≡◌, ◌≢◌, ℕ, ◌≤◌, List, [], ◌∷◌, ◌++◌, length, codes, cond, Bool, true, false, not, ◌||◌, true≢false, nat_eq, bytes_eq, option_map, All, IfSome, Option, Some, None, Ok, refl, sym, ◌∙◌, arith, subst}
+use Rattle.std.proofs.Common.{◌≡◌, ◌≢◌, ℕ, ◌≤◌, List, [], ◌∷◌, ◌++◌, length, codes, cond, Bool, true, false, not, ◌||◌, true≢false, nat_eq, bytes_eq}
+use Rattle.std.proofs.Common.{option_map, All, IfSome, Option, Some, None, Ok, refl, sym, ◌∙◌, arith, subst}
 use Rattle.std.specs.Prelude.{⊤, AllPairs, IsTrue, if◌then◌else◌}
 use Rattle.std.specs.List.{list_any}
 use Rattle.std.specs.Option.{option_map_or}
@@ -18,13 +19,18 @@ use Rattle.plan_ast.specs.declared.queries.Func.TheVariants.{Count, Sum, Min, Ma
 use Rattle.plan_ast.specs.declared.queries.Output.{Output}
 use Rattle.plan_ast.specs.declared.queries.Query.{Query}
 use Rattle.script_json.specs.Forms.{Form, Reading, ◌>>◌, array_of, or_refuse, required, optional, bad_text, twice_named, whole, wrong_number, wrong_shape}
-use Rattle.script_json.specs.Format.{aggregate, aggregates, any_number, count_of_rows, counts, file_name, filter, filters, first_early, function, function_named, function_of_column, groups, groups_of, has, is_file_name, is_i64, is_name, join, joined_column, joins, name, new_name, operator, operator_named, output, output_among, output_keys, query, query_keys, reference, reference_among, references, refuse_early, rows_of, script, table_entry, totals_of, version}
+use Rattle.script_json.specs.Format.{aggregate, aggregates, any_number, count_of_rows, counts, file_name, filter, filters, first_early, function}
+use Rattle.script_json.specs.Format.{function_named, function_of_column, groups, groups_of, has, is_file_name, is_i64, is_name, join, joined_column, joins}
+use Rattle.script_json.specs.Format.{name, new_name, operator, operator_named, output, output_among, output_keys, query, query_keys, reference, reference_among}
+use Rattle.script_json.specs.Format.{references, refuse_early, rows_of, script, table_entry, totals_of, version}
 use Rattle.script_json.specs.WellFormed.{IsAgg, IsEntry, IsFilter, IsOutput, IsQuery, IsReference, IsScript}
 use Rattle.script_json.specs.declared.refusal.PathStep.TheVariants.{At}
 use Rattle.script_json.specs.declared.refusal.ScriptRefusal.TheVariants.{VersionUnknown}
 use Rattle.script_json.specs.declared.script.TableEntry.{TableEntry}
 use Rattle.script_json.proofs.Parts.{AnyAgg, FewJoin}
-use Rattle.script_json.proofs.Makes.{Makes, Makes-after, Makes-array_of, Makes-found, Makes-member, Makes-member_or, Makes-object_of, Makes-optional, Makes-or_refuse, Makes-refuse_if, Makes-required, Makes-text_of, Makes-then, Makes-under-then, Makes-unless, Makes-weaker, Makes-whole, Makes-word_of, true-from_not}
+use Rattle.script_json.proofs.Makes.{Makes, Makes-after, Makes-array_of, Makes-found, Makes-member, Makes-member_or, Makes-object_of, Makes-optional}
+use Rattle.script_json.proofs.Makes.{Makes-or_refuse, Makes-refuse_if, Makes-required, Makes-text_of, Makes-then, Makes-under-then, Makes-unless, Makes-weaker}
+use Rattle.script_json.proofs.Makes.{Makes-whole, Makes-word_of, true-from_not}
 
 -- a text that keeps the rule of names
 abbrev Named : List ℕ → Type 0

@@ -1,16 +1,19 @@
 -- What a form makes of a value, if it reads it: one lemma for each piece that forms are made of.
-use Rattle.std.proofs.Common.{◌≡◌, ℕ, suc, ◌+◌, ◌≤◌, List, [], ◌∷◌, ◌++◌, length, Bool, true, false, not, ◌||◌, nat_lt, Option, Some, None, Ok, Err, refl, sym, ◌∙◌, arith, length-append}
+use Rattle.std.proofs.Common.{◌≡◌, ℕ, suc, ◌+◌, ◌≤◌, List, [], ◌∷◌, ◌++◌, length, Bool, true, false, not, ◌||◌, nat_lt, Option, Some, None, Ok, Err, refl, sym}
+use Rattle.std.proofs.Common.{◌∙◌, arith, length-append}
 use Rattle.std.specs.Prelude.{⊤, IsTrue}
 use Rattle.std.proofs.lemmas.Bool.Decides.{nat_tests}
 use Rattle.serde_json.specs.Data.{Data, Items, no_items, item}
 use Rattle.serde_json.specs.Events.{items_len}
 use Rattle.serde_json.specs.Find.{as_array, as_number, as_object, as_str, as_u64, get}
-use Rattle.script_json.specs.Forms.{Form, Reading, ◌>>=◌, ◌>>◌, array_of, bad_text, each, has_other_key, items_of, object_of, optional, or_refuse, read_or, refuse_if, required, text_of, too_many, under, unknown_key, whole, word_of, wrong_number, wrong_shape}
+use Rattle.script_json.specs.Forms.{Form, Reading, ◌>>=◌, ◌>>◌, array_of, bad_text, each, has_other_key, items_of, object_of, optional, or_refuse, read_or}
+use Rattle.script_json.specs.Forms.{refuse_if, required, text_of, too_many, under, unknown_key, whole, word_of, wrong_number, wrong_shape}
 use Rattle.script_json.specs.Paths.{within}
 use Rattle.script_json.specs.declared.refusal.PathStep.{PathStep}
 use Rattle.script_json.specs.declared.refusal.PathStep.TheVariants.{At, Key}
 use Rattle.script_json.specs.declared.refusal.ScriptRefusal.{ScriptRefusal}
-use Rattle.script_json.specs.declared.refusal.ScriptRefusal.TheVariants.{NotJson, VersionUnknown, UnknownKey, WrongShape, WrongNumber, TooMany, BadText, TwiceNamed, AfterTooLarge, OutOfMemory}
+use Rattle.script_json.specs.declared.refusal.ScriptRefusal.TheVariants.{NotJson, VersionUnknown, UnknownKey, WrongShape, WrongNumber, TooMany, BadText}
+use Rattle.script_json.specs.declared.refusal.ScriptRefusal.TheVariants.{TwiceNamed, AfterTooLarge, OutOfMemory}
 
 -- a refusal of a value, and not of bytes
 abbrev pub IsOfValue : ScriptRefusal → Type 0

@@ -13,7 +13,8 @@ use Rattle.plan_ast.specs.declared.queries.Agg.{Agg}
 use Rattle.plan_ast.specs.declared.queries.Output.{Output}
 use Rattle.plan_ast.specs.declared.queries.Output.TheVariants.{Rows, Totals, Groups}
 use Rattle.plan_ast.specs.declared.queries.Query.{Query}
-use Rattle.script_json.specs.Canonical.{aggregate_members, aggregate_value, entry_value, filter_value, join_value, object_with, output_value, query_value, reference_value, script_value}
+use Rattle.script_json.specs.Canonical.{aggregate_members, aggregate_value, entry_value, filter_value, join_value, object_with, output_value, query_value}
+use Rattle.script_json.specs.Canonical.{reference_value, script_value}
 use Rattle.script_json.specs.declared.script.TableEntry.{TableEntry}
 use Rattle.script_json.specs.declared.script.Script.{Script}
 

@@ -1,5 +1,6 @@
 -- What is written in the canonical form is read back as what it was.
-use Rattle.std.proofs.Common.{◌≡◌, ◌≢◌, ℕ, suc, ◌≤◌, ◌<◌, pos, negsuc, List, [], ◌∷◌, ◌++◌, map, length, Bool, true, false, nat_lt, bytes_eq, All, Option, Some, None, Ok, refl, sym, ap, ◌∙◌, subst, arith, append_assoc, append-nil, length-append, true≢false}
+use Rattle.std.proofs.Common.{◌≡◌, ◌≢◌, ℕ, suc, ◌≤◌, ◌<◌, pos, negsuc, List, [], ◌∷◌, ◌++◌, map, length, Bool, true, false, nat_lt, bytes_eq, All, Option, Some}
+use Rattle.std.proofs.Common.{None, Ok, refl, sym, ap, ◌∙◌, subst, arith, append_assoc, append-nil, length-append, true≢false}
 use Rattle.std.specs.Prelude.{ℤ, AllPairs, IsTrue, ◌==◌}
 use Rattle.std.proofs.lemmas.Bool.Decides.{nat_tests}
 use Rattle.std.proofs.lemmas.List.{get_or_append_left}
@@ -23,9 +24,11 @@ use Rattle.plan_ast.specs.declared.queries.Agg.{Agg}
 use Rattle.plan_ast.specs.declared.queries.Output.{Output}
 use Rattle.plan_ast.specs.declared.queries.Output.TheVariants.{Rows, Totals, Groups}
 use Rattle.plan_ast.specs.declared.queries.Query.{Query}
-use Rattle.script_json.specs.Canonical.{aggregate_members, aggregate_value, array_with, entry_value, filter_value, function_word, join_value, object_with, operator_word, output_value, query_value, reference_value, script_value}
+use Rattle.script_json.specs.Canonical.{aggregate_members, aggregate_value, array_with, entry_value, filter_value, function_word, join_value, object_with}
+use Rattle.script_json.specs.Canonical.{operator_word, output_value, query_value, reference_value, script_value}
 use Rattle.script_json.specs.Forms.{Form, array_of, each, whole}
-use Rattle.script_json.specs.Format.{aggregate, any_number, file_name, filter, filters, function, is_file_name, is_i64, is_name, join, joins, name, operator, output, query, reference, script, table_entry}
+use Rattle.script_json.specs.Format.{aggregate, any_number, file_name, filter, filters, function, is_file_name, is_i64, is_name, join, joins, name, operator}
+use Rattle.script_json.specs.Format.{output, query, reference, script, table_entry}
 use Rattle.script_json.specs.WellFormed.{IsAgg, IsEntry, IsFilter, IsOutput, IsQuery, IsReference, IsScript}
 use Rattle.script_json.specs.declared.script.TableEntry.{TableEntry}
 use Rattle.script_json.specs.declared.script.Script.{Script}

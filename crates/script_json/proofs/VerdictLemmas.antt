@@ -12,7 +12,8 @@ use Rattle.script_json.specs.Scripts.{IsJson, ReadsScript, RefusesJson, RefusesS
 use Rattle.script_json.specs.Verdicts.{HasOneVerdict, IsVerdict}
 use Rattle.script_json.specs.WellFormed.{IsScript}
 use Rattle.script_json.specs.declared.refusal.ScriptRefusal.{ScriptRefusal}
-use Rattle.script_json.specs.declared.refusal.ScriptRefusal.TheVariants.{NotJson, VersionUnknown, UnknownKey, WrongShape, WrongNumber, TooMany, BadText, TwiceNamed, AfterTooLarge, OutOfMemory}
+use Rattle.script_json.specs.declared.refusal.ScriptRefusal.TheVariants.{NotJson, VersionUnknown, UnknownKey, WrongShape, WrongNumber, TooMany, BadText}
+use Rattle.script_json.specs.declared.refusal.ScriptRefusal.TheVariants.{TwiceNamed, AfterTooLarge, OutOfMemory}
 use Rattle.script_json.specs.declared.script.Script.{Script}
 use Rattle.script_json.proofs.FormatMakes.{script-makes}
 use Rattle.script_json.proofs.Makes.{IsOfValue, Makes}

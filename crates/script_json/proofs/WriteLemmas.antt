@@ -10,7 +10,8 @@ use Rattle.script_json.specs.declared.script.Script.{Script}
 use Rattle.script_json.proofs.Outlines.{script-depth, script-float}
 use Rattle.script_json.proofs.RoundTrip.{script-back}
 
-text_of-value : (s : Script) (value : Data) (bytes : List ℕ) → value ≡ script_value s → (has_float value ≡ false → bytes ≡ compact_text value) → bytes ≡ script_text s
+text_of-value : (s : Script) (value : Data) (bytes : List ℕ) → value ≡ script_value s → (has_float value ≡ false → bytes ≡ compact_text value) → bytes
+    ≡ script_text s
 text_of-value s value bytes is text = text (ap has_float is ∙ script-float s) ∙ ap compact_text is
 
 -- a canonical text begins with a brace, and with no mark

@@ -1,7 +1,8 @@
 -- The canonical form of a script: the JSON value that is written for it. It has every key of a
 -- query, a join and a filter. The keys of an object are in the order of their bytes.
 use Rattle.std.specs.Prelude.{ℕ, List, [], ◌∷◌, map, codes, Option, Some, None, ◌==◌, if◌then◌else◌}
-use Rattle.serde_json.specs.Data.{Data, number, string, array, object, unsigned, item, no_items, Members, member, no_members}
+use Rattle.serde_json.specs.Data.{Data, number, string, array, object, unsigned, item, no_items}
+use Rattle.serde_json.specs.Data.{Members, member, no_members}
 use Rattle.serde_json.specs.Find.{of_integer}
 use Rattle.serde_json.specs.View.{items_of}
 use Rattle.serde_json.specs.Written.{compact_text}

@@ -1,6 +1,9 @@
 -- The format of scripts, version 1: what each JSON value stands for at its place, or its first
 -- refusal.
-use Rattle.std.specs.Prelude.{ℕ, ◌+◌, ◌^◌, ℤ, pos, negsuc, List, [], ◌∷◌, length, codes, Bool, true, false, not, ◌&&◌, ◌==◌, nat_le, nat_lt, nat_eq, bytes_eq, is_some, Option, Some, None, option_map, find, option_and_then, if◌then◌else◌, Ok, Err, ⊤}
+use Rattle.std.specs.Prelude.{ℕ, ◌+◌, ◌^◌, ℤ, pos, negsuc, List, [], ◌∷◌, length, codes, Bool, true}
+use Rattle.std.specs.Prelude.{false, not, ◌&&◌, ◌==◌, nat_le, nat_lt, nat_eq, bytes_eq, is_some}
+use Rattle.std.specs.Prelude.{Option, Some, None, option_map, find, option_and_then, if◌then◌else◌}
+use Rattle.std.specs.Prelude.{Ok, Err, ⊤}
 use Rattle.std.specs.List.{list_any, list_all}
 use Rattle.std.specs.Option.{option_map_or}
 use Rattle.serde_json.specs.Data.{Data, Items, no_items, item}
@@ -17,9 +20,12 @@ use Rattle.plan_ast.specs.declared.queries.Agg.{Agg}
 use Rattle.plan_ast.specs.declared.queries.Output.{Output}
 use Rattle.plan_ast.specs.declared.queries.Output.TheVariants.{Rows, Totals, Groups}
 use Rattle.plan_ast.specs.declared.queries.Query.{Query}
-use Rattle.script_json.specs.Forms.{Reading, Form, ◌>>=◌, ◌>>◌, or_refuse, refuse_if, under, wrong_shape, wrong_number, twice_named, object_of, required, optional, array_of, whole, text_of, word_of}
+use Rattle.script_json.specs.Forms.{Reading, Form, ◌>>=◌, ◌>>◌, or_refuse, refuse_if, under}
+use Rattle.script_json.specs.Forms.{wrong_shape, wrong_number, twice_named, object_of, required}
+use Rattle.script_json.specs.Forms.{optional, array_of, whole, text_of, word_of}
 use Rattle.script_json.specs.declared.refusal.PathStep.TheVariants.{At}
-use Rattle.script_json.specs.declared.refusal.ScriptRefusal.TheVariants.{VersionUnknown, AfterTooLarge}
+use Rattle.script_json.specs.declared.refusal.ScriptRefusal.TheVariants.{VersionUnknown}
+use Rattle.script_json.specs.declared.refusal.ScriptRefusal.TheVariants.{AfterTooLarge}
 use Rattle.script_json.specs.declared.script.TableEntry.{TableEntry}
 use Rattle.script_json.specs.declared.script.Script.{Script}
 

@@ -1,6 +1,7 @@
 -- The parts of the format's forms. A form says what each JSON value stands for, or its first
 -- refusal, whose path begins at that value.
-use Rattle.std.specs.Prelude.{ℕ, ◌≡◌, ◌⊎◌, List, [], ◌∷◌, ◌++◌, length, Bool, true, false, not, ◌||◌, nat_lt, bytes_eq, Option, Some, None, Result, Ok, Err, ⊤}
+use Rattle.std.specs.Prelude.{ℕ, ◌≡◌, ◌⊎◌, List, [], ◌∷◌, ◌++◌, length, Bool, true, false, not}
+use Rattle.std.specs.Prelude.{◌||◌, nat_lt, bytes_eq, Option, Some, None, Result, Ok, Err, ⊤}
 use Rattle.std.specs.List.{list_any}
 use Rattle.serde_json.specs.Data.{Data, Items, no_items, item, Members, no_members, member}
 use Rattle.serde_json.specs.Events.{items_len}
@@ -9,7 +10,10 @@ use Rattle.script_json.specs.Paths.{here, within}
 use Rattle.script_json.specs.declared.refusal.PathStep.{PathStep}
 use Rattle.script_json.specs.declared.refusal.PathStep.TheVariants.{Key, At}
 use Rattle.script_json.specs.declared.refusal.ScriptRefusal.{ScriptRefusal}
-use Rattle.script_json.specs.declared.refusal.ScriptRefusal.TheVariants.{UnknownKey, WrongShape, WrongNumber, TooMany, BadText, TwiceNamed, OutOfMemory}
+use Rattle.script_json.specs.declared.refusal.ScriptRefusal.TheVariants.{UnknownKey, WrongShape}
+use Rattle.script_json.specs.declared.refusal.ScriptRefusal.TheVariants.{WrongNumber, TooMany}
+use Rattle.script_json.specs.declared.refusal.ScriptRefusal.TheVariants.{BadText, TwiceNamed}
+use Rattle.script_json.specs.declared.refusal.ScriptRefusal.TheVariants.{OutOfMemory}
 
 -- what was read, or the first refusal
 abbrev pub Reading : Type 0 → Type 0

@@ -4,7 +4,11 @@ use Rattle.script_json.specs.declared.refusal.PathStep.{PathStep}
 use Rattle.script_json.specs.declared.refusal.PathStep.TheVariants.{Key, At}
 use Rattle.script_json.specs.declared.refusal.Path.{Path}
 use Rattle.script_json.specs.declared.refusal.ScriptRefusal.{ScriptRefusal}
-use Rattle.script_json.specs.declared.refusal.ScriptRefusal.TheVariants.{NotJson, VersionUnknown, UnknownKey, WrongShape, WrongNumber, TooMany, BadText, TwiceNamed, AfterTooLarge, OutOfMemory}
+use Rattle.script_json.specs.declared.refusal.ScriptRefusal.TheVariants.{NotJson, VersionUnknown}
+use Rattle.script_json.specs.declared.refusal.ScriptRefusal.TheVariants.{UnknownKey, WrongShape}
+use Rattle.script_json.specs.declared.refusal.ScriptRefusal.TheVariants.{WrongNumber, TooMany}
+use Rattle.script_json.specs.declared.refusal.ScriptRefusal.TheVariants.{BadText, TwiceNamed}
+use Rattle.script_json.specs.declared.refusal.ScriptRefusal.TheVariants.{AfterTooLarge, OutOfMemory}
 
 -- the path of the value itself
 abbrev pub here : Path

@@ -1,11 +1,16 @@
 -- Which bytes are a script, and which refusal the others get.
-use Rattle.std.specs.Prelude.{ℕ, ◌≡◌, List, [], ◌∷◌, drop, nat_eq, Some, if◌then◌else◌, Ok, Err, IsUtf8, ⊤}
+use Rattle.std.specs.Prelude.{ℕ, ◌≡◌, List, [], ◌∷◌, drop, nat_eq, Some, if◌then◌else◌, Ok, Err}
+use Rattle.std.specs.Prelude.{IsUtf8, ⊤}
 use Rattle.std.specs.List.{starts_with}
 use Rattle.serde_json.specs.Data.{Data}
 use Rattle.serde_json.specs.Read.{read}
 use Rattle.script_json.specs.Format as format
 use Rattle.script_json.specs.declared.refusal.ScriptRefusal.{ScriptRefusal}
-use Rattle.script_json.specs.declared.refusal.ScriptRefusal.TheVariants.{NotJson, VersionUnknown, UnknownKey, WrongShape, WrongNumber, TooMany, BadText, TwiceNamed, AfterTooLarge, OutOfMemory}
+use Rattle.script_json.specs.declared.refusal.ScriptRefusal.TheVariants.{NotJson, VersionUnknown}
+use Rattle.script_json.specs.declared.refusal.ScriptRefusal.TheVariants.{UnknownKey, WrongShape}
+use Rattle.script_json.specs.declared.refusal.ScriptRefusal.TheVariants.{WrongNumber, TooMany}
+use Rattle.script_json.specs.declared.refusal.ScriptRefusal.TheVariants.{BadText, TwiceNamed}
+use Rattle.script_json.specs.declared.refusal.ScriptRefusal.TheVariants.{AfterTooLarge, OutOfMemory}
 use Rattle.script_json.specs.declared.script.Script.{Script}
 
 -- the bytes after a leading byte order mark, or all of them if there is none

@@ -1,9 +1,12 @@
 // The parts of the format's forms: members, arrays, numbers and texts.
-ghost use Rattle.std.specs.Prelude.{◌≡◌, ◌<◌, ◌≤◌, ◌^◌, [], IfOk, bytes_eq, length, map, not, string_bytes};
+ghost use Rattle.std.specs.Prelude.{◌≡◌, ◌<◌, ◌≤◌, ◌^◌, [], IfOk, bytes_eq, length, map, not};
+ghost use Rattle.std.specs.Prelude.{string_bytes};
 ghost use Rattle.std.specs.List.{list_any};
 ghost use Rattle.serde_json.specs.Data.{Data};
 ghost use Rattle.serde_json.specs.View.{items_view, members_view, view};
-ghost use Rattle.script_json.specs.Forms.{Gives, Shows, array_of, each, has_other_key, is_listed, items_of, object_of, optional, or_refuse, required, under, whole};
+ghost use Rattle.script_json.specs.Forms.{Gives, Shows, array_of, each, has_other_key, is_listed};
+ghost use Rattle.script_json.specs.Forms.{items_of, object_of, optional, or_refuse, required};
+ghost use Rattle.script_json.specs.Forms.{under, whole};
 ghost use Rattle.script_json.specs.declared.refusal.PathStep.TheVariants.{At, Key};
 ghost use Rattle.script_json.specs.declared.refusal.ScriptRefusal.{ScriptRefusal};
 

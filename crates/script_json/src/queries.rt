@@ -3,7 +3,9 @@ ghost use Rattle.std.specs.Prelude.{◌≡◌, [], codes};
 ghost use Rattle.serde_json.specs.Data.{Data, Items, no_items, item};
 ghost use Rattle.serde_json.specs.View.{view};
 ghost use Rattle.script_json.specs.Forms.{Gives, optional};
-ghost use Rattle.script_json.specs.Format.{aggregate, counts, filter, filters, groups, groups_of, has, join, joined_column, joins, output, query, reference, rows_of, totals_of};
+ghost use Rattle.script_json.specs.Format.{aggregate, counts, filter, filters, groups, groups_of};
+ghost use Rattle.script_json.specs.Format.{has, join, joined_column, joins, output, query};
+ghost use Rattle.script_json.specs.Format.{reference, rows_of, totals_of};
 
 use crate::form::{
     ArrayForm, Form, WholeForm, check_keys, read_optional, read_required, under_index,

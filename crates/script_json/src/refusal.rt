@@ -91,7 +91,8 @@ impl Path {
 }
 
 impl ScriptRefusal {
-    ghost use Rattle.script_json.specs.Forms.{bad_text, too_many, unknown_key, twice_named, wrong_number, wrong_shape};
+    ghost use Rattle.script_json.specs.Forms.{bad_text, too_many, unknown_key, twice_named};
+    ghost use Rattle.script_json.specs.Forms.{wrong_number, wrong_shape};
 
     // The refusals of the value that is being read.
     pub(crate) fn unknown_key(alloc: Global) -> ScriptRefusal

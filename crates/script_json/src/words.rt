@@ -3,7 +3,9 @@ ghost use Rattle.std.specs.Prelude.{◌≡◌, Ok, Err};
 ghost use Rattle.serde_json.specs.Find.{as_str};
 ghost use Rattle.serde_json.specs.View.{view};
 ghost use Rattle.script_json.specs.Forms.{Gives, Shows, kept, or_refuse, wrong_shape};
-ghost use Rattle.script_json.specs.Format.{any_number, file_name, function, function_named, is_file_name, is_name, is_plain, name, operator, operator_named};
+ghost use Rattle.script_json.specs.Format.{any_number, file_name, function, function_named};
+ghost use Rattle.script_json.specs.Format.{is_file_name, is_name, is_plain, name, operator};
+ghost use Rattle.script_json.specs.Format.{operator_named};
 
 use crate::form::Form;
 use crate::refusal::ScriptRefusal;

@@ -12,5 +12,6 @@ returns c =
     let keys = map (λ key. key.now) c.args.keys.now in
     let entries = c.args.members.now.entries in
     let found : c.any.result ≡ list_any (λ name. not (is_listed keys (string_bytes name))) (keys_of entries) =
-    any_from_yields_List (λ name. not (is_listed keys (string_bytes name))) _ _ c.any.result c.any.ensures.ran (YieldsList-from_rest (keys_of entries) c.keys.ensures.rest) (λ x b q k. search (rules, tests)) in
+    any_from_yields_List (λ name. not (is_listed keys (string_bytes name))) _ _ c.any.result c.any.ensures.ran
+    (YieldsList-from_rest (keys_of entries) c.keys.ensures.rest) (λ x b q k. search (rules, tests)) in
     found ∙ has_other_key-members_view keys entries

@@ -12,7 +12,8 @@ returns-then-items-most-clause-items c =
 pub returns-then-items-least-clause-items : goal.returns-then-items-least-clause-items
 returns-then-items-least-clause-items c =
     let is : Some (items_view c.as_slice-items.result.now) ≡ as_array (view c.args.value.now) = rw c.as_slice-items.ensures.value c.in-Some.ensures in
-    inr (items_of-short c.args.least c.args.most _ c.as_slice-items.result.now is c.if-items-most.false c.if-items-least.true ∙ ap Err (sym c.wrong_shape-then-items-least.ensures))
+    inr (items_of-short c.args.least c.args.most _ c.as_slice-items.result.now is c.if-items-most.false c.if-items-least.true ∙ ap Err
+    (sym c.wrong_shape-then-items-least.ensures))
 
 pub returns-clause-items : goal.returns-clause-items
 returns-clause-items c =

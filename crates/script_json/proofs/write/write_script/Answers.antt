@@ -9,4 +9,5 @@ returns-clause-text c =
 pub returns-clause-reads_back : goal.returns-clause-reads_back
 returns-clause-reads_back c =
     let e = c.to_vec.ensures in
-    ReadsScript-written (λ bytes. bytes.items) c.args.script.now (view c.in_ok-value.value) c.to_vec.result c.requires c.in_ok-value.ensures e.text e.utf8 e.reads_back
+    ReadsScript-written (λ bytes. bytes.items) c.args.script.now (view c.in_ok-value.value) c.to_vec.result c.requires c.in_ok-value.ensures e.text
+    e.utf8 e.reads_back

@@ -1,5 +1,6 @@
 -- Rows across columns that are made number by number.
-use Rattle.std.proofs.Common.{◌≡◌, ℕ, zero, suc, ◌+◌, ◌<◌, ◌≤◌, ℤ, pos, List, [], ◌∷◌, ◌++◌, All, FitsSigned, length, map, of_z, to_z, w64, refl, sym, ap, ◌∙◌, arith, add-one}
+use Rattle.std.proofs.Common.{◌≡◌, ℕ, zero, suc, ◌+◌, ◌<◌, ◌≤◌, ℤ, pos, List, [], ◌∷◌, ◌++◌, All, FitsSigned, length, map, of_z, to_z, w64, refl, sym, ap, ◌∙◌}
+use Rattle.std.proofs.Common.{arith, add-one}
 use Rattle.std.specs.Global.{Vec}
 use Rattle.std.proofs.lemmas.Int.{to_z-of_z}
 use Rattle.col_table.specs.Columns.{row_across, rows_across, values_of}
@@ -28,6 +29,13 @@ rows_across-columns_below count (suc n) makes within =
     ∙ ap (λ row. each_below n (row_made makes) ++ row ∷ []) (row_across-columns_below count n makes (omega arith))
     ∙ sym (each_below-more n (row_made makes))
     ∙ ap (λ m. each_below m (row_made makes)) (add-one n)
+
+-- lists of the same names
+pub same_two : {A : Type 0} (items : List A) (a b c d : A) → items ≡ a ∷ b ∷ [] → a ≡ c → b ≡ d → items ≡ c ∷ d ∷ []
+same_two items a b c d are one two = cc
+
+pub same_three : {A : Type 0} (items : List A) (a b c d e f : A) → items ≡ a ∷ b ∷ c ∷ [] → a ≡ d → b ≡ e → c ≡ f → items ≡ d ∷ e ∷ f ∷ []
+same_three items a b c d e f are one two three = cc
 
 -- a table of such columns
 abbrev pub named_rows : List (List ℕ) → List (List ℤ) → NamedRows

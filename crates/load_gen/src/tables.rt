@@ -1,5 +1,7 @@
 // The two tables of a large input.
-ghost use Rattle.std.specs.Prelude.{◌≡◌, ◌≤◌, ◌*◌, IfOk, OnOk};
+ghost use Rattle.std.specs.Prelude.{◌≡◌, ◌≤◌, ◌*◌, All, IfOk, OnOk, length};
+ghost use Rattle.col_table.specs.Columns.{rows_across, values_of};
+ghost use Rattle.col_table.specs.NamedRows.{IsHeading};
 ghost use Rattle.csv_tables.specs.Loading.{LoadsTable};
 ghost use Rattle.csv_tables.specs.Writing.{table_text};
 ghost use Rattle.load_gen.specs.Draws.{state_after};
@@ -7,7 +9,7 @@ ghost use Rattle.load_gen.specs.Tables.{table_t, table_u};
 
 use crate::draws::Draws;
 use crate::names::name;
-use col_table::{MAX_ROWS, Table};
+use col_table::{ColumnName, MAX_ROWS, Table};
 use std::alloc::{AllocError, Global};
 
 /// The number of rows of the table `t`.
@@ -37,7 +39,7 @@ pub(crate) fn draw_t(alloc: Global, draws: &mut Draws, rows: u32) -> Result<Tabl
     }
     let names = vec![in alloc; name(alloc, "k")?, name(alloc, "g")?, name(alloc, "v")?]?;
     let columns = vec![in alloc; keys, groups, values]?;
-    Table::from_columns(names, columns, rows).map_err(|_| AllocError)
+    Ok(table_of(names, columns, rows))
 }
 
 /// A table like `u`: the keys from 0 on, each once, and with each a weight below 100.
@@ -56,5 +58,17 @@ pub(crate) fn draw_u(alloc: Global, draws: &mut Draws, rows: u32) -> Result<Tabl
     }
     let names = vec![in alloc; name(alloc, "k")?, name(alloc, "w")?]?;
     let columns = vec![in alloc; keys, weights]?;
-    Table::from_columns(names, columns, rows).map_err(|_| AllocError)
+    Ok(table_of(names, columns, rows))
+}
+
+// The table of these columns under names that may head a table.
+fn table_of(names: Vec<ColumnName>, columns: Vec<Vec<i64>>, rows: u32) -> Table
+    requires heading { IsHeading names.items }
+    requires width { length columns.items ≡ length names.items }
+    requires heights { All (λ column. length column.items ≡ rows) columns.items }
+    requires few { rows ≤ MAX_ROWS }
+    ensures { result
+        ≡ record { names = names.items; rows = rows_across (values_of columns.items) rows } }
+{
+    Table::from_columns(names, columns, rows).unwrap()
 }

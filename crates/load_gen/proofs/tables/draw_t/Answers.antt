@@ -1,17 +1,15 @@
 use Rattle.std.proofs.Common.{◌≡◌, ℕ, ℤ, ◌+◌, ◌*◌, ◌%◌, ◌++◌, ◌∷◌, [], List, FitsSigned, codes, length, pos, w64, ◌∙◌, ap, arith, rules, subst, sym}
 use Rattle.std.specs.Global.{Vec}
 use Rattle.std.proofs.lemmas.List.Elements.{All-cons, All-nil, All-same}
-use Rattle.std.proofs.lemmas.Result.{IfOk-weaker}
 use Rattle.col_table.specs.Columns.{rows_across, values_of}
-use Rattle.col_table.specs.NamedRows.{IsHeading, NamedRows}
+use Rattle.col_table.specs.NamedRows.{IsHeading}
 use Rattle.csv_tables.specs.Loading.{LoadsTable}
 use Rattle.csv_tables.specs.Writing.{table_text}
-use Rattle.csv_tables.proofs.Outcomes.{IfOk-map_err}
 use Rattle.load_gen.specs.Draws.{draw, each_below, next_state, signed_draw, signed_of, state_after}
 use Rattle.load_gen.specs.Tables.{table_t}
 use Rattle.load_gen.proofs.DrawsLemmas.{each_below-zero, length-each_below, state_after-more, state_after-zero}
-use Rattle.load_gen.proofs.LoadsLemmas.{table_t-loads}
-use Rattle.load_gen.proofs.TablesLemmas.{made_of_columns, named_rows, pushed_more}
+use Rattle.load_gen.proofs.LoadsLemmas.{t-heading, table_t-loads}
+use Rattle.load_gen.proofs.TablesLemmas.{made_of_columns, named_rows, pushed_more, same_three}
 use Rattle.load_gen.proofs.tables.draw_t.Goals as goal
 
 -- what the columns hold at a row
@@ -58,8 +56,8 @@ loop-preserved c =
       draws = third ∙ ap (state_after state) all;
     }
 
-pub from_columns-requires-clause-heights : goal.from_columns-requires-clause-heights
-from_columns-requires-clause-heights c =
+pub table_of-requires-clause-heights : goal.table_of-requires-clause-heights
+table_of-requires-clause-heights c =
     let Tall : Vec ℤ → Type 0 = λ column. length column.items ≡ c.args.rows in
     let state = c.args.draws.now in
     let row = c.loop.counter in
@@ -72,22 +70,21 @@ from_columns-requires-clause-heights c =
     (All-cons Tall groups (values ∷ []) (ap length c.loop.invariant.groups ∙ length-each_below row (group state) ∙ all)
     (All-cons Tall values [] (ap length c.loop.invariant.values ∙ length-each_below row (value state) ∙ all) (All-nil Tall))))
 
--- the names and the columns are those of the table
-named : (c : goal.After-map_err) → c.in_ok-names.names.items ≡ codes "k" ∷ codes "g" ∷ codes "v" ∷ []
-named c =
-    c.in_ok-names.ensures.items
-    ∙ ap (λ name. name ∷ c.in_ok-name-2.field-0 ∷ c.in_ok-name-3.field-0 ∷ []) c.in_ok-name.ensures
-    ∙ ap (λ name. codes "k" ∷ name ∷ c.in_ok-name-3.field-0 ∷ []) c.in_ok-name-2.ensures
-    ∙ ap (λ name. codes "k" ∷ codes "g" ∷ name ∷ []) c.in_ok-name-3.ensures
+pub table_of-requires-clause-heading : goal.table_of-requires-clause-heading
+table_of-requires-clause-heading c =
+    let named : c.in_ok-names.names.items ≡ codes "k" ∷ codes "g" ∷ codes "v" ∷ [] = same_three _ _ _ _ _ _ _ c.in_ok-names.ensures.items c.in_ok-name.ensures c.in_ok-name-2.ensures c.in_ok-name-3.ensures in
+    subst IsHeading (sym named) t-heading
 
-is_made : (c : goal.After-map_err) → named_rows c.in_ok-names.names.items (rows_across (values_of c.in_ok-columns.columns.items) c.args.rows)
+-- the names and the columns are those of the table
+is_made : (c : goal.After-table_of) → named_rows c.in_ok-names.names.items (rows_across (values_of c.in_ok-columns.columns.items) c.args.rows)
     ≡ table_t c.args.draws.now c.args.rows
 is_made c =
     let state = c.args.draws.now in
     let rows = c.args.rows in
+    let named : c.in_ok-names.names.items ≡ codes "k" ∷ codes "g" ∷ codes "v" ∷ [] = same_three _ _ _ _ _ _ _ c.in_ok-names.ensures.items c.in_ok-name.ensures c.in_ok-name-2.ensures c.in_ok-name-3.ensures in
     let all : c.loop.counter ≡ rows = omega arith in
     made_of_columns c.in_ok-names.names.items (codes "k" ∷ codes "g" ∷ codes "v" ∷ []) c.in_ok-columns.columns.items rows
-    (key state ∷ group state ∷ value state ∷ []) (named c)
+    (key state ∷ group state ∷ value state ∷ []) named
     (ap values_of c.in_ok-columns.ensures.items
     ∙ ap (λ keys. keys ∷ c.loop.groups.items ∷ c.loop.values.items ∷ []) (c.loop.invariant.keys ∙ ap (λ n. each_below n (key state)) all)
     ∙ ap (λ groups. each_below rows (key state) ∷ groups ∷ c.loop.values.items ∷ []) (c.loop.invariant.groups ∙ ap (λ n. each_below n (group state)) all)
@@ -95,15 +92,8 @@ is_made c =
     (c.loop.invariant.values ∙ ap (λ n. each_below n (value state)) all))
 
 pub returns-clause-table : goal.returns-clause-table
-returns-clause-table c =
-    let Is : NamedRows → Type 0 = λ table. table ≡ table_t c.args.draws.now c.args.rows in
-    IfOk-map_err c.from_columns.result c.map_err.result _ Is c.map_err.ensures.cases
-    (IfOk-weaker c.from_columns.result _ Is (λ table made. made.1 ∙ is_made c) c.from_columns.ensures.made)
+returns-clause-table c = c.table_of.ensures ∙ is_made c
 
 pub returns-clause-loads : goal.returns-clause-loads
 returns-clause-loads c =
-    let Loads : NamedRows → Type 0 = λ table. LoadsTable (table_text table) table in
-    IfOk-map_err c.from_columns.result c.map_err.result _ Loads c.map_err.ensures.cases
-    (IfOk-weaker c.from_columns.result _ Loads
-    (λ table made. subst Loads (sym (made.1 ∙ is_made c)) (table_t-loads c.args.draws.now c.args.rows (subst IsHeading (named c) made.0) c.requires))
-    c.from_columns.ensures.made)
+    subst (λ table. LoadsTable (table_text table) table) (sym (c.table_of.ensures ∙ is_made c)) (table_t-loads c.args.draws.now c.args.rows c.requires)

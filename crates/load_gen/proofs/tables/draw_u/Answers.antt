@@ -1,17 +1,15 @@
 use Rattle.std.proofs.Common.{◌≡◌, ℕ, ℤ, ◌+◌, ◌%◌, ◌++◌, ◌∷◌, [], List, FitsSigned, codes, length, pos, w64, ◌∙◌, ap, arith, rules, subst, sym}
 use Rattle.std.specs.Global.{Vec}
 use Rattle.std.proofs.lemmas.List.Elements.{All-cons, All-nil, All-same}
-use Rattle.std.proofs.lemmas.Result.{IfOk-weaker}
 use Rattle.col_table.specs.Columns.{rows_across, values_of}
-use Rattle.col_table.specs.NamedRows.{IsHeading, NamedRows}
+use Rattle.col_table.specs.NamedRows.{IsHeading}
 use Rattle.csv_tables.specs.Loading.{LoadsTable}
 use Rattle.csv_tables.specs.Writing.{table_text}
-use Rattle.csv_tables.proofs.Outcomes.{IfOk-map_err}
 use Rattle.load_gen.specs.Draws.{draw, each_below, next_state, state_after}
 use Rattle.load_gen.specs.Tables.{table_u}
 use Rattle.load_gen.proofs.DrawsLemmas.{each_below-zero, length-each_below, state_after-more, state_after-zero}
-use Rattle.load_gen.proofs.LoadsLemmas.{table_u-loads}
-use Rattle.load_gen.proofs.TablesLemmas.{made_of_columns, named_rows, pushed_more}
+use Rattle.load_gen.proofs.LoadsLemmas.{u-heading, table_u-loads}
+use Rattle.load_gen.proofs.TablesLemmas.{made_of_columns, named_rows, pushed_more, same_two}
 use Rattle.load_gen.proofs.tables.draw_u.Goals as goal
 
 -- what the columns hold at a row
@@ -45,8 +43,8 @@ loop-row-preserved c =
       draws = step;
     }
 
-pub from_columns-requires-clause-heights : goal.from_columns-requires-clause-heights
-from_columns-requires-clause-heights c =
+pub table_of-requires-clause-heights : goal.table_of-requires-clause-heights
+table_of-requires-clause-heights c =
     let Tall : Vec ℤ → Type 0 = λ column. length column.items ≡ c.args.rows in
     let state = c.args.draws.now in
     let row = c.loop-row.row in
@@ -57,34 +55,27 @@ from_columns-requires-clause-heights c =
     (All-cons Tall keys (weights ∷ []) (ap length c.loop-row.invariant.keys ∙ length-each_below row key ∙ all)
     (All-cons Tall weights [] (ap length c.loop-row.invariant.weights ∙ length-each_below row (weight state) ∙ all) (All-nil Tall)))
 
--- the names and the columns are those of the table
-named : (c : goal.After-map_err) → c.in_ok-names.names.items ≡ codes "k" ∷ codes "w" ∷ []
-named c =
-    c.in_ok-names.ensures.items
-    ∙ ap (λ name. name ∷ c.in_ok-name-2.field-0 ∷ []) c.in_ok-name.ensures
-    ∙ ap (λ name. codes "k" ∷ name ∷ []) c.in_ok-name-2.ensures
+pub table_of-requires-clause-heading : goal.table_of-requires-clause-heading
+table_of-requires-clause-heading c =
+    let named : c.in_ok-names.names.items ≡ codes "k" ∷ codes "w" ∷ [] = same_two _ _ _ _ _ c.in_ok-names.ensures.items c.in_ok-name.ensures c.in_ok-name-2.ensures in
+    subst IsHeading (sym named) u-heading
 
-is_made : (c : goal.After-map_err) → named_rows c.in_ok-names.names.items (rows_across (values_of c.in_ok-columns.columns.items) c.args.rows)
+-- the names and the columns are those of the table
+is_made : (c : goal.After-table_of) → named_rows c.in_ok-names.names.items (rows_across (values_of c.in_ok-columns.columns.items) c.args.rows)
     ≡ table_u c.args.draws.now c.args.rows
 is_made c =
     let state = c.args.draws.now in
     let rows = c.args.rows in
+    let named : c.in_ok-names.names.items ≡ codes "k" ∷ codes "w" ∷ [] = same_two _ _ _ _ _ c.in_ok-names.ensures.items c.in_ok-name.ensures c.in_ok-name-2.ensures in
     let all : c.loop-row.row ≡ rows = omega arith in
-    made_of_columns c.in_ok-names.names.items (codes "k" ∷ codes "w" ∷ []) c.in_ok-columns.columns.items rows (key ∷ weight state ∷ []) (named c)
+    made_of_columns c.in_ok-names.names.items (codes "k" ∷ codes "w" ∷ []) c.in_ok-columns.columns.items rows (key ∷ weight state ∷ []) named
     (ap values_of c.in_ok-columns.ensures.items
     ∙ ap (λ keys. keys ∷ c.loop-row.weights.items ∷ []) (c.loop-row.invariant.keys ∙ ap (λ n. each_below n key) all)
     ∙ ap (λ weights. each_below rows key ∷ weights ∷ []) (c.loop-row.invariant.weights ∙ ap (λ n. each_below n (weight state)) all))
 
 pub returns-clause-table : goal.returns-clause-table
-returns-clause-table c =
-    let Is : NamedRows → Type 0 = λ table. table ≡ table_u c.args.draws.now c.args.rows in
-    IfOk-map_err c.from_columns.result c.map_err.result _ Is c.map_err.ensures.cases
-    (IfOk-weaker c.from_columns.result _ Is (λ table made. made.1 ∙ is_made c) c.from_columns.ensures.made)
+returns-clause-table c = c.table_of.ensures ∙ is_made c
 
 pub returns-clause-loads : goal.returns-clause-loads
 returns-clause-loads c =
-    let Loads : NamedRows → Type 0 = λ table. LoadsTable (table_text table) table in
-    IfOk-map_err c.from_columns.result c.map_err.result _ Loads c.map_err.ensures.cases
-    (IfOk-weaker c.from_columns.result _ Loads
-    (λ table made. subst Loads (sym (made.1 ∙ is_made c)) (table_u-loads c.args.draws.now c.args.rows (subst IsHeading (named c) made.0) c.requires))
-    c.from_columns.ensures.made)
+    subst (λ table. LoadsTable (table_text table) table) (sym (c.table_of.ensures ∙ is_made c)) (table_u-loads c.args.draws.now c.args.rows c.requires)

@@ -33,6 +33,14 @@ impl Draws {
         }
     }
 
+    // Moves the state one step.
+    #[inline]
+    fn step(&mut self)
+        ensures { self.new ≡ next_state self.old }
+    {
+        self.state = self.state * 48_271 % 2_147_483_647;
+    }
+
     /// The next draw below a bound.
     #[inline]
     pub fn below(&mut self, bound: u32) -> u32
@@ -41,7 +49,7 @@ impl Draws {
         ensures draw { result ≡ next_state self.old % bound }
         ensures below { result < bound }
     {
-        self.state = self.state * 48_271 % 2_147_483_647;
+        self.step();
         (self.state % u64::from(bound)) as u32
     }
 
@@ -69,7 +77,7 @@ impl Draws {
         ensures { self.new ≡ state_after self.old count }
     {
         for _ in 0..count {
-            self.below(1);
+            self.step();
         }
     }
 }

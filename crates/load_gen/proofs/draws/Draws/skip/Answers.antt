@@ -8,4 +8,4 @@ loop-init c = sym (state_after-zero c.args.self.now)
 
 pub loop-preserved : goal.loop-preserved
 loop-preserved c =
-    c.below.ensures.state ∙ ap next_state c.loop.invariant ∙ sym (state_after-more c.args.self.now c.loop.counter)
+    c.step.ensures ∙ ap next_state c.loop.invariant ∙ sym (state_after-more c.args.self.now c.loop.counter)

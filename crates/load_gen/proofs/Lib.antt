@@ -1,4 +1,5 @@
 mod DrawsLemmas
+mod FoundLemmas
 mod LoadsLemmas
 mod ScriptLemmas
 mod TablesLemmas

@@ -1,5 +1,6 @@
 // The large input of a number.
-ghost use Rattle.std.specs.Prelude.{◌≡◌, All, IfOk, IsTrue};
+ghost use Rattle.std.specs.Prelude.{◌≡◌, All, IfOk, IsTrue, None};
+ghost use Rattle.plan_ast.specs.Names.{refusal_of};
 ghost use Rattle.script_json.specs.Format.{is_name};
 ghost use Rattle.script_json.specs.WellFormed.{IsScript};
 ghost use Rattle.load_gen.specs.Generated.{LoadsBack, entry_of, generated, named, script_from};
@@ -24,11 +25,13 @@ pub struct Generated {
 /// queries.
 ///
 /// It takes about 601,000 draws and 5 MB of memory. Each column is reserved before its values are
-/// drawn.
+/// drawn. `plan_ast::check` finds every name that the queries mention.
 pub fn generate(alloc: Global, number: u32) -> Result<Generated, AllocError>
     ensures subject { IfOk result (λ made. made ≡ generated number) }
     ensures script { IfOk result (λ made. IsScript made.script) }
     ensures tables { IfOk result (λ made. All LoadsBack made.tables) }
+    ensures names { IfOk result (λ made.
+        All (λ query. refusal_of made.tables query ≡ None) made.script.queries) }
 {
     let mut draws = Draws::new(number);
     let t = draw_t(alloc, &mut draws, T_ROWS)?;

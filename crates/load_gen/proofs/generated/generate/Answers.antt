@@ -1,4 +1,5 @@
-use Rattle.std.proofs.Common.{◌≡◌, ◌∷◌, [], List, codes, refl, ◌∙◌, ap}
+use Rattle.std.proofs.Common.{◌≡◌, ◌∷◌, [], All, List, None, codes, refl, ◌∙◌, ap, subst, sym}
+use Rattle.plan_ast.specs.Names.{refusal_of}
 use Rattle.plan_ast.specs.declared.queries.NamedTable.{NamedTable}
 use Rattle.script_json.specs.declared.script.Script.{Script}
 use Rattle.load_gen.specs.Draws.{first_state, state_after}
@@ -6,6 +7,7 @@ use Rattle.load_gen.specs.Generated.{named, script_from, script_of, t_of, u_of}
 use Rattle.load_gen.specs.Tables.{table_t, table_u}
 use Rattle.load_gen.specs.declared.generated.Generated.{Generated}
 use Rattle.load_gen.proofs.DrawsLemmas.{state_after-at}
+use Rattle.load_gen.proofs.FoundLemmas.{names-found}
 use Rattle.load_gen.proofs.generated.generate.Goals as goal
 
 pub returns-clause-subject : goal.returns-clause-subject
@@ -26,3 +28,8 @@ returns-clause-subject c =
     ∙ ap (made (script_of number)) (c.of.ensures ∙ c.in_ok-vec.ensures.items
     ∙ ap (λ first. first ∷ c.in_ok-u-2.u ∷ []) (c.in_ok-t-2.ensures ∙ ap named_t t)
     ∙ ap (λ last. named_t (t_of number) ∷ last ∷ []) (c.in_ok-u-2.ensures ∙ ap named_u u))
+
+pub returns-clause-names : goal.returns-clause-names
+returns-clause-names c =
+    subst (λ (made : Generated). All (λ query. refusal_of made.tables query ≡ None) made.script.queries) (sym (returns-clause-subject c))
+    (names-found c.args.number)

@@ -9,6 +9,7 @@
 
 mod draws;
 mod generated;
+pub mod laws;
 mod names;
 mod parts;
 mod queries;

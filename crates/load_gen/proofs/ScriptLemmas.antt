@@ -1,5 +1,6 @@
 -- The script that is drawn can be read and written.
-use Rattle.std.proofs.Common.{◌≡◌, ◌≢◌, ℕ, zero, suc, ◌+◌, ◌*◌, ◌/◌, ◌%◌, ◌^◌, ◌<◌, ◌≤◌, ℤ, pos, negsuc, ◌-ℤ◌, Bool, true, false, List, [], ◌∷◌, All, IsTrue, None, Some, FitsSigned, length, map, nat_lt, codes, refl, sym, ap, ◌∙◌, arith, rules, subst}
+use Rattle.std.proofs.Common.{◌≡◌, ◌≢◌, ℕ, zero, suc, ◌+◌, ◌*◌, ◌/◌, ◌%◌, ◌^◌, ◌<◌, ◌≤◌, ℤ, pos, negsuc, ◌-ℤ◌, Bool, true, false, List, [], ◌∷◌, All, IsTrue}
+use Rattle.std.proofs.Common.{None, Some, FitsSigned, length, map, nat_lt, codes, refl, sym, ap, ◌∙◌, arith, rules, subst}
 use Rattle.std.specs.Int.{w64}
 use Rattle.std.specs.List.{AllPairs, range_with_len}
 use Rattle.std.proofs.lemmas.Bool.Decides.{nat_tests}

@@ -1,5 +1,6 @@
 -- The queries of a large input. Each is drawn after a state: that at which its first draw begins.
-use Rattle.std.specs.Prelude.{ℕ, zero, suc, ℤ, pos, ◌+◌, ◌/◌, ◌%◌, ◌==◌, if◌then◌else◌, List, [], ◌∷◌, codes, Some, None}
+use Rattle.std.specs.Prelude.{ℕ, zero, suc, ℤ, pos, ◌+◌, ◌/◌, ◌%◌, ◌==◌, if◌then◌else◌, List, []}
+use Rattle.std.specs.Prelude.{◌∷◌, codes, Some, None}
 use Rattle.plan_ast.specs.declared.queries.Agg.{Agg}
 use Rattle.plan_ast.specs.declared.queries.Filter.{Filter}
 use Rattle.plan_ast.specs.declared.queries.Func.TheVariants.{Count, Sum}
@@ -12,7 +13,8 @@ use Rattle.plan_ast.specs.declared.queries.Output.TheVariants.{Rows, Totals, Gro
 use Rattle.plan_ast.specs.declared.queries.Query.{Query}
 use Rattle.load_gen.specs.Draws.{each_below, next_state, signed_of}
 use Rattle.load_gen.specs.declared.queries.Kind.{Kind}
-use Rattle.load_gen.specs.declared.queries.Kind.TheVariants.{FilteredTotals, GroupTotals, JoinTotals, FilteredRows}
+use Rattle.load_gen.specs.declared.queries.Kind.TheVariants.{FilteredTotals, GroupTotals}
+use Rattle.load_gen.specs.declared.queries.Kind.TheVariants.{JoinTotals, FilteredRows}
 
 -- the kind of the query at a place
 abbrev pub kind_of : ℕ → Kind

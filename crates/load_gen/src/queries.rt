@@ -2,7 +2,9 @@
 ghost use Rattle.std.specs.Prelude.{◌≡◌, ◌<◌, ◌≤◌, IfOk, IsTrue, OnOk};
 ghost use Rattle.script_json.specs.Format.{is_name};
 ghost use Rattle.load_gen.specs.Draws.{next_state};
-ghost use Rattle.load_gen.specs.Queries.{after_filters, column_of, count_and_sum_of, filter_of, filters_of, joins_of, kind_of, output_of, queries_from, query_of};
+ghost use Rattle.load_gen.specs.Queries.{after_filters, column_of, count_and_sum_of, filter_of};
+ghost use Rattle.load_gen.specs.Queries.{filters_of, joins_of, kind_of, output_of, queries_from};
+ghost use Rattle.load_gen.specs.Queries.{query_of};
 
 use crate::draws::Draws;
 use crate::names::name;

@@ -1,7 +1,8 @@
 // The text about the run of a large input.
 use std::fmt;
 
-/// The numbers of the run of a large input. As text it is one line for each of them, and then `end`.
+/// The numbers of the run of a large input. As text it is one line for each of them, and then
+/// `end`.
 #[derive(Clone, Copy, Debug, PartialEq, Eq)]
 pub struct Summary {
     /// The number that the input was made of.

@@ -7,14 +7,20 @@
 
 #![tactic(auto)]
 
+mod acc;
 mod aggregates;
 mod groups;
+mod inputs;
 mod joins;
 mod outputs;
 mod plain;
+mod results;
 mod rows;
 
+pub use acc::Acc;
+pub use inputs::Inputs;
 pub use plain::plain_answer;
+pub use results::StageResult;
 
 #[cfg(test)]
 mod tests;

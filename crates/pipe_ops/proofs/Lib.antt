@@ -1,8 +1,11 @@
 pub mod AnswerLemmas
+pub mod BuildLemmas
 pub mod EmptyLemmas
 pub mod FoldingLemmas
 pub mod GroupingLemmas
 pub mod InputsLemmas
 pub mod JoiningLemmas
+pub mod MembersLemmas
+pub mod PermutationLemmas
 pub mod PlacedLemmas
 pub mod RowsLemmas

@@ -4,5 +4,6 @@ pub mod Inputs
 pub mod Joining
 pub mod Placed
 pub mod StageFolds
+pub mod StagePlaces
 pub mod StageResults
 pub mod Taking

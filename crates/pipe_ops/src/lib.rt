@@ -9,6 +9,7 @@
 
 mod acc;
 mod aggregates;
+mod builds;
 mod groups;
 mod inputs;
 mod joins;

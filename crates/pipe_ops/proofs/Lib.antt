@@ -4,8 +4,12 @@ pub mod EmptyLemmas
 pub mod FoldingLemmas
 pub mod GroupingLemmas
 pub mod InputsLemmas
+pub mod JoinRowLemmas
 pub mod JoiningLemmas
 pub mod MembersLemmas
 pub mod PermutationLemmas
 pub mod PlacedLemmas
 pub mod RowsLemmas
+pub mod ScanLemmas
+pub mod SideJoinLemmas
+pub mod TakesLemmas

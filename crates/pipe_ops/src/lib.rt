@@ -17,6 +17,8 @@ mod outputs;
 mod plain;
 mod results;
 mod rows;
+mod scans;
+mod takes;
 
 pub use acc::Acc;
 pub use inputs::Inputs;

@@ -52,13 +52,13 @@ sum_within a n (x ∷ xs) fit h =
     let rest = sum_within (a +ℤ x) (n + 1) xs (All-tail (FitsSigned w64) x xs fit) next in
     record { above = omega (arith, rest.above); below = omega (arith, rest.below) }
 
-sum_fits : (xs : List ℤ) → All (FitsSigned w64) xs → length xs ≤ 2 ^ 61 → FitsSigned w128 (fold ◌+ℤ◌ (pos 0) xs)
+sum_fits : (xs : List ℤ) → All (FitsSigned w64) xs → length xs ≤ 2 ^ 62 → FitsSigned w128 (fold ◌+ℤ◌ (pos 0) xs)
 sum_fits xs fit few =
     let h = sum_within (pos 0) 0 xs fit (record { above = omega (arith, ints); below = omega (arith, ints) }) in
     fits_in w128 (fold ◌+ℤ◌ (pos 0) xs) (omega (arith, h.above, h.below))
 
 -- two totals together are the total of both lists
-pub merged-aggregates : (func : Func) (xs ys : List ℤ) → All (FitsSigned w64) xs → All (FitsSigned w64) ys → length xs + length ys ≤ 2 ^ 61
+pub merged-aggregates : (func : Func) (xs ys : List ℤ) → All (FitsSigned w64) xs → All (FitsSigned w64) ys → length xs + length ys ≤ 2 ^ 62
     → wrapped_agg_sum (aggregate func xs) (aggregate func ys) ≡ aggregate func (xs ++ ys)
 merged-aggregates Count xs ys fit_xs fit_ys few = ap (λ n. agg_value.Count n) (omega (arith, length-append xs ys))
 merged-aggregates Sum xs ys fit_xs fit_ys few =

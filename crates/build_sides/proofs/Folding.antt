@@ -71,7 +71,7 @@ values_fit place rows fit =
     All-map (FitsSigned w64) (λ row. value_in row place) rows (All-weaker FitsRow (λ row. FitsSigned w64 (value_in row place)) (λ row h. h place) rows fit)
 
 total_of-more : (func : Func) (place : ℕ) (key : Key) (rows more : List FoldedRow) → AllOf key more → All FitsRow rows → All FitsRow more
-    → length (rows_with key rows) + length more ≤ 2 ^ 61
+    → length (rows_with key rows) + length more ≤ 2 ^ 62
     → wrapped_agg_sum (total_of func place key rows) (aggregate func (values_at place more)) ≡ total_of func place key (rows ++ more)
 total_of-more func place key rows more all fit_rows fit_more few =
     let self : same_key key key ≡ true = elim (same_key_tells key key) [ inl (is, _) ↦ is | inr (_, differ) ↦ absurd (differ refl) ] in
@@ -92,7 +92,7 @@ module _ (keys : List Key) (key : Key) (n : ℕ) (column : Totals) (total : AggV
     (distinct : AreDistinct keys) (same : length column.values ≡ length keys)
     (holds : (k : Key) → item_at (nothing_of column) keys column.values k ≡ total_of column.func place k rows)
     (all : AllOf key more) (is : total ≡ aggregate column.func (values_at place more))
-    (fit_rows : All FitsRow rows) (fit_more : All FitsRow more) (few : length (rows_with key rows) + length more ≤ 2 ^ 61) where
+    (fit_rows : All FitsRow rows) (fit_more : All FitsRow more) (few : length (rows_with key rows) + length more ≤ 2 ^ 62) where
   known_column : n < length keys → key_at keys n ≡ key
       → (k : Key) → item_at (nothing_of column) keys (put wrapped_agg_sum column.values n total) k ≡ total_of column.func place k (rows ++ more)
   known_column lt at k =
@@ -163,7 +163,7 @@ groups_more old new key n total groups h =
 
 module _ (old new : GroupTotals) (key : Key) (n : ℕ) (total : ℕ → AggValue) (rows more : List FoldedRow) (groups : AreGroups old)
     (h : PutsGroup old new key n total) (each : (a : ℕ) → a < length old.columns → total a ≡ aggregate (column_of old a).func (values_at a more))
-    (all : AllOf key more) (some : 0 < length more) (fit : All FitsRow more) (few : length (rows_with key rows) + length more ≤ 2 ^ 61)
+    (all : AllOf key more) (some : 0 < length more) (fit : All FitsRow more) (few : length (rows_with key rows) + length more ≤ 2 ^ 62)
     (folds : Folds rows old) where
   totals_more : (a : ℕ) → a < length old.columns → (k : Key) → total_in new a k ≡ total_of (column_of new a).func a k (rows ++ more)
   totals_more a lt k =

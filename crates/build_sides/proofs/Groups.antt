@@ -52,7 +52,7 @@ All-one P x h = All-cons P x [] h (All-nil P)
 -- a row was folded
 pub folds_row : (old new : GroupTotals) (key : Key) (n : ℕ) (values : List ℤ) (rows : List FoldedRow) → AreGroups old
     → PutsGroup old new key n (λ a. aggregate (column_of old a).func (slice_index_or values a (pos 0) ∷ []))
-    → FitsRow (record { key = key; values = values }) → length rows < 2 ^ 61 → length (rows_with key rows) ≤ length rows → Folds rows old
+    → FitsRow (record { key = key; values = values }) → length rows < 2 ^ 62 → length (rows_with key rows) ≤ length rows → Folds rows old
     → Folds (rows ++ record { key = key; values = values } ∷ []) new
 folds_row old new key n values rows groups puts fits few bound folds =
     folds_more old new key n (λ a. aggregate (column_of old a).func (slice_index_or values a (pos 0) ∷ [])) rows
@@ -63,7 +63,7 @@ folds_row old new key n values rows groups puts fits few bound folds =
 -- the totals of another side's group were added
 pub folds_group : (old new other : GroupTotals) (n from : ℕ) (rows others : List FoldedRow) → AreGroups old → AreGroups other → from < length other.keys
     → funcs_of old ≡ funcs_of other → PutsGroup old new (key_at other.keys from) n (λ a. total_at other a from)
-    → length (rows_with (key_at other.keys from) rows) + length (rows_with (key_at other.keys from) others) ≤ 2 ^ 61 → Folds rows old → Folds others other
+    → length (rows_with (key_at other.keys from) rows) + length (rows_with (key_at other.keys from) others) ≤ 2 ^ 62 → Folds rows old → Folds others other
     → Folds (rows ++ rows_with (key_at other.keys from) others) new
 folds_group old new other n from rows others groups other_groups lt same puts few folds of_other =
     let key = key_at other.keys from in

@@ -123,7 +123,7 @@ fn add_totals(columns: &mut Vec<Column>, number: usize, others: &[Column], from:
 ///
 /// A key belongs to one of 16 parts: the Euclidean remainder of its first value by 16. Contracts
 /// see the rows that the side folds (`Folds`). It has exactly their keys, and for each key what
-/// each aggregate makes of their values. Sums are exact for up to 2^61 rows.
+/// each aggregate makes of their values. Sums are exact for up to 2^62 rows.
 #[derive(Debug, Drop)]
 pub struct GroupSide {
     keys: KeyTable,
@@ -165,7 +165,7 @@ impl GroupSide {
         requires some { IsWithin 1 2 (length key.now) }
         requires same { length values.now ≡ length self.old.columns }
         ensures funcs { funcs_of self.new ≡ funcs_of self.old }
-        ensures folds { OnOk result ((rows : List FoldedRow) → length rows < 2 ^ 61
+        ensures folds { OnOk result ((rows : List FoldedRow) → length rows < 2 ^ 62
             → Folds rows self.old → Folds (rows ++ row_of key.now values.now ∷ []) self.new) }
         ensures err { OnErr result (self.new ≡ self.old) }
     {
@@ -182,7 +182,7 @@ impl GroupSide {
         ensures funcs { funcs_of self.new ≡ funcs_of self.old }
         ensures folds { OnOk result ((rows others : List FoldedRow)
             → let key = key_at other.now.keys from in
-            length (rows_with key rows) + length (rows_with key others) ≤ 2 ^ 61
+            length (rows_with key rows) + length (rows_with key others) ≤ 2 ^ 62
             → Folds rows self.old → Folds others other.now
             → Folds (rows ++ rows_with key others) self.new) }
         ensures err { OnErr result (self.new ≡ self.old) }
@@ -201,10 +201,10 @@ impl GroupSide {
         requires same { funcs_of self.old ≡ funcs_of other.now }
         ensures funcs { funcs_of self.new ≡ funcs_of self.old }
         ensures folds { OnOk result ((rows others : List FoldedRow)
-            → length rows + length others ≤ 2 ^ 61 → Folds rows self.old → Folds others other.now
+            → length rows + length others ≤ 2 ^ 62 → Folds rows self.old → Folds others other.now
             → Folds (rows ++ rows_in part others) self.new) }
         ensures err { OnErr result ((rows others : List FoldedRow)
-            → length rows + length others ≤ 2 ^ 61 → Folds rows self.old → Folds others other.now
+            → length rows + length others ≤ 2 ^ 62 → Folds rows self.old → Folds others other.now
             → FoldsSomeKeys rows (rows_in part others) self.new) }
     {
         let mut at = other.parts.heads[part as usize];

@@ -10,7 +10,7 @@ invariant-loop-at l = record {
   bound : l.at ≤ length l.other.keys;
   part : (e : ℕ) → l.at ≡ e + 1 → key_part (key_at l.other.keys e) ≡ l.part;
   funcs : funcs_of l.self ≡ funcs_of l.fn.self;
-  folds : (rows others : List FoldedRow) → length rows + length others ≤ 2 ^ 61 → Folds rows l.fn.self → Folds others l.other
+  folds : (rows others : List FoldedRow) → length rows + length others ≤ 2 ^ 62 → Folds rows l.fn.self → Folds others l.other
       → Folds (rows ++ gathered l.part (drop l.at l.other.keys) others) l.self;
 }
 

@@ -1,7 +1,7 @@
 -- How numbers are packed into a word of 64 bits, and read out of it.
 use Rattle.std.specs.Prelude.{ℕ, ◌+◌, ◌-◌, ◌*◌, ◌/◌, ◌%◌, ◌^◌}
 
--- ---- the state of a slot: its lowest two bits tell the kind, the others are an id, plus 1
+-- ---- the state of a slot: the lowest two bits are its kind, the others an id, plus 1
 
 -- open with this task set
 abbrev pub open_word : ℕ → ℕ

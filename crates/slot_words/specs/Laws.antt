@@ -1,4 +1,4 @@
--- The law of a call: what its one atomic step is, and when that is lawful.
+-- The law of a call: what its one atomic step is, and when this step is lawful.
 use Rattle.std.specs.Prelude.{◌≡◌, ℕ, ◌<◌, List, [], ◌∷◌, length, slice_set}
 use Rattle.slot_history.specs.Bounds.{IsShape}
 use Rattle.slot_history.specs.declared.shape.Shape.{Shape}
@@ -28,11 +28,11 @@ pub record NextCall : Type 0 where
   pub worker : ℕ
   pub call : Call
 
--- the reply of the definition
+-- its reply, by the definition
 abbrev pub reply_at : NextCall → Act
 reply_at due = reply_of due.shape (state_after due.shape due.history) due.worker due.call
 
--- the history with the call after it, answered so
+-- the history that ends with the call and this answer
 abbrev pub answered : NextCall → Act → List Entry
 answered due act = entry due.worker act ∷ due.history
 
@@ -46,9 +46,9 @@ pub record AtomicStep : Type 0 where
 abbrev pub answer_on : Shape → List ℕ → AtomicStep → Act
 answer_on d words step = step.answer (word_at d words step.address)
 
--- The step of a call on the words that the history left: it is on one of them. What it answers is
--- the reply of the definition, with numbers that are small. The history with this entry is legal,
--- and the words stand for the state that it leaves.
+-- The step of a call is lawful on the words that the history left. It is on one of them. It answers
+-- the reply of the definition, with numbers that fit 32 bits. The history with this entry is legal,
+-- and afterwards the words stand for the state that it leaves.
 pub record IsLawful (due : NextCall) (step : AtomicStep) (words : List ℕ) : Type 0 where
   pub there : index due.shape step.address < length words
   pub reply : answer_on due.shape words step ≡ reply_at due
@@ -63,9 +63,9 @@ pub record AreWordsOf (d : Shape) (history : List Entry) (words : List ℕ) : Ty
   pub legal : IsLegal d history
   pub stands : StandsFor d words (state_after d history)
 
--- The law of a call: where a worker may make it, its one step is on the word `on`, makes `change`
--- of it and answers what `answer` reads in it, and this is lawful. All three are given by the
--- worker and its place, which its own calls give.
+-- The law of a call. If a worker may make the call, its one step is on the word `on`, makes
+-- `change` of it, and answers what `answer` reads in it. This step is lawful. The worker and its
+-- place determine all three, and the worker's own calls determine its place.
 abbrev pub IsLaw : Call → (ℕ → Place → Address) → (Place → ℕ → ℕ) → (Place → ℕ → Act) → Type 0
 IsLaw c on change answer = (d : Shape) (history : List Entry) (w : ℕ) (words : List ℕ)
     → AreWordsOf d history words → w < d.workers → MayCall d (state_after d history) w c
@@ -84,7 +84,7 @@ abbrev pub FirstWordsStand : Type 0
 FirstWordsStand = (d : Shape) (words : List ℕ)
     → IsShape d → AreFirst d words → AreWordsOf d [] words
 
--- the word of a slot's state is packed of its id
+-- the word of a slot's state, packed of its id
 abbrev pub packed : SlotState → ℕ
 packed Empty = 0
 packed (Reserved w held) = 1

@@ -15,8 +15,7 @@ use Rattle.slot_words.specs.declared.address.Address.TheVariants.{WorkerOf, Retu
 use Rattle.slot_words.specs.Addresses.{IsThere, index, count_of_words}
 use Rattle.slot_words.specs.Encodings.{at_word, mark_for, cursor_word, zero_count}
 
--- what the word of a slot's cursor holds; of an empty slot, and in a holding without a total,
--- nothing is said
+-- what the word of a slot's cursor holds; anything if the slot is empty, or held without a total
 abbrev pub IsCursor : SlotState → ℕ → Type 0
 IsCursor Empty word = Unit {0}
 IsCursor (Reserved w held) word = IfSome held.total (λ total. word ≡ cursor_word total 0)
@@ -56,16 +55,15 @@ pub record StandsFor (d : Shape) (words : List ℕ) (S : ObjectState) : Type 0 w
   pub count : length words ≡ count_of_words d
   pub each : (address : Address) → IsThere d address → Holds d S address (word_at d words address)
 
--- the counter of a slot: before the sweep it is minus the number of workers that paid, and after it
--- the number of workers that still have to pay; it is never further from 0 than there can be
--- workers
+-- The counter of a slot: before the sweep it is minus the number of workers that paid, and after it
+-- the number of workers that still have to pay. It lies within the most workers of 0.
 pub record IsCounter (d : Shape) (x : SlotState) (word : ℕ) : Type 0 where
   pub unswept : is_swept x ≡ false → word + payments d x ≡ zero_count
   pub swept : is_swept x ≡ true → word ≡ zero_count + debts d x
   pub low : zero_count ≤ word + MOST_WORKERS
   pub high : word ≤ zero_count + MOST_WORKERS
 
--- what each word holds at the start: all 0, but for the counters, which are at 0
+-- what each word holds at the start: a counter holds the word of the count 0, every other word 0
 abbrev pub first_word : Address → ℕ
 first_word (CounterOf s) = zero_count
 first_word _ = 0

@@ -31,8 +31,8 @@ ghost use Rattle.slot_words.specs.Laws.{IsLaw, CountersSay, FirstWordsStand, Sta
 
 /// A store on the own state word.
 ///
-/// No lock: nobody but a coordinator writes another worker's word, and it marks nobody that is
-/// nowhere.
+/// No lock: nobody but a coordinator writes another worker's state word, and it marks only a worker
+/// that is at its slot.
 pub fn enter()
     ensures { (s : ℕ) → IsLaw (Entering s) (λ w p. WorkerOf w)
         (λ p word. at_word s) (λ p word. Enter s) }
@@ -57,15 +57,15 @@ pub fn claim()
 
 /// A swap of the own state word with 0.
 ///
-/// No lock: the mark lies in the word that the leave takes, so it is found by this leave or comes
-/// too late to be set.
+/// No lock: the mark lies in the word that the leave takes. So this leave finds the mark, or the
+/// coordinator comes too late to set it.
 pub fn leave()
     ensures { IsLaw Leaving (λ w p. WorkerOf w) (λ p word. 0) (λ p word. leave_answer word) }
 {}
 
 /// The lowest bit of the slot's state word is set, which is the tag.
 ///
-/// No lock: the step tells whether the tag was there before, so one shut alone is the first.
+/// No lock: the step shows whether the tag was there before, so exactly one shut is the first.
 pub fn shut()
     ensures { IsLaw Shutting (λ w p. StateOf (slot_of p))
         (λ p word. bit_or word 1) (λ p word. shut_answer word) }
@@ -75,7 +75,7 @@ pub fn shut()
 /// slot and marked for the coordinator's task set.
 ///
 /// No lock: the mark is set only in a word that says that the worker is at the slot; any other word
-/// tells that it isn't.
+/// says that it isn't.
 pub fn mark_next()
     ensures { IsLaw MarkingNext (λ w p. WorkerOf (nth_other w (asked_at p)))
         (λ p word. let there = at_word (slot_of p) in
@@ -85,8 +85,8 @@ pub fn mark_next()
 
 /// An addition of the number of marks to the slot's counter.
 ///
-/// No lock: payments that came before have counted down, so the sum is the number of those that
-/// still have to pay.
+/// No lock: earlier payments have counted down, so the sum is the number of workers that still have
+/// to pay.
 pub fn sweep()
     ensures { IsLaw Sweeping (λ w p. CounterOf (slot_of p))
         (λ p word. added (marked_at p) word) (λ p word. sweep_answer (marked_at p) word) }
@@ -102,7 +102,7 @@ pub fn pay()
 
 /// One compare and exchange on the slot's state word, from empty to reserved.
 ///
-/// No lock: of two that want the slot, one finds it empty.
+/// No lock: of two workers that want the slot, one finds it empty.
 pub fn reserve()
     ensures { (s : ℕ) → IsLaw (Reserving s) (λ w p. StateOf s)
         (λ p word. compare_exchanged 0 1 word) (λ p word. reserve_answer s word) }
@@ -110,7 +110,7 @@ pub fn reserve()
 
 /// One compare and exchange on the arrivals, from q to q + 1.
 ///
-/// No lock: of two that want to admit q, one finds it the next.
+/// No lock: of two workers that want to admit q, one finds it the next.
 pub fn admit()
     ensures { (q : ℕ) → IsLaw (Admitting q) (λ w p. ArrivalsAt)
         (λ p word. compare_exchanged q (q + 1) word) (λ p word. admit_answer q word) }
@@ -188,7 +188,7 @@ pub fn take_change()
 {}
 
 /// Before the sweep a slot's counter is minus the number of workers that paid, and after it the
-/// number that still have to pay; and it lies within 64 of 0.
+/// number that still have to pay. It lies within 64 of 0.
 pub fn counters()
     ensures { CountersSay }
 {}

@@ -1,18 +1,20 @@
 -- Each call of the object keeps what is kept of it.
-use Rattle.std.proofs.Common.{◌≡◌, ◌≢◌, ℕ, ◌+◌, ◌*◌, ◌<◌, ◌≤◌, ◌⊎◌, Bool, true, false, cond, eqb, List, set, get_or, slice_get, Option, Some, None, refl, sym, ap, ◌∙◌, subst, eq-eqb, eqb-true, arith}
+use Rattle.std.proofs.Common.{◌≡◌, ◌≢◌, ℕ, ◌+◌, ◌*◌, ◌<◌, ◌≤◌, ◌⊎◌, Bool, true, false, cond, eqb, List, set, get_or, slice_get, Option, Some, None, refl, sym}
+use Rattle.std.proofs.Common.{ap, ◌∙◌, subst, eq-eqb, eqb-true, arith}
 use mathlib.Core.Bool.{true≢false}
 use Rattle.slot_history.specs.declared.shape.Shape.{Shape}
 use Rattle.slot_history.specs.declared.shape.TheConstants.{MOST_CLAIM}
 use Rattle.slot_history.specs.declared.act.Act.{Act}
-use Rattle.slot_history.specs.declared.act.Act.TheVariants.{Arrivals, Finished, SetTotal, NoteDone, AdmitGot, AdmitLost}
+use Rattle.slot_history.specs.declared.act.Act.TheVariants.{SetTotal, NoteDone, AdmitGot, AdmitLost}
 use Rattle.slot_history.specs.declared.place.Place.{Place}
 use Rattle.slot_history.specs.declared.place.Place.TheVariants.{Free, Entered, Inside as At, Used, Owing}
 use Rattle.slot_history.specs.Sets.{upd}
-use Rattle.slot_history.specs.States.{SlotState, Empty, Reserved, Open, Shut, Finishing, ObjectState, slot_of, id_of, owes, can_leave, is_open, is_shut, is_empty, is_inside, reservation, has_own_cell}
+use Rattle.slot_history.specs.States.{SlotState, Empty, Reserved, Open, Shut, Finishing, ObjectState, slot_of, id_of, owes, can_leave, is_open, is_shut}
+use Rattle.slot_history.specs.States.{is_empty, is_inside, reservation, has_own_cell}
 use Rattle.slot_history.specs.Steps.{site, slot_after, moved, claimed, shut_by, held_on}
 use Rattle.slot_history.specs.Allowed.{IsAllowed}
-use Rattle.slot_history.specs.Calls.{AskingArrivals, AskingFinished, Looking, Claiming, Shutting, Leaving, Admitting, NotingDone, SettingTotal}
-use Rattle.one_thread.specs.Stories.{Story, MayMake}
+use Rattle.slot_history.specs.Calls.{Looking, Claiming, Shutting, Leaving, Admitting, NotingDone, SettingTotal}
+use Rattle.one_thread.specs.Stories.{MayMake}
 use Rattle.slot_history.proofs.Places.{inside-slots}
 use Rattle.slot_history.proofs.Duties.{owes-claimed, owes-shut, owes-held}
 use Rattle.slot_history.proofs.Growth.{open-shut-cases}
@@ -33,26 +35,12 @@ use Rattle.slot_station.specs.declared.log.Logged.{Logged}
 use Rattle.plain_slots.specs.declared.slot.Slot.{Slot}
 use Rattle.slot_station.specs.Answers.{claim_of, shut_of, leave_of, reserve_of, admit_of}
 use Rattle.plain_slots.specs.Slots.{shown, look_of, has_work, ClaimFrom}
-use Rattle.plain_slots.specs.Objects.{HasSlots, IsObject}
+use Rattle.plain_slots.specs.Objects.{HasSlots, IsObject, Calm, Still}
 use Rattle.slot_station.specs.Replies.{look_act, claim_act, shut_act, leave_act, reserve_act, admit_act}
 use Rattle.slot_station.specs.Tokens.{ClaimGives, ShutGives, LeaveGives, ReserveGives}
 use Rattle.slot_station.proofs.Lists.{pair-within}
 use Rattle.plain_slots.proofs.Objects.{slots-set, slots-kept, debts-kept}
-use Rattle.plain_slots.proofs.Following.{Kept, Wrote, Calm, Still, Spot, contents, story_of, may-make, now_of, read, tabled, follow, quiet, writes}
-
--- ---- the numbers
-
-pub arrivals-after : (o : Inside) (ok : Kept o) (old : Story) → story_of o ≡ old → (w : ℕ) → MayMake old w AskingArrivals
-    → (places : List Place) (log : List Logged) → Wrote o w (Arrivals o.admitted) places log → IsObject (record (contents o) { places = places; log = log })
-arrivals-after o ok old view w asks places log wrote =
-    quiet o ok w (may-make o old view w AskingArrivals asks).below (Arrivals o.admitted) (Arrivals o.admitted) refl ok.admitted_is places log wrote
-    (λ d v x. refl) (λ v p f. refl, λ v p f. refl, λ n. refl, λ n. refl)
-
-pub finished-after : (o : Inside) (ok : Kept o) (old : Story) → story_of o ≡ old → (w : ℕ) → MayMake old w AskingFinished
-    → (places : List Place) (log : List Logged) → Wrote o w (Finished o.finished) places log → IsObject (record (contents o) { places = places; log = log })
-finished-after o ok old view w asks places log wrote =
-    quiet o ok w (may-make o old view w AskingFinished asks).below (Finished o.finished) (Finished o.finished) refl ok.finished_is places log wrote
-    (λ d v x. refl) (λ v p f. refl, λ v p f. refl, λ n. refl, λ n. refl)
+use Rattle.plain_slots.proofs.Following.{Kept, Wrote, Spot, contents, story_of, now_of, read, tabled, follow, quiet, writes}
 
 -- ---- look
 

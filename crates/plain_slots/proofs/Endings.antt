@@ -1,5 +1,6 @@
 -- The calls that end and renew a task set keep what is kept of the object.
-use Rattle.std.proofs.Common.{◌≡◌, ◌≢◌, ℕ, ◌+◌, ◌*◌, ◌<◌, ◌≤◌, ◌⊎◌, Bool, true, false, cond, eqb, not, ◌&&◌, ◌||◌, List, length, length-set, set, slice_index_or, None, unwrap_or, refl, sym, ap, ap₂, ◌∙◌, subst, inl, inr, ⊎_elim, eqb-true, arith, pos_of_ne-zero}
+use Rattle.std.proofs.Common.{◌≡◌, ◌≢◌, ℕ, ◌+◌, ◌*◌, ◌<◌, ◌≤◌, ◌⊎◌, Bool, true, false, cond, eqb, not, ◌&&◌, ◌||◌, List, length, length-set, set}
+use Rattle.std.proofs.Common.{slice_index_or, None, unwrap_or, refl, sym, ap, ap₂, ◌∙◌, subst, inl, inr, ⊎_elim, eqb-true, arith, pos_of_ne-zero}
 use Rattle.std.proofs.lemmas.Option.{get_or_from_slice_get}
 use Rattle.std.proofs.Math.Nat.{min-zero}
 use mathlib.Core.Bool.{true≢false}
@@ -12,7 +13,8 @@ use Rattle.slot_history.specs.declared.place.Place.{Place}
 use Rattle.slot_history.specs.declared.place.Held.{Held}
 use Rattle.slot_history.specs.declared.place.Place.TheVariants.{Asking, Owing, Holding}
 use Rattle.slot_history.specs.Sets.{upd, count_of}
-use Rattle.slot_history.specs.States.{TaskSet, Ending, SlotState, Empty, Reserved, Open, Shut, Finishing, slot_of, id_at, finalisation, is_shut, is_swept, is_at, owes, next_id, held_at}
+use Rattle.slot_history.specs.States.{TaskSet, Ending, SlotState, Empty, Reserved, Open, Shut, Finishing, slot_of, id_at, finalisation, is_shut, is_swept}
+use Rattle.slot_history.specs.States.{is_at, owes, next_id, held_at}
 use Rattle.slot_history.specs.Steps.{slot_after, moved, opened, ended, finalised_by, next_asked}
 use Rattle.slot_history.specs.Allowed.{IsReady, debts, next_is_at}
 use Rattle.slot_history.specs.Calls.{Call, Paying, MarkingNext, Sweeping, Installing, Releasing}

@@ -7,10 +7,12 @@ use Rattle.slot_history.specs.declared.act.Act.{Act}
 use Rattle.slot_history.specs.declared.place.Place.{Place}
 use Rattle.slot_history.specs.declared.place.Place.TheVariants.{Free}
 use Rattle.slot_history.specs.Sets.{upd}
-use Rattle.slot_history.specs.States.{SlotState, ObjectState, slot_of, owes, can_leave}
-use Rattle.slot_history.specs.Steps.{site, moved, slot_after, changes_after, returns_after, admitted_after, finished_after, next}
+use Rattle.slot_history.specs.States.{ObjectState, slot_of, owes, can_leave}
+use Rattle.slot_history.specs.Steps.{site, moved, slot_after, admitted_after, finished_after, next}
 use Rattle.slot_history.specs.Allowed.{IsAllowed}
-use Rattle.slot_history.specs.Calls.{Call, MayAt, Entering, Looking, Claiming, Shutting, Leaving, Paying, MarkingNext, Sweeping, Reserving, Admitting, AskingArrivals, AskingFinished, NotingDone, SettingTotal, Installing, Releasing, AnnouncingNext, TakingReturn, TakingChange}
+use Rattle.slot_history.specs.Calls.{Call, MayAt, Entering, Looking, Claiming, Shutting, Leaving, Paying, MarkingNext, Sweeping, Reserving, Admitting}
+use Rattle.slot_history.specs.Calls.{AskingArrivals, AskingFinished, NotingDone, SettingTotal, Installing, Releasing, AnnouncingNext, TakingReturn}
+use Rattle.slot_history.specs.Calls.{TakingChange}
 use Rattle.slot_history.specs.Histories.{IsLegal}
 use Rattle.slot_history.specs.Table.{IsTable}
 use Rattle.slot_history.specs.Bounds.{IsWithin}
@@ -25,7 +27,7 @@ use Rattle.slot_station.specs.Places.{IsCounted}
 use Rattle.slot_station.proofs.PlaceCounts as counts
 use Rattle.plain_slots.specs.Slots.{shown, OfPlace}
 use Rattle.one_thread.specs.Stories.{Story, MayMake, MakesCall, place_in, state_in}
-use Rattle.plain_slots.specs.Objects.{HasSlots, HasDebts, HasMasks, Contents, IsObject}
+use Rattle.plain_slots.specs.Objects.{HasSlots, HasDebts, HasMasks, Contents, IsObject, Calm, Still}
 use Rattle.plain_slots.proofs.Objects.{contents_of, after-call, slots-kept, debts-kept}
 
 -- an element that is known is the one that is read
@@ -49,16 +51,6 @@ now_of o = state_in o.shape o.log
 -- what a step writes into places and log
 abbrev pub Wrote : Inside → ℕ → Act → List Place → List Logged → Type 0
 Wrote o w a places log = OfPlace o.places.items w (λ p. places ≡ slice_set o.places.items w (moved o.shape a p)) × (log ≡ call w a ∷ o.log)
-
--- a call that changes no notices and no numbers
-abbrev pub Calm : Act → Type 0
-Calm a = ((w : ℕ) (p : Place) (f : ℕ → ℕ → Bool) → changes_after w a p f ≡ f)
-    × ((w : ℕ) (p : Place) (f : ℕ → ℕ → Bool) → returns_after w a p f ≡ f)
-    × ((n : ℕ) → admitted_after a n ≡ n) × ((n : ℕ) → finished_after a n ≡ n)
-
--- a call that changes no slot
-abbrev pub Still : Act → Type 0
-Still a = (d : Shape) (w : ℕ) (x : SlotState) → slot_after d w a x ≡ x
 
 module _ (o : Inside) (ok : Kept o) where
   pub tabled : IsTable o.shape (now_of o)
@@ -102,23 +94,31 @@ module _ (o : Inside) (ok : Kept o) where
       ok.finished_is ∙ sym (calm.3 S.finished),
     )
 
+    -- after a call that changes its worker's place and notices alone
+    pub noticed : (a a' : Act) → a' ≡ a → IsAllowed o.shape (now_of o) w a → (places : List Place) (log : List Logged) → Wrote o w a' places log → Still a
+        → ((n : ℕ) → admitted_after a n ≡ n) × ((n : ℕ) → finished_after a n ≡ n) → (returns changes : List ℕ)
+        → (let S = next o.shape (now_of o) w a in HasMasks o.shape S.returns returns × HasMasks o.shape S.changes changes)
+        → IsObject (record (contents o) { places = places; returns = returns; changes = changes; log = log })
+    noticed a a' is allowed places log wrote still numbers returns changes masks =
+        let S = now_of o in
+        let k = site a (S.places w) in
+        let same : slot_after o.shape w a (S.slots k) ≡ S.slots k = still o.shape w (S.slots k) in
+        follow a a' is allowed places log wrote o.slots.items o.owing.items returns changes o.admitted o.finished (
+          slots-kept o.shape o.slots.items S.slots k (slot_after o.shape w a (S.slots k)) ok.slots_are (ap shown same),
+          debts-kept o.shape o.owing.items S.slots k (slot_after o.shape w a (S.slots k)) ok.debts_are (λ v h. ap (λ x. owes x v) same),
+          masks.0,
+          masks.1,
+          ok.admitted_is ∙ sym (numbers.0 S.admitted),
+          ok.finished_is ∙ sym (numbers.1 S.finished),
+        )
+
     -- after a call that changes its worker's place alone
     pub quiet : (a a' : Act) → a' ≡ a → IsAllowed o.shape (now_of o) w a → (places : List Place) (log : List Logged) → Wrote o w a' places log → Still a
         → Calm a
         → IsObject (record (contents o) { places = places; log = log })
     quiet a a' is allowed places log wrote still calm =
-        let S = now_of o in
-        let k = site a (S.places w) in
-        let same : slot_after o.shape w a (S.slots k) ≡ S.slots k = still o.shape w (S.slots k) in
         let rest = resting a calm in
-        follow a a' is allowed places log wrote o.slots.items o.owing.items o.returns.items o.changes.items o.admitted o.finished (
-          slots-kept o.shape o.slots.items S.slots k (slot_after o.shape w a (S.slots k)) ok.slots_are (ap shown same),
-          debts-kept o.shape o.owing.items S.slots k (slot_after o.shape w a (S.slots k)) ok.debts_are (λ v h. ap (λ x. owes x v) same),
-          rest.0,
-          rest.1,
-          rest.2,
-          rest.3,
-        )
+        noticed a a' is allowed places log wrote still (calm.2, calm.3) o.returns.items o.changes.items (rest.0, rest.1)
 
     -- after a call that changes no notices and no numbers, where the slot and the debts are those of the next state
     pub writes : (a a' : Act) → a' ≡ a → IsAllowed o.shape (now_of o) w a → (places : List Place) (log : List Logged) → Wrote o w a' places log → Calm a
@@ -152,6 +152,11 @@ makes d log new old w a a' view is wrote legal = record {
 -- a call that the contracts show to be allowed, by what is kept
 pub may-make : (o : Inside) (old : Story) → story_of o ≡ old → (w : ℕ) (c : Call) → MayMake old w c → MayMake (story_of o) w c
 may-make o old view w c may = subst (λ (x : Story). MayMake x w c) (sym view) may
+
+-- for a step, the counts of the place of a worker that may make a call
+pub counted-asks : (o : Inside) → Kept o → (old : Story) → story_of o ≡ old → (w : ℕ) (c : Call) → MayMake old w c → (p : Place)
+    → slice_get o.places.items w ≡ Some p → IsCounted p
+counted-asks o ok old view w c asks = counted-at o ok w (may-make o old view w c asks).below
 
 -- a call that is about the slot at which its worker is
 abbrev pub AtSlot : Call → Type 0

@@ -3,6 +3,7 @@ pub mod Counts
 pub mod Endings
 pub mod Following
 pub mod Masks
+pub mod Moving
 pub mod Notices
 pub mod Objects
 pub mod Opening

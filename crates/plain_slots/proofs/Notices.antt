@@ -7,7 +7,6 @@ use Rattle.slot_history.specs.declared.act.Act.TheVariants.{Announce, TakeReturn
 use Rattle.slot_history.specs.declared.place.Place.{Place}
 use Rattle.slot_history.specs.declared.place.Place.TheVariants.{Announcing}
 use Rattle.slot_history.specs.Sets.{upd}
-use Rattle.slot_history.specs.States.{slot_of}
 use Rattle.slot_history.specs.Steps.{told, taken}
 use Rattle.slot_history.specs.Allowed.{IsMask}
 use Rattle.slot_history.specs.Calls.{AnnouncingNext, TakingReturn, TakingChange}
@@ -16,10 +15,9 @@ use Rattle.plain_slots.specs.declared.object.PlainObject.TheInside.{Inside}
 use Rattle.slot_station.specs.declared.log.Logged.{Logged}
 use Rattle.one_thread.specs.Stories.{MayMake}
 use Rattle.plain_slots.specs.Objects.{HasMasks, IsObject}
-use Rattle.plain_slots.proofs.Objects.{slots-kept, debts-kept}
 use Rattle.plain_slots.proofs.Masks.{masks-come, masks-taken}
 use Rattle.plain_slots.specs.Slots.{words_told, CanTell}
-use Rattle.plain_slots.proofs.Following.{Kept, Wrote, contents, story_of, now_of, bounded, follow, read, place-is}
+use Rattle.plain_slots.proofs.Following.{Kept, Wrote, contents, story_of, now_of, bounded, noticed, read, place-is}
 
 -- a mask word that is read
 word-read : (d : Shape) (w : ℕ) → w < d.workers → (pending : ℕ → ℕ → Bool) (words : List ℕ) (part i n : ℕ) → HasMasks d pending words → part < PARTS
@@ -39,33 +37,19 @@ pub take-returns-after : (o : Inside) (ok : Kept o) (w part : ℕ) → MayMake (
     → (bits : ℕ) → bits ≡ get_or o.returns.items i bits → (places : List Place) (log : List Logged) → Wrote o w (TakeReturn part bits) places log
     → IsObject (record (contents o) { places = places; returns = set o.returns.items i 0; log = log })
 take-returns-after o ok w part asks i at bits is places log wrote =
-    let S = now_of o in let k = slot_of (S.places w) in
+    let S = now_of o in
     let mask = word-read o.shape w asks.below S.returns o.returns.items part i bits ok.returns_are asks.may at is in
-    follow o ok w asks.below (TakeReturn part bits) (TakeReturn part bits) refl (asks.may, mask) places log wrote o.slots.items o.owing.items
-    (set o.returns.items i 0) o.changes.items o.admitted o.finished (
-      slots-kept o.shape o.slots.items S.slots k (S.slots k) ok.slots_are refl,
-      debts-kept o.shape o.owing.items S.slots k (S.slots k) ok.debts_are (λ v h. refl),
-      words-taken o.shape w asks.below S.returns o.returns.items part i ok.returns_are asks.may at,
-      ok.changes_are,
-      ok.admitted_is,
-      ok.finished_is,
-    )
+    noticed o ok w asks.below (TakeReturn part bits) (TakeReturn part bits) refl (asks.may, mask) places log wrote (λ d v x. refl) (λ n. refl, λ n. refl)
+    (set o.returns.items i 0) o.changes.items (words-taken o.shape w asks.below S.returns o.returns.items part i ok.returns_are asks.may at, ok.changes_are)
 
 pub take-changes-after : (o : Inside) (ok : Kept o) (w part : ℕ) → MayMake (story_of o) w (TakingChange part) → (i : ℕ) → i ≡ w * PARTS + part
     → (bits : ℕ) → bits ≡ get_or o.changes.items i bits → (places : List Place) (log : List Logged) → Wrote o w (TakeChange part bits) places log
     → IsObject (record (contents o) { places = places; changes = set o.changes.items i 0; log = log })
 take-changes-after o ok w part asks i at bits is places log wrote =
-    let S = now_of o in let k = slot_of (S.places w) in
+    let S = now_of o in
     let mask = word-read o.shape w asks.below S.changes o.changes.items part i bits ok.changes_are asks.may at is in
-    follow o ok w asks.below (TakeChange part bits) (TakeChange part bits) refl (asks.may, mask) places log wrote o.slots.items o.owing.items
-    o.returns.items (set o.changes.items i 0) o.admitted o.finished (
-      slots-kept o.shape o.slots.items S.slots k (S.slots k) ok.slots_are refl,
-      debts-kept o.shape o.owing.items S.slots k (S.slots k) ok.debts_are (λ v h. refl),
-      ok.returns_are,
-      words-taken o.shape w asks.below S.changes o.changes.items part i ok.changes_are asks.may at,
-      ok.admitted_is,
-      ok.finished_is,
-    )
+    noticed o ok w asks.below (TakeChange part bits) (TakeChange part bits) refl (asks.may, mask) places log wrote (λ d v x. refl) (λ n. refl, λ n. refl)
+    o.returns.items (set o.changes.items i 0) (ok.returns_are, words-taken o.shape w asks.below S.changes o.changes.items part i ok.changes_are asks.may at)
 
 -- ---- announce
 
@@ -98,19 +82,15 @@ module _ (o : Inside) (ok : Kept o) (w : ℕ) (asks : MayMake (story_of o) w Ann
       → (places : List Place) (log : List Logged) → Wrote o w Announce places log
       → IsObject (record (contents o) { places = places; returns = returns; changes = changes; log = log })
   announce-after returns changes then_ else_ places log wrote =
-      let S = now_of o in let j = slot_of (S.places w) in
+      let S = now_of o in
       let (s, again, k, at) = asks.may in
       let r = within-at o ok w s k again at in
       let part : s / 64 < PARTS = let a = r.0 in let b = ok.shape.slots.1 in omega arith in
-      follow o ok w asks.below Announce Announce refl asks.may places log wrote o.slots.items o.owing.items returns changes o.admitted o.finished (
-        slots-kept o.shape o.slots.items S.slots j (S.slots j) ok.slots_are refl,
-        debts-kept o.shape o.owing.items S.slots j (S.slots j) ok.debts_are (λ v h. refl),
+      noticed o ok w asks.below Announce Announce refl asks.may places log wrote (λ d v x. refl) (λ n. refl, λ n. refl) returns changes (
         subst (λ q. HasMasks o.shape (told true q S.returns) returns) (sym at)
             (subst (HasMasks o.shape (told true (Announcing s again k) S.returns)) (sym (then_ ∙ ap (λ q. words_told true q o.returns.items) (here ∙ at)))
             (masks-told o.shape true S.returns o.returns.items s k again ok.returns_are r.1 part)),
         subst (λ q. HasMasks o.shape (told false q S.changes) changes) (sym at)
             (subst (HasMasks o.shape (told false (Announcing s again k) S.changes)) (sym (else_ ∙ ap (λ q. words_told false q o.changes.items) (here ∙ at)))
             (masks-told o.shape false S.changes o.changes.items s k again ok.changes_are r.1 part)),
-        ok.admitted_is,
-        ok.finished_is,
       )

@@ -2,14 +2,17 @@
 use Rattle.std.specs.Prelude.{◌≡◌, ℕ, ◌+◌, ◌*◌, ◌<◌, Bool, List, Some, length, get_or, slice_get}
 use Rattle.slot_history.specs.declared.shape.Shape.{Shape}
 use Rattle.slot_history.specs.declared.shape.TheConstants.{PARTS}
+use Rattle.slot_history.specs.declared.act.Act.{Act}
 use Rattle.slot_history.specs.declared.place.Place.{Place}
 use Rattle.slot_history.specs.States.{SlotState, owes}
-use Rattle.slot_history.specs.Allowed.{IsMask}
+use Rattle.slot_history.specs.Steps.{slot_after, changes_after, returns_after}
+use Rattle.slot_history.specs.Steps.{admitted_after, finished_after}
+use Rattle.slot_history.specs.Allowed.{IsMask, IsAllowed}
 use Rattle.slot_history.specs.Histories.{IsLegal}
 use Rattle.slot_station.specs.declared.log.Logged.{Logged}
 use Rattle.slot_station.specs.Log.{calls_of}
 use Rattle.slot_station.specs.Shapes.{IsShape}
-use Rattle.one_thread.specs.Stories.{HasPlaces, state_in}
+use Rattle.one_thread.specs.Stories.{Story, HasPlaces, state_in}
 use Rattle.plain_slots.specs.declared.slot.Slot.{Slot}
 use Rattle.plain_slots.specs.Slots.{shown}
 
@@ -53,3 +56,20 @@ pub record IsObject (kept : Contents) : Type 0 where
   pub changes_are : HasMasks kept.shape (state_in kept.shape kept.log).changes kept.changes
   pub admitted_is : kept.admitted ≡ (state_in kept.shape kept.log).admitted
   pub finished_is : kept.finished ≡ (state_in kept.shape kept.log).finished
+
+-- a call that changes no notices and no numbers
+abbrev pub Calm : Act → Type 0
+Calm a = ((w : ℕ) (p : Place) (f : ℕ → ℕ → Bool) → changes_after w a p f ≡ f)
+    × ((w : ℕ) (p : Place) (f : ℕ → ℕ → Bool) → returns_after w a p f ≡ f)
+    × ((n : ℕ) → admitted_after a n ≡ n) × ((n : ℕ) → finished_after a n ≡ n)
+
+-- a call that changes no slot
+abbrev pub Still : Act → Type 0
+Still a = (d : Shape) (w : ℕ) (x : SlotState) → slot_after d w a x ≡ x
+
+-- the worker may make this call, which changes its place alone
+pub record MayMove (object : Story) (w : ℕ) (a : Act) : Type 0 where
+  pub below : w < object.shape.workers
+  pub allowed : IsAllowed object.shape (state_in object.shape object.log) w a
+  pub still : Still a
+  pub calm : Calm a

@@ -1,5 +1,7 @@
 -- What an object keeps of the state of a slot, and what its calls make of that and of other lists.
-use Rattle.std.specs.Prelude.{◌≡◌, ℕ, ◌+◌, ◌*◌, ◌/◌, ◌<◌, ◌≤◌, Bool, true, false, eqb, ◌&&◌, min, List, Option, Some, None, bit_or, slice_get, slice_set, slice_index, slice_index_or}
+use Rattle.std.specs.Prelude.{◌≡◌, ℕ, ◌+◌, ◌*◌, ◌/◌, ◌<◌, ◌≤◌, Bool, true, false, eqb, ◌&&◌, min}
+use Rattle.std.specs.Prelude.{List, Option, Some, None, bit_or, slice_get, slice_set, slice_index}
+use Rattle.std.specs.Prelude.{slice_index_or}
 use Rattle.slot_history.specs.declared.shape.Shape.{Shape}
 use Rattle.slot_history.specs.declared.shape.TheConstants.{PARTS, MOST_SLOTS, MOST_WORKERS}
 use Rattle.slot_history.specs.declared.place.Place.{Place}

@@ -1,5 +1,6 @@
 //! What the calls of an object answer, and what they write for that.
-ghost use Rattle.std.specs.Prelude.{◌≡◌, ℕ, ◌+◌, ◌*◌, ◌^◌, ◌<◌, ◌≤◌, Bool, true, false, cond, eqb, ◌||◌, ◌∷◌, length, slice_set};
+ghost use Rattle.std.specs.Prelude.{◌≡◌, ℕ, ◌+◌, ◌*◌, ◌^◌, ◌<◌, ◌≤◌, Bool, true, false, cond, eqb};
+ghost use Rattle.std.specs.Prelude.{◌||◌, ◌∷◌, length, slice_set};
 ghost use Rattle.slot_history.specs.declared.shape.Shape.{Shape};
 ghost use Rattle.slot_history.specs.declared.act.Act.TheVariants.{SweepOthers};
 ghost use Rattle.slot_history.specs.States as states;
@@ -7,7 +8,8 @@ ghost use Rattle.slot_history.specs.Steps as steps;
 ghost use Rattle.slot_station.specs.Answers.{mark_of, sweep_of, pay_of, reserve_of, admit_of};
 ghost use Rattle.slot_station.specs.Log.{call};
 ghost use Rattle.slot_station.specs.Places.{IsCounted};
-ghost use Rattle.plain_slots.specs.Slots.{shown, OfEach, OfPlace, pays_last, debts_in, words_told, CanTell};
+ghost use Rattle.plain_slots.specs.Slots.{shown, OfEach, OfPlace, pays_last, debts_in, words_told};
+ghost use Rattle.plain_slots.specs.Slots.{CanTell};
 
 use crate::slot::{Slot, id_in, is_swept, sweep_in, word_in};
 use slot_history::act::{Act, Entry};

@@ -1,5 +1,8 @@
 //! The object on one thread as the states of its slots and workers: what is kept of it at run time,
 //! and each call's step.
+ghost use Rattle.one_thread.specs.Stories.{MakesCall};
+ghost use Rattle.plain_slots.specs.Objects.{MayMove};
+
 use crate::answers::{
     admit_at, announce_at, debts_at, mark_if, paid_by, reserved_by, step, swept_by,
 };
@@ -58,6 +61,16 @@ impl Model for PlainObject {
     }) };
 }
 
+impl PlainObject {
+    /// Makes a call that changes its worker's place alone.
+    fn go_on(&mut self, worker: u32, act: &Act)
+        requires { MayMove self.old worker act.now }
+        ensures { MakesCall self.old worker act.now self.new }
+    {
+        step(&self.shape, &mut self.places, &mut self.log, worker, act);
+    }
+}
+
 impl SlotObject for PlainObject {
     ghost story = { λ o. o };
 
@@ -105,13 +118,7 @@ impl SlotObject for PlainObject {
     }
 
     fn enter(&mut self, worker: u32, s: u32) {
-        step(
-            &self.shape,
-            &mut self.places,
-            &mut self.log,
-            worker,
-            &Act::Enter(s),
-        );
+        self.go_on(worker, &Act::Enter(s));
     }
 
     fn look(&mut self, worker: u32) -> Look {
@@ -246,25 +253,13 @@ impl SlotObject for PlainObject {
 
     fn arrivals(&mut self, worker: u32) -> u32 {
         let admitted = self.admitted;
-        step(
-            &self.shape,
-            &mut self.places,
-            &mut self.log,
-            worker,
-            &Act::Arrivals(admitted),
-        );
+        self.go_on(worker, &Act::Arrivals(admitted));
         admitted
     }
 
     fn finished(&mut self, worker: u32) -> u32 {
         let finished = self.finished;
-        step(
-            &self.shape,
-            &mut self.places,
-            &mut self.log,
-            worker,
-            &Act::Finished(finished),
-        );
+        self.go_on(worker, &Act::Finished(finished));
         finished
     }
 

@@ -1,6 +1,6 @@
 use Rattle.slot_history.specs.Calls.{AnnouncingNext}
 use Rattle.plain_slots.proofs.Notices.{can-tell, announce-after}
-use Rattle.plain_slots.proofs.Following.{may-make, counted-at, counted-then}
+use Rattle.plain_slots.proofs.Following.{may-make, counted-asks, counted-then}
 use Rattle.plain_slots.proofs.object.PlainObjectSlotObject.announce.Goals as goal
 
 pub announce_at-requires : goal.announce_at-requires
@@ -11,8 +11,7 @@ announce_at-requires c =
     }
 
 pub step-requires-clause-counted : goal.step-requires-clause-counted
-step-requires-clause-counted c = counted-at c.self.inside c.self.invariant c.args.worker
-    (may-make c.self.inside _ c.self.view_is c.args.worker AnnouncingNext c.requires).below
+step-requires-clause-counted c = counted-asks c.self.inside c.self.invariant _ c.self.view_is c.args.worker _ c.requires
 
 pub invariant_of-self : goal.invariant_of-self
 invariant_of-self c =

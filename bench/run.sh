@@ -1,8 +1,9 @@
 #!/bin/sh
-# Times `sched_tool check`, which here mostly loads a table, against the plain loader of load.cpp. In
-# each round every program runs once on every input. It prints the medians of the CPU seconds, user
-# and system, with their ratio, and the greatest memory. It is no test. It needs a C++ compiler and
-# /usr/bin/time, and a machine that is otherwise idle.
+# Times `sched_tool check`, which here mostly loads a table, against the plain loader of load.cpp,
+# and `sched_tool make 7 t`, which draws and writes a table, against the plain program of make.cpp.
+# In each round every program runs once on every input. It prints the medians of the CPU seconds,
+# user and system, with their ratio, and the median of the memory. It is no test. It needs a C++
+# compiler and /usr/bin/time, and a machine that is otherwise idle.
 #
 #   bench/run.sh [ROUNDS]        15 rounds by default
 
@@ -48,7 +49,9 @@ median() {
         END { print NR % 2 ? all[(NR + 1) / 2] : (all[NR / 2] + all[NR / 2 + 1]) / 2 }'
 }
 
-"${CXX:-c++}" -O2 -std=c++17 -o "$work/load" "$here/load.cpp"
+for name in load make; do
+    "${CXX:-c++}" -O2 -std=c++17 -o "$work/$name" "$here/$name.cpp"
+done
 
 # The launcher proves and builds the program if that is not done yet. Without words the program ends with 2.
 status=0
@@ -57,6 +60,7 @@ status=0
 program=$(ls -t "$here"/../out/sched_tool-* | head -n 1)
 
 inputs='1048576x3 1048576x8'
+made=make-7-t
 for input in $inputs; do
     table "${input%x*}" "${input#*x}" 100000 >"$work/$input.csv"
     script "$input.csv" >"$work/$input.json"
@@ -69,11 +73,13 @@ while [ "$round" -lt "$rounds" ]; do
         timed "$input.ours" "$program" check "$input.json"
         timed "$input.plain" ./load "$input.csv"
     done
+    timed "$made.ours" "$program" make 7 t
+    timed "$made.plain" ./make 7
     round=$((round + 1))
 done
 
-printf '%-12s %10s %10s %6s %12s %12s\n' 'rows x cols' 'check s' 'plain s' ratio 'check KiB' 'plain KiB'
-for input in $inputs; do
+printf '%-12s %10s %10s %6s %12s %12s\n' input 'ours s' 'plain s' ratio 'ours KiB' 'plain KiB'
+for input in $inputs $made; do
     ours=$(median "$input.ours" 1)
     plain=$(median "$input.plain" 1)
     ratio=$(awk -v a="$ours" -v b="$plain" 'BEGIN { printf "%.2f", b ? a / b : 0 }')

@@ -1,9 +1,10 @@
 -- The laws of the behaviour of each command, on which the proof of `command` rests.
 use Rattle.std.proofs.Common.{◌≡◌, ℕ, List, Option, None, Some, ap, refl, sym, ◌∙◌}
-use Rattle.sched_tool.specs.Behaviours.{Behaviour, behaviour_of, check_behaviour, check_text, IsUsageRefused, usage_behaviour}
+use Rattle.load_gen.specs.declared.parts.Part.{Part}
+use Rattle.sched_tool.specs.Behaviours.{Behaviour, behaviour_of, check_behaviour, check_text, IsMemoryRefused, IsUsageRefused, make_behaviour, usage_behaviour}
 use Rattle.sched_tool.specs.Outsides.{Contents, known, Outside, surely_holds}
 use Rattle.sched_tool.specs.Verdicts.{OneAnswer, OneVerdict}
-use Rattle.sched_tool.specs.Words.{check, Meaning}
+use Rattle.sched_tool.specs.Words.{check, make, Meaning}
 use Rattle.sched_tool.specs.Writing.{IsFinding}
 use Rattle.sched_tool.specs.declared.program.refusal.Refusal.{Refusal}
 use Rattle.sched_tool.specs.declared.program.refusal.Refusal.TheVariants.{Usage, CannotRead, Script, Table, OutOfMemory}
@@ -58,15 +59,34 @@ check_consistent a b same file = record {
   only = λ r s x y h k. same_refusal a b same file r s x y h k;
 }
 
+make_sound : (number : ℕ) (part : Part) → IsSound (make_behaviour number part)
+make_sound number part = record { accepted = λ text answers. tt; reads = λ file refuses. refuses }
+
+not_memory : (r : Refusal) → IsFinding r → IsMemoryRefused r → ⊥
+not_memory Usage finding h = h
+not_memory (CannotRead file) finding h = h
+not_memory (Script fault) finding h = h
+not_memory (Table file fault) finding h = h
+not_memory OutOfMemory finding h = finding
+
+make_consistent : (number : ℕ) (part : Part) → AreConsistent (make_behaviour number part) (make_behaviour number part)
+make_consistent number part = record {
+  one = λ accepts text answers. answers;
+  apart = λ accepts r finding refuses. not_memory r finding refuses;
+  only = λ r s x y h k. absurd (not_memory r x h);
+}
+
 -- the behaviour of each command is sound
 pub sound : (outside : Outside) (meaning : Option Meaning) → IsSound (behaviour_of outside meaning)
 sound outside None = usage_sound
 sound outside (Some (check file)) = check_sound outside.holds file
+sound outside (Some (make number part)) = make_sound number part
 
 -- and consistent over outsides that agree
 pub consistent : (a b : Outside) → Agree a b → (meaning : Option Meaning) → AreConsistent (behaviour_of a meaning) (behaviour_of b meaning)
 consistent a b agree None = usage_consistent
 consistent a b agree (Some (check file)) = check_consistent a.holds b.holds agree.files file
+consistent a b agree (Some (make number part)) = make_consistent number part
 
 pub one_answer : OneAnswer
 one_answer content file a b x y =

@@ -3,9 +3,11 @@ mod CommandLemmas
 mod CompletenessLemmas
 mod EndingLemmas
 mod FaultLemmas
+mod MakeLemmas
 mod OutsideLemmas
 mod QueriesLemmas
 mod RefusalLemmas
 mod ReadersLemmas
 mod SubjectsLemmas
 mod UniqueLemmas
+mod WordLemmas

@@ -1,13 +1,15 @@
 -- What each command accepts, answers, refuses and reads.
 use Rattle.std.specs.Prelude.{◌≡◌, ℕ, List, ◌++◌, map, Option, None, Some, codes}
 use Rattle.std.specs.List.{enumerate_from}
+use Rattle.load_gen.specs.Generated.{part_text}
+use Rattle.load_gen.specs.declared.parts.Part.{Part}
 use Rattle.plan_ast.specs.Answer.{answer_of}
 use Rattle.plan_ast.specs.Subject.{Subject}
 use Rattle.sched_tool.specs.Outsides.{Contents, Outside}
 use Rattle.report_text.specs.AnswersText.{answers_bytes, line}
 use Rattle.sched_tool.specs.Refusals.{IsCheckRefused}
 use Rattle.sched_tool.specs.Subjects.{IsAccepted, IsRead}
-use Rattle.sched_tool.specs.Words.{check, Meaning}
+use Rattle.sched_tool.specs.Words.{check, make, Meaning}
 use Rattle.report_text.specs.declared.replies.QueryReply.{QueryReply}
 use Rattle.report_text.specs.declared.replies.Reply.TheVariants.{Answer}
 use Rattle.sched_tool.specs.declared.program.refusal.Refusal.{Refusal}
@@ -70,9 +72,29 @@ check_behaviour holds file = record {
   reads = IsRead holds file;
 }
 
+-- ---- `make`
+
+abbrev pub IsMemoryRefused : Refusal → Type 0
+IsMemoryRefused Usage = ⊥
+IsMemoryRefused (CannotRead file) = ⊥
+IsMemoryRefused (Script fault) = ⊥
+IsMemoryRefused (Table file fault) = ⊥
+IsMemoryRefused OutOfMemory = Unit {0}
+
+-- `make` writes the text of a part of a number's large input; it reads nothing
+abbrev pub make_behaviour : ℕ → Part → Behaviour
+make_behaviour number part = record {
+  accepts = Unit {0};
+  answers = λ text. text ≡ part_text number part;
+  answers_in_part = λ text. ⊥;
+  refuses = IsMemoryRefused;
+  reads = λ file. ⊥;
+}
+
 -- ---- all commands
 
 -- the behaviour of what words ask for; none if they are outside the grammar
 abbrev pub behaviour_of : Outside → Option Meaning → Behaviour
 behaviour_of outside None = usage_behaviour
 behaviour_of outside (Some (check file)) = check_behaviour outside.holds file
+behaviour_of outside (Some (make number part)) = make_behaviour number part

@@ -6,15 +6,16 @@ use Rattle.sched_tool.specs.Behaviours.{Behaviour, behaviour_of}
 use Rattle.sched_tool.specs.Outsides.{Outside}
 use Rattle.sched_tool.specs.ReadFaults.{FaultsAt}
 use Rattle.sched_tool.specs.Statuses.{answer_status, memory_status}
-use Rattle.sched_tool.specs.Words.{check, Meaning, meaning_of}
+use Rattle.sched_tool.specs.Words.{check, make, Meaning, meaning_of}
 use Rattle.sched_tool.specs.declared.program.output.Output.{Output}
 use Rattle.sched_tool.specs.declared.program.refusal.Refusal.{Refusal}
 use Rattle.sched_tool.specs.declared.program.words.Command.{Command}
-use Rattle.sched_tool.specs.declared.program.words.Command.TheVariants.{Check}
+use Rattle.sched_tool.specs.declared.program.words.Command.TheVariants.{Check, Make}
 
 -- what a command asks for
 abbrev pub asked_by : Command → Meaning
 asked_by (Check file) = check file.now
+asked_by (Make number part) = make number part
 
 -- what the words ask for; none if they are outside the grammar
 abbrev pub asked : List (String Global) → Option Meaning

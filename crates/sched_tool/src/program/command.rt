@@ -10,6 +10,7 @@ ghost use Rattle.sched_tool.specs.declared.program.refusal.Refusal.{Refusal};
 
 use super::check::check_script;
 use super::error_lines::OUT_OF_MEMORY_LINE;
+use super::make::make_text;
 use super::output::Output;
 use super::refusal::Refusal;
 use super::status::{CANNOT_WRITE, OUT_OF_MEMORY, status_of};
@@ -19,7 +20,7 @@ use std::alloc::{AllocError, Global};
 
 /// Does what the words after the program's name ask for, writes one text, and answers the status
 /// that the program ends with. `check` reads the script and its tables, and writes the answers to
-/// its queries. It does not use the meter.
+/// its queries. `make` writes a part of a large input. Neither uses the meter.
 ///
 /// The first refusal in this order is written, as its line, in place of all else: the words are
 /// outside the grammar (2); the script can't be read (3) or is refused (5); table by table in the
@@ -63,6 +64,7 @@ fn run_command<F: Files, M: Meter>(
 {
     match read_words(words) {
         Some(Command::Check(script)) => check_script(alloc, files, script),
+        Some(Command::Make(number, part)) => make_text(alloc, number, part),
         None => Err(Refusal::Usage),
     }
 }

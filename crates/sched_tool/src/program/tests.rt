@@ -113,7 +113,7 @@ fn answers(rt: &(impl Abort + AllocGlobal), cases: &[(&str, &str, &str)]) -> Res
 #[test]
 fn reads_words(rt: HostRuntime) -> Result<(), Fail> {
     let usage = "error: usage\n";
-    let cases: [(&[&str], u8, &str); 8] = [
+    let cases: [(&[&str], u8, &str); 20] = [
         (&["check", "s.json"], 0, ANSWER),
         (&[], 2, usage),
         (&["check"], 2, usage),
@@ -122,10 +122,81 @@ fn reads_words(rt: HostRuntime) -> Result<(), Fail> {
         (&["check", "-s.json"], 2, usage),
         (&["turns", "s.json"], 2, usage),
         (&["check", "-"], 3, "error: cannot read -\n"),
+        (&["make"], 2, usage),
+        (&["make", "7"], 2, usage),
+        (&["make", "7", "T"], 2, usage),
+        (&["make", "7", "t.csv"], 2, usage),
+        (&["make", "7", "u", "u"], 2, usage),
+        (&["make", "", "u"], 2, usage),
+        (&["make", "+7", "u"], 2, usage),
+        (&["make", "-7", "u"], 2, usage),
+        (&["make", "7 ", "u"], 2, usage),
+        (&["make", "00000000007", "u"], 2, usage),
+        (&["make", "4294967296", "u"], 2, usage),
+        (&["Make", "7", "u"], 2, usage),
     ];
     for (words, status, text) in cases {
         let mut files = files_of(rt.alloc(), SCRIPT.as_bytes(), TABLE.as_bytes(), &[])?;
         ends(&rt, words, &mut files, ALL_WRITES, status, text)?;
+    }
+    Ok(())
+}
+
+// Whether a text begins and ends so.
+fn spans(text: &[u8], begin: &str, end: &str) -> bool {
+    text.starts_with(begin.as_bytes()) && text.ends_with(end.as_bytes())
+}
+
+// Adds what `make` writes at status 0.
+fn add_part(
+    rt: &(impl Abort + AllocGlobal),
+    number: &str,
+    part: &str,
+    text: &mut Vec<u8>,
+) -> Result<(), Fail> {
+    let alloc = rt.alloc();
+    let mut words = Vec::new(alloc);
+    words.push(String::from_str(alloc, "make")?)?;
+    words.push(String::from_str(alloc, number)?)?;
+    words.push(String::from_str(alloc, part)?)?;
+    let mut files = MemFiles::new(alloc, Vec::new(alloc));
+    let mut out = MemSink::new(alloc, 5_000_000, 5_000_000, Vec::new(alloc))?;
+    let mut meter = CostMeter::new();
+    let status = command(alloc, words.as_slice(), &mut files, &mut out, &mut meter);
+    assert_eq!(rt; status, 0);
+    text.extend_from_slice(out.written())?;
+    Ok(())
+}
+
+// How many bytes the parts have, and what they begin and end with. Each is the same again, and with
+// zeros before the number. The expected values are those of a program in another language.
+#[test]
+fn makes_parts(rt: HostRuntime) -> Result<(), Fail> {
+    let alloc = rt.alloc();
+    let script = r#"{"queries":[{"after":0,"cost":180,"joins":[],"output":{"totals":"#;
+    let tables =
+        r#""tables":[{"file":"t.csv","name":"t"},{"file":"u.csv","name":"u"}],"version":1}"#;
+    let cases = [
+        ("7", "t", 2_131_152, "k,g,v\n168,0,-677\n", "\n333,12,-36\n"),
+        ("7", "u", 6_786, "k,w\n0,7\n1,2\n", "\n999,80\n"),
+        ("7", "script", 6_543, script, tables),
+        (
+            "4294967295",
+            "t",
+            2_131_750,
+            "k,g,v\n84,8,162\n",
+            "\n990,14,-518\n",
+        ),
+    ];
+    for (number, part, len, begin, end) in cases {
+        let mut text = Vec::new(alloc);
+        add_part(&rt, number, part, &mut text)?;
+        assert_eq!(rt; text.len(), len, "{number} {part}");
+        assert!(rt; spans(text.as_slice(), begin, end), "{number} {part}");
+        let mut again = Vec::new(alloc);
+        let padded = format!(in alloc; "{number:0>10}")?;
+        add_part(&rt, padded.as_str(), part, &mut again)?;
+        assert!(rt; text.as_slice() == again.as_slice(), "{number} {part}");
     }
     Ok(())
 }
@@ -376,7 +447,7 @@ fn reports_reads_that_fail(rt: HostRuntime) -> Result<(), Fail> {
 #[test]
 fn reports_writes_that_fail(rt: HostRuntime) -> Result<(), Fail> {
     let check: &[&str] = &["check", "s.json"];
-    let cases: [(&[&str], u64, u8, &str); 10] = [
+    let cases: [(&[&str], u64, u8, &str); 12] = [
         (check, 1, 4, ""),
         (check, 2, 4, "quer"),
         (check, 3, 4, "query 0 "),
@@ -387,6 +458,8 @@ fn reports_writes_that_fail(rt: HostRuntime) -> Result<(), Fail> {
         (check, 8, 4, "query 0 lines 1\ntotal 35\nend"),
         (check, 9, 0, ANSWER),
         (&[], 2, 4, "erro"),
+        (&["make", "7", "t"], 1, 4, ""),
+        (&["make", "7", "t"], 3, 4, "k,g,v\n16"),
     ];
     for (words, call, status, text) in cases {
         let mut files = files_of(rt.alloc(), SCRIPT.as_bytes(), TABLE.as_bytes(), &[])?;

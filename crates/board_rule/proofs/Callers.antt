@@ -1,14 +1,12 @@
 -- What a call has after its step, whatever the call.
-use Rattle.std.proofs.Common.{◌≡◌, ℕ, ◌+◌, ◌<◌, Option, cond, false, ◌&&◌, Some, refl, sym, ap, ◌∙◌, subst, eq-eqb, arith}
+use Rattle.std.proofs.Common.{◌≡◌, ℕ, ◌+◌, Option, cond, false, ◌&&◌, Some, refl, sym, ap, ◌∙◌, subst, eq-eqb}
 use Rattle.std.proofs.Math.Logic.{∥∥₁_elim}
 use Rattle.std.proofs.Props.{props}
 use Rattle.slot_history.specs.declared.shape.Shape.{Shape}
-use Rattle.slot_history.specs.declared.shape.TheConstants.{MOST_SLOTS}
 use Rattle.slot_history.specs.declared.act.Act.{Act}
 use Rattle.slot_history.specs.declared.act.Act.TheVariants.{Announce}
 use Rattle.slot_history.specs.declared.place.Place.{Place}
 use Rattle.slot_history.specs.declared.place.Place.TheVariants.{Free, Asking, Announcing}
-use Rattle.slot_history.specs.Bounds.{IsShape}
 use Rattle.slot_history.specs.States.{held_at, slot_of}
 use Rattle.slot_history.specs.Steps.{moved}
 use Rattle.slot_history.specs.Histories.{place_of}
@@ -20,10 +18,9 @@ use Rattle.slot_station.specs.Tokens.{IsAnnouncer, IsDone, last_opened}
 use Rattle.slot_station.proofs.Follows.{place-after}
 use Rattle.slot_station.proofs.PlaceCounts.{place-counted}
 use Rattle.slot_station.proofs.TokensKept.{announcer-opened}
-use Rattle.slot_words.specs.Encodings.{slot_in}
 use Rattle.board_rule.specs.declared.board.Board.{Board}
 use Rattle.board_rule.specs.declared.board.Pass.{Pass}
-use Rattle.board_rule.specs.Passes.{shape_of, seen_of, IsSeatOf, IsPassOf, HasStepped}
+use Rattle.board_rule.specs.Passes.{shape_of, seen_of, IsPassOf, HasStepped}
 use Rattle.board_rule.proofs.Stepping.{shape}
 
 counted-prop : (q : Place) → IsProp (IsCounted q)
@@ -36,10 +33,6 @@ pub pass-counted : {B Sub : Type 0} → (board : Board B Sub) (p : Pass B Sub) �
 pass-counted board p ours = ∥∥₁_elim ours.10 (counted-prop p.place) (λ legal. subst IsCounted ours.6
     (place-counted (shape_of board) p.seat.me.0.trail p.worker (shape board p.worker p.place p.seat ours) legal ours.1))
 
--- the slot of a worker's word is read back from it
-pub slot-read : {B Sub : Type 0} → (board : Board B Sub) (s word : ℕ) → s < (shape_of board).slots → (s < MOST_SLOTS → slot_in word ≡ s) → slot_in word ≡ s
-slot-read board s word low reads = reads (let most = (subst IsShape (sym board.shape_is) board.bounded).slots.1 in omega arith)
-
 -- the same call
 pub made-as : {O Sub : Type 0} {total : Sub → ℕ → Option ℕ} {a b : Act} {x y : Seen O Sub} → b ≡ a → Makes total a x y → Makes total b x y
 made-as {total = total} {x = x} {y = y} is m = subst (λ c. Makes total c x y) (sym is) m
@@ -48,20 +41,11 @@ module _ {B Sub : Type 0} {board : Board B Sub} {old mid : Pass B Sub} {a : Act}
   abbrev d : Shape
   d = shape_of board
 
-  -- the pass, once its place is moved
-  pub placed : {b : Act} → b ≡ a → {q : Place} → q ≡ moved board.shape b mid.place → IsSeatOf board mid.worker q mid.seat
-  placed is moves = subst (λ q. IsSeatOf board mid.worker q mid.seat) (sym (moves ∙ ap (λ b. moved board.shape b mid.place) is)) st.seat
-
   -- what a reply brings, by the place to which the call moves its worker
   pub brings : {b : Act} → b ≡ a → {X : Type 0} → (Is : Shape → ℕ → Place → X → Type 0) (x : X) → Is d mid.worker (moved d b mid.place) x
       → Owns Is (seen_of board mid) x
   brings is Is x gives = subst (λ q. Is d mid.worker q x)
       (ap (λ b. moved d b mid.place) is ∙ ap (λ e. moved e a mid.place) board.shape_is ∙ sym st.seat.6) gives
-
-  -- a token of its worker, by the place after the call
-  pub token-of : {X : Type 0} → (Is : Shape → ℕ → Place → X → Type 0) (x : X) → Is d old.worker (own_place (seen_of board mid)) x
-      → Owns Is (seen_of board mid) x
-  token-of Is x is = subst (λ w. Is d w (own_place (seen_of board mid)) x) (sym st.worker) is
 
   -- an announcer that told every worker
   pub told-done : {total : Sub → ℕ → Option ℕ} → Makes total Announce (seen_of board old) (seen_of board mid) → (x : Announcer)

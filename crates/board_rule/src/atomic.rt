@@ -43,7 +43,7 @@ pub enum WordOperation {
 }
 
 /// Does this to a word of the table. It answers what the word was, and a store what it wrote.
-#[inline]
+#[inline(always)]
 fn operate<K: NamesCall, B: Fits>(
     board: &Board<B>,
     seat: &mut Seat<Option<B>, View<B::Subject>>,
@@ -79,7 +79,7 @@ fn operate<K: NamesCall, B: Fits>(
 
 /// Makes the step of a call on the word at this address. It answers what the word was, and a store
 /// what it wrote.
-#[inline]
+#[inline(always)]
 pub fn step<K: NamesCall, B: Fits, L: Ledger>(
     board: &Board<B>,
     pass: &mut Pass<B>,

@@ -19,9 +19,10 @@ use Rattle.plan_ast.specs.declared.queries.Func.TheVariants.{Count, Sum, Min, Ma
 use Rattle.plan_ast.specs.declared.queries.Output.{Output}
 use Rattle.plan_ast.specs.declared.queries.Query.{Query}
 use Rattle.script_json.specs.Forms.{Form, Reading, ◌>>◌, array_of, or_refuse, required, optional, bad_text, twice_named, whole, wrong_number, wrong_shape}
+use Rattle.script_json.specs.Format.{entry_layout, filter_layout, function_layout, groups_layout, join_layout, query_layout}
 use Rattle.script_json.specs.Format.{aggregate, aggregates, any_number, count_of_rows, counts, file_name, filter, filters, first_early, function}
 use Rattle.script_json.specs.Format.{function_named, function_of_column, groups, groups_of, has, is_file_name, is_i64, is_name, join, joined_column, joins}
-use Rattle.script_json.specs.Format.{name, new_name, operator, operator_named, output, output_among, output_keys, query, query_keys, reference, reference_among}
+use Rattle.script_json.specs.Format.{name, new_name, operator, operator_named, output, output_among, output_keys, query, reference, reference_among}
 use Rattle.script_json.specs.Format.{references, refuse_early, rows_of, script, table_entry, totals_of, version}
 use Rattle.script_json.specs.WellFormed.{IsAgg, IsEntry, IsFilter, IsOutput, IsQuery, IsReference, IsScript}
 use Rattle.script_json.specs.declared.refusal.PathStep.TheVariants.{At}
@@ -47,7 +48,7 @@ any_number-makes value =
 
 filter-makes : (value : Data) → Makes IsFilter (filter value)
 filter-makes value =
-    Makes-object_of IsFilter (codes "col" ∷ codes "op" ∷ codes "value" ∷ []) value _ (
+    Makes-object_of IsFilter filter_layout.keys value _ (
     Makes-member Named IsFilter (codes "col") name value _ name-makes (λ column column_named.
     Makes-member (λ _. ⊤) IsFilter (codes "op") operator value _ (Makes-word_of operator_named) (λ op _.
     Makes-member (λ n. IsTrue (is_i64 n)) IsFilter (codes "value") any_number value _ any_number-makes (λ bound fits.
@@ -93,7 +94,7 @@ where-makes value =
 
 join-makes : (value : Data) → Makes FewJoin (join value)
 join-makes value =
-    Makes-object_of FewJoin (codes "table" ∷ codes "left" ∷ codes "right" ∷ codes "where" ∷ []) value _ (
+    Makes-object_of FewJoin join_layout.keys value _ (
     Makes-member Named FewJoin (codes "table") name value _ name-makes (λ table table_named.
     Makes-member IsReference FewJoin (codes "left") reference value _ reference-makes (λ left is_left.
     Makes-member Named FewJoin (codes "right") name value _ name-makes (λ right right_named.
@@ -136,7 +137,7 @@ count_of_rows-makes value =
 function_of_column-makes : (value : Data) → Makes AnyAgg (function_of_column value)
 unfolding OfColumn
 function_of_column-makes value =
-    Makes-object_of AnyAgg (codes "fn" ∷ codes "col" ∷ []) value _ (
+    Makes-object_of AnyAgg function_layout.keys value _ (
     Makes-member OfColumn AnyAgg (codes "fn") function value _ function-makes (λ func of_column.
     Makes-member IsReference AnyAgg (codes "col") reference value _ reference-makes (λ column is_column.
     (((λ none. cc), (λ e. absurd (of_column e))), is_column))))
@@ -181,7 +182,7 @@ groups-makes : (value : Data) → Makes IsPutOut (groups value)
 unfolding IsPutOut SomeAggs
 groups-makes value =
     let P : List NameRef → Type 0 = λ all. All IsReference all × (1 ≤ length all) × (length all ≤ 2) in
-    Makes-object_of IsPutOut (codes "by" ∷ codes "aggs" ∷ []) value _ (
+    Makes-object_of IsPutOut groups_layout.keys value _ (
     Makes-member P IsPutOut (codes "by") (references 2) value _ (array-makes IsReference 1 2 reference reference-makes) (λ by h.
     Makes-member SomeAggs IsPutOut (codes "aggs") aggregates value _ aggregates-makes (λ aggs g.
     (((h.1, h.2), g.0), (h.0, g.1)))))
@@ -210,7 +211,7 @@ query-makes value =
     let W = λ (low high n : ℕ). (low ≤ n) × (n ≤ high) in
     let F : List Filter → Type 0 = λ all. All IsFilter all × (length all ≤ 16) in
     let J : List Join → Type 0 = λ all. All FewJoin all × (0 ≤ length all) × (length all ≤ 2) in
-    Makes-object_of IsQuery query_keys value _ (
+    Makes-object_of IsQuery query_layout.keys value _ (
     Makes-member_or (W 0 16384) IsQuery (codes "after") 0 (whole 0 16384) value _ (omega arith, omega arith) (Makes-whole 0 16384) (λ after a.
     Makes-member_or (W 1 10) IsQuery (codes "weight") 10 (whole 1 10) value _ (omega arith, omega arith) (Makes-whole 1 10) (λ weight w.
     Makes-member_or (W 1 1000000) IsQuery (codes "cost") 100 (whole 1 1000000) value _ (omega arith, omega arith) (Makes-whole 1 1000000) (λ cost c.
@@ -270,7 +271,7 @@ table_entry-makes earlier value =
     let P : TableEntry → Type 0 = λ entry. IsEntry entry × All (λ e. e.name ≢ entry.name) earlier in
     let N : List ℕ → Type 0 = λ bytes. Named bytes × All (λ e. e.name ≢ bytes) earlier in
     let F : List ℕ → Type 0 = λ bytes. IsTrue (is_file_name bytes) in
-    Makes-object_of P (codes "name" ∷ codes "file" ∷ []) value _ (
+    Makes-object_of P (entry_layout earlier).keys value _ (
     Makes-member N P (codes "name") (new_name earlier) value _ (new_name-makes earlier) (λ title t.
     Makes-member F P (codes "file") file_name value _ file_name-makes (λ file f.
     (record { name = t.0; file = f }, t.1))))

@@ -13,8 +13,8 @@ use Rattle.plan_ast.specs.declared.queries.Agg.{Agg}
 use Rattle.plan_ast.specs.declared.queries.Output.{Output}
 use Rattle.plan_ast.specs.declared.queries.Output.TheVariants.{Rows, Totals, Groups}
 use Rattle.plan_ast.specs.declared.queries.Query.{Query}
-use Rattle.script_json.specs.Canonical.{aggregate_members, aggregate_value, entry_value, filter_value, join_value, object_with, output_value, query_value}
-use Rattle.script_json.specs.Canonical.{reference_value, script_value}
+use Rattle.script_json.specs.Canonical.{script_value}
+use Rattle.script_json.specs.Format.{aggregate_of, aggregate_value, entry_value, filter_value, join_value, output_value, query_value, reference_value}
 use Rattle.script_json.specs.declared.script.TableEntry.{TableEntry}
 use Rattle.script_json.specs.declared.script.Script.{Script}
 
@@ -36,7 +36,7 @@ filter-depth f = omega arith
 join-depth : (j : Join) → depth (join_value j) ≤ 3
 join-depth j = let left = reference-depth j.left in let filters = items_depth-mapped filter_value 1 filter-depth j.filters in omega arith
 
-aggregate_of-depth : (func : Func) (column : Option NameRef) → depth (object_with (aggregate_members func column)) ≤ 2
+aggregate_of-depth : (func : Func) (column : Option NameRef) → depth (aggregate_of func column) ≤ 2
 aggregate_of-depth func None = omega arith
 aggregate_of-depth func (Some column) = let inner = reference-depth column in omega arith
 
@@ -88,7 +88,7 @@ filter-float f = rw (integer-float f.value)
 join-float : (j : Join) → has_float (join_value j) ≡ false
 join-float j = rw (reference-float j.left, items_have_float-mapped filter_value filter-float j.filters)
 
-aggregate_of-float : (func : Func) (column : Option NameRef) → has_float (object_with (aggregate_members func column)) ≡ false
+aggregate_of-float : (func : Func) (column : Option NameRef) → has_float (aggregate_of func column) ≡ false
 aggregate_of-float func None = refl
 aggregate_of-float func (Some column) = rw (reference-float column)
 

@@ -24,8 +24,10 @@ use Rattle.plan_ast.specs.declared.queries.Agg.{Agg}
 use Rattle.plan_ast.specs.declared.queries.Output.{Output}
 use Rattle.plan_ast.specs.declared.queries.Output.TheVariants.{Rows, Totals, Groups}
 use Rattle.plan_ast.specs.declared.queries.Query.{Query}
-use Rattle.script_json.specs.Canonical.{aggregate_members, aggregate_value, array_with, entry_value, filter_value, function_word, join_value, object_with}
-use Rattle.script_json.specs.Canonical.{operator_word, output_value, query_value, reference_value, script_value}
+use Rattle.script_json.specs.Canonical.{script_value}
+use Rattle.script_json.specs.Objects.{array_with}
+use Rattle.script_json.specs.Format.{aggregate_of, aggregate_value, entry_value, filter_value, function_word, join_value, operator_word, output_value}
+use Rattle.script_json.specs.Format.{query_value, reference_value}
 use Rattle.script_json.specs.Forms.{Form, array_of, each, whole}
 use Rattle.script_json.specs.Format.{aggregate, any_number, file_name, filter, filters, function, is_file_name, is_i64, is_name, join, joins, name, operator}
 use Rattle.script_json.specs.Format.{output, query, reference, script, table_entry}
@@ -133,7 +135,7 @@ join-back j h = rw (name-back j.table h.0.table, reference-back j.left h.0.left,
 
 aggregate_of-back : (func : Func) (column : Option NameRef) → IsAggInBounds (record { func = func; column = column })
     → IsAgg (record { func = func; column = column })
-    → aggregate (object_with (aggregate_members func column)) ≡ Ok (record { func = func; column = column })
+    → aggregate (aggregate_of func column) ≡ Ok (record { func = func; column = column })
 aggregate_of-back Count None fits h = refl
 aggregate_of-back Sum None fits h = absurd (let e = fits.0 refl in cc)
 aggregate_of-back Min None fits h = absurd (let e = fits.0 refl in cc)

@@ -6,8 +6,9 @@ use Rattle.std.specs.Prelude.{Option, Some, None, option_map, find, option_and_t
 use Rattle.std.specs.Prelude.{Ok, Err, ⊤}
 use Rattle.std.specs.List.{list_any, list_all}
 use Rattle.std.specs.Option.{option_map_or}
-use Rattle.serde_json.specs.Data.{Data, Items, no_items, item}
+use Rattle.serde_json.specs.Data.{Data, Items, array, item, no_items, number, string, unsigned}
 use Rattle.serde_json.specs.Find.{get, as_array, as_object, as_number, as_str, as_i64, as_u64}
+use Rattle.serde_json.specs.Find.{of_integer}
 use Rattle.plan_ast.specs.Stages.{stages_of}
 use Rattle.plan_ast.specs.declared.queries.Op.{Op}
 use Rattle.plan_ast.specs.declared.queries.Op.TheVariants.{Eq, Ne, Lt, Le, Gt, Ge}
@@ -23,6 +24,9 @@ use Rattle.plan_ast.specs.declared.queries.Query.{Query}
 use Rattle.script_json.specs.Forms.{Reading, Form, ◌>>=◌, ◌>>◌, or_refuse, refuse_if, under}
 use Rattle.script_json.specs.Forms.{wrong_shape, wrong_number, twice_named, object_of, required}
 use Rattle.script_json.specs.Forms.{optional, array_of, whole, text_of, word_of}
+use Rattle.script_json.specs.Objects.{Layout, ◌&◌, array_with, built_by, may, must, object_with}
+use Rattle.script_json.specs.Objects.{reads_object}
+use Rattle.script_json.specs.Objects.{written_object}
 use Rattle.script_json.specs.declared.refusal.PathStep.TheVariants.{At}
 use Rattle.script_json.specs.declared.refusal.ScriptRefusal.TheVariants.{VersionUnknown}
 use Rattle.script_json.specs.declared.refusal.ScriptRefusal.TheVariants.{AfterTooLarge}
@@ -58,9 +62,23 @@ operator_named = named (
     (codes "=", Eq) ∷ (codes "<>", Ne) ∷ (codes "<", Lt) ∷
     (codes "<=", Le) ∷ (codes ">", Gt) ∷ (codes ">=", Ge) ∷ [])
 
+abbrev pub operator_word : Op → List ℕ
+operator_word Eq = codes "="
+operator_word Ne = codes "<>"
+operator_word Lt = codes "<"
+operator_word Le = codes "<="
+operator_word Gt = codes ">"
+operator_word Ge = codes ">="
+
 -- the functions of a column
 abbrev pub function_named : List ℕ → Option Func
 function_named = named ((codes "sum", Sum) ∷ (codes "min", Min) ∷ (codes "max", Max) ∷ [])
+
+abbrev pub function_word : Func → List ℕ
+function_word Count = codes "count"
+function_word Sum = codes "sum"
+function_word Min = codes "min"
+function_word Max = codes "max"
 
 abbrev pub operator : Form Op
 operator value = word_of operator_named value
@@ -83,13 +101,18 @@ any_number value = do
 -- ---- the parts of a query
 
 -- `col`, `op` and `value` are all required
+abbrev pub filter_layout : Layout Filter Filter Filter
+filter_layout =
+    built_by (λ column op bound. record { column = column; op = op; value = bound })
+    & must (codes "col") name (λ filter. string filter.column)
+    & must (codes "op") operator (λ filter. string (operator_word filter.op))
+    & must (codes "value") any_number (λ filter. number (of_integer filter.value))
+
 abbrev pub filter : Form Filter
-filter value = do
-  object_of (codes "col" ∷ codes "op" ∷ codes "value" ∷ []) value
-  column ← required (codes "col") name value
-  op ← required (codes "op") operator value
-  bound ← required (codes "value") any_number value
-  Ok (record { column = column; op = op; value = bound })
+filter value = reads_object filter_layout value
+
+abbrev pub filter_value : Filter → Data
+filter_value filter = written_object filter_layout filter
 
 -- 0 to 16 filters
 abbrev pub filters : Form (List Filter)
@@ -114,15 +137,26 @@ reference_among (Some _) value = Err wrong_shape
 abbrev pub reference : Form NameRef
 reference value = reference_among (as_array value) value
 
+abbrev pub reference_value : NameRef → Data
+reference_value reference =
+    if reference.side == 0 then string reference.name
+    else array (item (number (unsigned reference.side)) (item (string reference.name) no_items))
+
 -- `table`, `left` and `right` are required
+abbrev pub join_layout : Layout Join Join Join
+join_layout =
+    built_by (λ table left right passed.
+    record { table = table; left = left; right = right; filters = passed })
+    & must (codes "table") name (λ join. string join.table)
+    & must (codes "left") reference (λ join. reference_value join.left)
+    & must (codes "right") name (λ join. string join.right)
+    & may (codes "where") [] filters (λ join. array_with filter_value join.filters)
+
 abbrev pub join : Form Join
-join value = do
-  object_of (codes "table" ∷ codes "left" ∷ codes "right" ∷ codes "where" ∷ []) value
-  table ← required (codes "table") name value
-  left ← required (codes "left") reference value
-  right ← required (codes "right") name value
-  passed ← optional (codes "where") [] filters value
-  Ok (record { table = table; left = left; right = right; filters = passed })
+join value = reads_object join_layout value
+
+abbrev pub join_value : Join → Data
+join_value join = written_object join_layout join
 
 -- 0 to 2 joins
 abbrev pub joins : Form (List Join)
@@ -140,15 +174,25 @@ count_of_rows value = do
   Ok (record { func = Count; column = None })
 
 -- every other aggregate has a column
+abbrev pub function_layout : Layout (Func × NameRef) Agg Agg
+function_layout =
+    built_by (λ func column. record { func = func; column = Some column })
+    & must (codes "fn") function (λ agg. string (function_word agg.0))
+    & must (codes "col") reference (λ agg. reference_value agg.1)
+
 abbrev pub function_of_column : Form Agg
-function_of_column value = do
-  object_of (codes "fn" ∷ codes "col" ∷ []) value
-  func ← required (codes "fn") function value
-  column ← required (codes "col") reference value
-  Ok (record { func = func; column = Some column })
+function_of_column value = reads_object function_layout value
 
 abbrev pub aggregate : Form Agg
 aggregate value = if counts value then count_of_rows value else function_of_column value
+
+-- what is written for a function, with its column if it has one
+abbrev pub aggregate_of : Func → Option NameRef → Data
+aggregate_of func None = object_with (codes "fn") (string (function_word func))
+aggregate_of func (Some column) = written_object function_layout (func, column)
+
+abbrev pub aggregate_value : Agg → Data
+aggregate_value agg = aggregate_of agg.func agg.column
 
 -- 1 to `most` columns
 abbrev pub references : ℕ → Form (List NameRef)
@@ -159,12 +203,14 @@ abbrev pub aggregates : Form (List Agg)
 aggregates value = array_of 1 8 (λ _. aggregate) value
 
 -- `by` and `aggs` are required
+abbrev pub groups_layout : Layout (List NameRef × List Agg) Output Output
+groups_layout =
+    built_by Groups
+    & must (codes "by") (references 2) (λ groups. array_with reference_value groups.0)
+    & must (codes "aggs") aggregates (λ groups. array_with aggregate_value groups.1)
+
 abbrev pub groups : Form Output
-groups value = do
-  object_of (codes "by" ∷ codes "aggs" ∷ []) value
-  by ← required (codes "by") (references 2) value
-  aggs ← required (codes "aggs") aggregates value
-  Ok (Groups by aggs)
+groups value = reads_object groups_layout value
 
 abbrev pub output_keys : List (List ℕ)
 output_keys = codes "rows" ∷ codes "totals" ∷ codes "groups" ∷ []
@@ -202,31 +248,37 @@ output value =
     output_among (has (codes "rows") value) (has (codes "totals") value)
     (has (codes "groups") value) value
 
-abbrev pub query_keys : List (List ℕ)
-query_keys =
-    codes "after" ∷ codes "weight" ∷ codes "cost" ∷ codes "scan" ∷
-    codes "where" ∷ codes "joins" ∷ codes "output" ∷ []
+abbrev pub output_value : Output → Data
+output_value (Rows columns) = object_with (codes "rows") (array_with reference_value columns)
+output_value (Totals aggs) = object_with (codes "totals") (array_with aggregate_value aggs)
+output_value (Groups by aggs) =
+    object_with (codes "groups") (written_object groups_layout (by, aggs))
 
 -- `scan` and `output` are required, and the others have defaults
+abbrev pub query_layout : Layout Query Query Query
+query_layout =
+    built_by (λ after weight cost scan passed joined put_out. record {
+      after = after;
+      weight = weight;
+      cost = cost;
+      scan = scan;
+      filters = passed;
+      joins = joined;
+      output = put_out;
+    })
+    & may (codes "after") 0 (whole 0 16384) (λ query. number (unsigned query.after))
+    & may (codes "weight") 10 (whole 1 10) (λ query. number (unsigned query.weight))
+    & may (codes "cost") 100 (whole 1 1000000) (λ query. number (unsigned query.cost))
+    & must (codes "scan") name (λ query. string query.scan)
+    & may (codes "where") [] filters (λ query. array_with filter_value query.filters)
+    & may (codes "joins") [] joins (λ query. array_with join_value query.joins)
+    & must (codes "output") output (λ query. output_value query.output)
+
 abbrev pub query : Form Query
-query value = do
-  object_of query_keys value
-  after ← optional (codes "after") 0 (whole 0 16384) value
-  weight ← optional (codes "weight") 10 (whole 1 10) value
-  cost ← optional (codes "cost") 100 (whole 1 1000000) value
-  scan ← required (codes "scan") name value
-  passed ← optional (codes "where") [] filters value
-  joined ← optional (codes "joins") [] joins value
-  put_out ← required (codes "output") output value
-  Ok (record {
-    after = after;
-    weight = weight;
-    cost = cost;
-    scan = scan;
-    filters = passed;
-    joins = joined;
-    output = put_out;
-  })
+query value = reads_object query_layout value
+
+abbrev pub query_value : Query → Data
+query_value query = written_object query_layout query
 
 -- ---- the tables
 
@@ -238,12 +290,17 @@ new_name earlier value = do
   Ok bytes
 
 -- `name` and `file` are required
+abbrev pub entry_layout : List TableEntry → Layout TableEntry TableEntry TableEntry
+entry_layout earlier =
+    built_by (λ title file. record { name = title; file = file })
+    & must (codes "name") (new_name earlier) (λ entry. string entry.name)
+    & must (codes "file") file_name (λ entry. string entry.file)
+
 abbrev pub table_entry : List TableEntry → Form TableEntry
-table_entry earlier value = do
-  object_of (codes "name" ∷ codes "file" ∷ []) value
-  title ← required (codes "name") (new_name earlier) value
-  file ← required (codes "file") file_name value
-  Ok (record { name = title; file = file })
+table_entry earlier value = reads_object (entry_layout earlier) value
+
+abbrev pub entry_value : TableEntry → Data
+entry_value entry = written_object (entry_layout []) entry
 
 -- ---- the script
 

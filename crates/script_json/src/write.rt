@@ -2,10 +2,11 @@
 ghost use Rattle.std.specs.Prelude.{◌≡◌, IfOk};
 ghost use Rattle.serde_json.specs.Data.{Data};
 ghost use Rattle.serde_json.specs.View.{view};
-ghost use Rattle.script_json.specs.Canonical.{aggregate_value, array_with, entry_value};
-ghost use Rattle.script_json.specs.Canonical.{filter_value, join_value, output_value, query_value};
-ghost use Rattle.script_json.specs.Canonical.{reference_value, script_text, script_value};
-ghost use Rattle.script_json.specs.Canonical.{operator_word, function_word};
+ghost use Rattle.script_json.specs.Canonical.{script_text, script_value};
+ghost use Rattle.script_json.specs.Format.{aggregate_value, entry_value, filter_value};
+ghost use Rattle.script_json.specs.Format.{function_word, join_value, operator_word, output_value};
+ghost use Rattle.script_json.specs.Format.{query_value, reference_value};
+ghost use Rattle.script_json.specs.Objects.{array_with};
 ghost use Rattle.script_json.specs.Scripts.{ReadsScript};
 ghost use Rattle.script_json.specs.WellFormed.{IsScript};
 

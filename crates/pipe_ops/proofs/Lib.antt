@@ -3,6 +3,7 @@ pub mod BuildLemmas
 pub mod EmptyLemmas
 pub mod FoldingLemmas
 pub mod GroupingLemmas
+pub mod HeldLemmas
 pub mod InputsLemmas
 pub mod JoinRowLemmas
 pub mod JoiningLemmas
@@ -10,6 +11,9 @@ pub mod MembersLemmas
 pub mod PermutationLemmas
 pub mod PlacedLemmas
 pub mod RowsLemmas
+pub mod ScanInputsLemmas
 pub mod ScanLemmas
+pub mod ScanTuplesLemmas
 pub mod SideJoinLemmas
+pub mod StageRangeLemmas
 pub mod TakesLemmas

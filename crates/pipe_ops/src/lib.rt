@@ -18,6 +18,7 @@ mod plain;
 mod results;
 mod rows;
 mod scans;
+mod stages;
 mod takes;
 
 pub use acc::Acc;

@@ -13,14 +13,14 @@ returns-in_err-place-clause-refused c =
     let tables = c.args.tables.now in
     let old = c.args.sides.now.items in
     let joins = c.args.joins.now in
-    let before = take c.loop-join.join-index joins in
     let join = c.join-item.result in
     let p = err_from_is_err_and c.from_residual-in_err-place.result c.from_residual-in_err-place.ensures.1 in
     rw (p.1, p.2)
     (refused-joins tables (sides_at tables old) joins c.loop-join.join-index join c.loop-join.found.items c.loop-join.invariant.sides.added _
     c.loop-join-test.true c.join-item.is c.loop-join.invariant.found c.loop-join.invariant.sides.found
     (refused_before tables (of_table join.table ∷ [])
-    (join_columns (sides_at tables old ++ joined_sides tables before) (table_named tables join.table) join) _ c.in_err-place.ensures.refused))
+    (join_columns (sides_at tables old ++ joined_sides tables (take c.loop-join.join-index joins)) (table_named tables join.table) join) _
+    c.in_err-place.ensures.refused))
 
 pub returns-in_err-find_join-clause-refused : goal.returns-in_err-find_join-clause-refused
 returns-in_err-find_join-clause-refused c =

@@ -7,10 +7,10 @@ use Rattle.plan_ast.proofs.lookup.find_refs.Goals as goal
 
 pub returns-in_err-find_ref-clause-refused : goal.returns-in_err-find_ref-clause-refused
 returns-in_err-find_ref-clause-refused c =
-    let tables = c.args.tables.now in
-    let sides = sides_at tables c.args.sides.now in
+    let sides = sides_at c.args.tables.now c.args.sides.now in
     let p = err_from_is_err_and c.from_residual-in_err-find_ref.result c.from_residual-in_err-find_ref.ensures.1 in
     rw (p.1, p.2)
-    (refused-map tables (of_column sides) (column_at sides) (there-column_at tables sides) c.args.references.now c.loop-reference.reference-index
+    (refused-map c.args.tables.now (of_column sides) (column_at sides) (there-column_at c.args.tables.now sides) c.args.references.now
+    c.loop-reference.reference-index
     c.reference-item.result c.loop-reference.found.items _
     c.loop-reference-test.true c.reference-item.is c.loop-reference.invariant c.in_err-find_ref.ensures.refused)

@@ -7,17 +7,6 @@ use Rattle.stride_set.proofs.Bounds.{stride_after-bounded}
 use Rattle.stride_set.proofs.Writes.{pass_in-read, strides_of-join_return}
 use Rattle.stride_set.proofs.StrideSet.join_return.Goals as goal
 
-pub invariant_of-self : goal.invariant_of-self
-invariant_of-self c =
-    let v = state_of c.self.inside in
-    let within : c.args.s < length v.slots = subst (λ (v : StrideState). c.args.s < length v.slots) (sym c.self.view_is) c.requires in
-    let pass : c.max-pass.result ≡ max (pass_in v.slots c.args.s) v.floor = c.max-pass.ensures ∙ ap (λ p. max p v.floor)
-    (pass_in-read v.slots c.args.s c.index.result.now within c.index.ensures) in
-    let widest : c.max-self-inside.result ≡ max v.widest (spread_among (set v.slots c.args.s (record { active = true; pass = c.max-pass.result }))) =
-    c.max-self-inside.ensures ∙ ap (max v.widest) (c.spread.ensures ∙ ap spread_among c.deref.ensures.value) in
-    let e = strides_of-join_return v c.args.s c.max-pass.result c.max-self-inside.result within pass widest in
-    (subst IsBounded (sym e) (stride_after-bounded (strides_of v) (JoinReturn c.args.s) c.self.invariant.0 within), rw length-set c.self.invariant.1)
-
 pub returns : goal.returns
 returns c =
     let v = state_of c.self.inside in
@@ -28,3 +17,10 @@ returns c =
     c.max-self-inside.ensures ∙ ap (max v.widest) (c.spread.ensures ∙ ap spread_among c.deref.ensures.value) in
     let e = strides_of-join_return v c.args.s c.max-pass.result c.max-self-inside.result within pass widest in
     rw (← c.self.view_is) e
+
+pub invariant_of-self : goal.invariant_of-self
+invariant_of-self c =
+    let before = strides_of (state_of c.self.inside) in
+    let within = subst (λ (v : StrideState). c.args.s < length v.slots) (sym c.self.view_is) c.requires in
+    let bounded = stride_after-bounded before (JoinReturn c.args.s) c.self.invariant.0 within in
+    (subst IsBounded (sym (returns c)) (rw (← c.self.view_is) bounded), rw length-set c.self.invariant.1)

@@ -76,38 +76,38 @@ made o total D a log legal of_totals = record {
 abbrev pub IsFree : Act → Type 0
 IsFree a = (totals : ℕ → Option ℕ) (caller : Caller) → NotesAllow totals caller a
 
-pub look-free : (r : Look) → IsFree (look_act r)
-look-free (look.Open id) totals caller = tt
-look-free look.Invalid totals caller = tt
-look-free look.Vacant totals caller = tt
+pub looks : (r : Look) → IsFree (look_act r)
+looks (look.Open id) totals caller = tt
+looks look.Invalid totals caller = tt
+looks look.Vacant totals caller = tt
 
-pub claim-free : (n : ℕ) (r : Claim) → IsFree (claim_act n r)
-claim-free n (claim.Range from to) totals caller = tt
-claim-free n (claim.Exhausted y) totals caller = tt
+pub claims : (n : ℕ) (r : Claim) → IsFree (claim_act n r)
+claims n (claim.Range from to) totals caller = tt
+claims n (claim.Exhausted y) totals caller = tt
 
-pub shut-free : (r : Shutting) → IsFree (shut_act r)
-shut-free (shut.Won y) totals caller = tt
-shut-free shut.Lost totals caller = tt
+pub shuts : (r : Shutting) → IsFree (shut_act r)
+shuts (shut.Won y) totals caller = tt
+shuts shut.Lost totals caller = tt
 
-pub mark-free : (r : Mark) → IsFree (mark_act r)
-mark-free mark.Marked totals caller = tt
-mark-free mark.Missed totals caller = tt
+pub marks : (r : Mark) → IsFree (mark_act r)
+marks mark.Marked totals caller = tt
+marks mark.Missed totals caller = tt
 
-pub sweep-free : (r : Sweep) → IsFree (sweep_act r)
-sweep-free (sweep.Last y) totals caller = tt
-sweep-free (sweep.Others n) totals caller = tt
+pub sweeps : (r : Sweep) → IsFree (sweep_act r)
+sweeps (sweep.Last y) totals caller = tt
+sweeps (sweep.Others n) totals caller = tt
 
-pub pay-free : (r : Pay) → IsFree (pay_act r)
-pay-free (pay.Last y) totals caller = tt
-pay-free pay.Done totals caller = tt
+pub pays : (r : Pay) → IsFree (pay_act r)
+pays (pay.Last y) totals caller = tt
+pays pay.Done totals caller = tt
 
-pub reserve-free : (s : ℕ) (r : Reserve) → IsFree (reserve_act s r)
-reserve-free s (reserve.Got y) totals caller = tt
-reserve-free s (reserve.Taken word) totals caller = tt
+pub reserves : (s : ℕ) (r : Reserve) → IsFree (reserve_act s r)
+reserves s (reserve.Got y) totals caller = tt
+reserves s (reserve.Taken word) totals caller = tt
 
-pub admit-free : (q : ℕ) (r : Admit) → IsFree (admit_act q r)
-admit-free q admit.Got totals caller = tt
-admit-free q (admit.Lost at) totals caller = tt
+pub admits : (q : ℕ) (r : Admit) → IsFree (admit_act q r)
+admits q admit.Got totals caller = tt
+admits q (admit.Lost at) totals caller = tt
 
 -- ---- a seat, and what is in its table
 
@@ -275,6 +275,11 @@ module _ {B Sub : Type 0} {b : Ghosts B Sub} (x : Seat b) where
     pub token-for : (X : Shape → Place → Type 0) → X object.shape (place_in new worker) → X start.shape (own_place (shown_by desk new.log))
     token-for X h = brought X (subst (λ d. X d (place_in new worker)) (object-shape ∙ sym new-shape) h)
 
+    -- a token that the call keeps, or makes of another
+    pub token-goes : (X Y : Shape → Place → Type 0) → ((d : Shape) (p : Place) → X d p → Y d (moved d a p)) → X start.shape place
+        → Y start.shape (own_place (shown_by desk new.log))
+    token-goes X Y goes h = token-for Y (subst (Y object.shape) (sym new-place) (goes object.shape (place_in object worker) (token-old X h)))
+
     -- what the call makes of what the seat shows
     pub seat-makes : {O : Type 0} {o : O} → Allows a → Makes b.total a (seen_by o desk now.log) (seen_by o desk new.log)
     seat-makes {o = o} allow =
@@ -293,11 +298,11 @@ module _ {B Sub : Type 0} {b : Ghosts B Sub} (x : Seat b) where
     free : IsFree a → Allows a
     free f = f (b.total subject) caller
 
-    pub table-free : IsFree a → IsTableKept b (table_of new subject) x.cells
-    table-free f = table-after (free f)
+    pub keeps : IsFree a → IsTableKept b (table_of new subject) x.cells
+    keeps f = table-after (free f)
 
-    pub makes-free : {O : Type 0} {o : O} → IsFree a → Makes b.total a (seen_by o desk now.log) (seen_by o desk new.log)
-    makes-free f = seat-makes (free f)
+    pub makes : {O : Type 0} {o : O} → IsFree a → Makes b.total a (seen_by o desk now.log) (seen_by o desk new.log)
+    makes f = seat-makes (free f)
 
 -- ---- the cells of a new table
 

@@ -13,9 +13,9 @@ pub record SeatOrigin (Sub : Type 0) : Type 0 where
   pub start : TableStory Sub
   pub worker : ℕ
 
--- the desk of the worker w, over a table that was this
+-- the desk of the worker w, over this table
 abbrev pub desk_over : {Sub : Type 0} → TableStory Sub → ℕ → Desk Sub
-desk_over t w = record { worker = w; shape = t.shape; subject = t.subject }
+desk_over table w = record { worker = w; shape = table.shape; subject = table.subject }
 
 -- the trail of w: the history up to its last entry
 abbrev pub trail_in : ℕ → List Entry → List Entry
@@ -39,7 +39,7 @@ shown_by desk log = seen_by tt desk log
 pub record IsSince {Sub : Type 0} (start now : TableStory Sub) (w : ℕ) : Type 0 where
   pub more : List Logged
   pub log : now.log ≡ more ++ start.log
-  pub own : All (λ x. who x ≡ w) more
+  pub own : All (λ step. who step ≡ w) more
 
 -- what the seat of v shows is the same over this log and over that
 pub record IsUntouched (was now : List Logged) (v : ℕ) : Type 0 where

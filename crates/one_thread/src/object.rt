@@ -15,15 +15,25 @@ use std::alloc::{AllocError, Global};
 /// calls, one by one".
 pub trait SlotObject: Drop {
     ghost use Rattle.std.specs.Prelude.{◌≡◌, ℕ, ◌<◌, [], ◌∷◌, IfOk};
-    ghost use Rattle.slot_history.specs.declared.act.Act.TheVariants.{Enter, Arrivals, Finished, NoteDone, SetTotal, Install, Release, Announce, TakeReturn, TakeChange};
-    ghost use Rattle.slot_history.specs.Calls.{Entering, Looking, Claiming, Shutting, Leaving, Paying, MarkingNext, Sweeping, Reserving, Admitting, AskingArrivals, AskingFinished, NotingDone, SettingTotal, Installing, Releasing, AnnouncingNext, TakingReturn, TakingChange};
+    ghost use Rattle.slot_history.specs.declared.act.Act.TheVariants.{Enter, Arrivals, Finished};
+    ghost use Rattle.slot_history.specs.declared.act.Act.TheVariants.{NoteDone, SetTotal, Install};
+    ghost use Rattle.slot_history.specs.declared.act.Act.TheVariants.{Release, Announce};
+    ghost use Rattle.slot_history.specs.declared.act.Act.TheVariants.{TakeReturn, TakeChange};
+    ghost use Rattle.slot_history.specs.Calls.{Entering, Looking, Claiming, Shutting, Leaving};
+    ghost use Rattle.slot_history.specs.Calls.{Paying, MarkingNext, Sweeping, Reserving, Admitting};
+    ghost use Rattle.slot_history.specs.Calls.{AskingArrivals, AskingFinished, NotingDone};
+    ghost use Rattle.slot_history.specs.Calls.{SettingTotal, Installing, Releasing, AnnouncingNext};
+    ghost use Rattle.slot_history.specs.Calls.{TakingReturn, TakingChange};
     ghost use Rattle.slot_history.specs.Histories.{IsLegal};
     ghost use Rattle.slot_station.specs.declared.log.Logged.TheVariants.{Exchanged};
     ghost use Rattle.slot_station.specs.Log.{calls_of};
     ghost use Rattle.slot_station.specs.Places.{IsCounted};
-    ghost use Rattle.slot_station.specs.Replies.{look_act, claim_act, shut_act, leave_act, mark_act, sweep_act, pay_act, reserve_act, admit_act};
+    ghost use Rattle.slot_station.specs.Replies.{look_act, claim_act, shut_act, leave_act};
+    ghost use Rattle.slot_station.specs.Replies.{mark_act, sweep_act, pay_act, reserve_act};
+    ghost use Rattle.slot_station.specs.Replies.{admit_act};
     ghost use Rattle.slot_station.specs.Shapes.{IsShape};
-    ghost use Rattle.slot_station.specs.Tokens.{IsAnnouncer, ClaimGives, ShutGives, LeaveGives, SweepGives, PayGives, ReserveGives};
+    ghost use Rattle.slot_station.specs.Tokens.{IsAnnouncer, ClaimGives, ShutGives, LeaveGives};
+    ghost use Rattle.slot_station.specs.Tokens.{SweepGives, PayGives, ReserveGives};
     ghost use Rattle.one_thread.specs.Stories.{Story, MayMake, MakesCall, Brings, place_in};
 
     // How large it is, and its log.
@@ -32,7 +42,7 @@ pub trait SlotObject: Drop {
     /// An object whose slots are empty and with no notices.
     fn make(alloc: Global, shape: Shape) -> Result<Self, AllocError>
         requires { IsShape shape }
-        ensures { IfOk result (λ o. story o ≡ record { shape = shape; log = [] }) };
+        ensures { IfOk result (λ object. story object ≡ record { shape = shape; log = [] }) };
 
     /// How large the object is.
     fn shape(&self) -> Shape

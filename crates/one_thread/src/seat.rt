@@ -1,11 +1,11 @@
 //! The station of one worker over a table for one thread.
 ghost use Rattle.std.specs.Prelude.{◌≡◌, ◌≢◌, ℕ, ◌+◌, ◌<◌, ◌≤◌, true, IfSome};
-ghost use Rattle.std.proofs.Props.{props};
 ghost use Rattle.std.proofs.Common.{subst};
 ghost use Rattle.std.specs.Coded.{Coded-set};
 ghost use Rattle.slot_history.specs.Bounds.{IsShape};
 ghost use Rattle.slot_station.specs.Cells.{has_cell, kept_note, fresh_note};
-ghost use Rattle.slot_station.specs.Desks.{own_place, Owns, Exchanges, ExchangesOwn, OwnFits, NextFits, OwnCellSays, CellSays};
+ghost use Rattle.slot_station.specs.Desks.{own_place, Owns, Exchanges, ExchangesOwn, OwnFits};
+ghost use Rattle.slot_station.specs.Desks.{NextFits, OwnCellSays, CellSays};
 ghost use Rattle.one_thread.specs.Seats.{IsSince, SeatOrigin, desk_over, seen_by, shown_by};
 ghost use Rattle.slot_station.specs.Tokens.{IsHolder};
 
@@ -35,7 +35,7 @@ pub struct OneSeat<'a, B: Fits, O: SlotObject> {
     ghost limits: { IsShape start.value.shape },
     ghost queries: { start.value.shape.queries ≡ B.queries start.value.subject },
     ghost shape: { table.now.shape ≡ start.value.shape },
-    ghost subject: { table.now.subject ≡ start.value.subject } by { Prim.hlevel (props, Coded-set B.Subject.code) },
+    ghost subject: { table.now.subject ≡ start.value.subject } by { Coded-set B.Subject.code _ _ },
     ghost since: { ∥ IsSince start.value table.now worker ∥₁ },
 }
 

@@ -29,10 +29,10 @@ impl<B: Fits, O: SlotObject> Model for OneTable<B, O> {
 
     ghost Value = { TableStory B.Subject };
 
-    ghost view = { λ t. table_of (O.story t.object) t.subject.value };
+    ghost view = { λ table. table_of (O.story table.object) table.subject.value };
 
-    ghost invariant = { λ t.
-        IsTableKept B.Fits (table_of (O.story t.object) t.subject.value) t.cells.items };
+    ghost invariant = { λ table. IsTableKept B.Fits
+        (table_of (O.story table.object) table.subject.value) table.cells.items };
 }
 
 impl<B: Fits, O: SlotObject> OneTable<B, O> {
@@ -50,8 +50,8 @@ impl<B: Fits, O: SlotObject> OneTable<B, O> {
     ) -> Result<OneTable<B, O>, MakeRefusal>
         requires { queries ≡ B.queries subject.value }
         ensures refused { MatchOption (refusal_of slots workers queries)
-            (IsOkUnless result OutOfMemory) (λ e. result ≡ Err e) }
-        ensures table { IfOk result (λ t. t ≡ record {
+            (IsOkUnless result OutOfMemory) (λ refusal. result ≡ Err refusal) }
+        ensures table { IfOk result (λ table. table ≡ record {
           shape = record { workers = workers; slots = slots; queries = queries };
           subject = subject.value;
           log = [];

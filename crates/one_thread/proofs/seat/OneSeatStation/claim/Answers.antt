@@ -1,16 +1,14 @@
 use Rattle.slot_station.specs.Tokens.{ClaimGives}
 use Rattle.slot_station.proofs.Follows.{range-cut, range-past}
 use Rattle.slot_history.specs.Calls.{Claiming}
-use Rattle.one_thread.proofs.Seated.{seat, may-make, claim-free, table-free, brought, makes-free}
+use Rattle.one_thread.proofs.Seated.{seat, may-make, claims, keeps, brought, makes}
 use Rattle.one_thread.proofs.seat.OneSeatStation.claim.Goals as goal
 
 pub invariant_of-table : goal.invariant_of-table
-invariant_of-table g c = table-free (seat c.args.self.now c.table.inside c.table.view_is c.table.invariant)
-    c.claim.ensures.made (claim-free c.args.n c.claim.result)
+invariant_of-table g c = keeps (seat c.args.self.now c.table.inside c.table.view_is c.table.invariant) c.claim.ensures.made (claims c.args.n c.claim.result)
 
 pub returns-clause-made : goal.returns-clause-made
-returns-clause-made g c = makes-free (seat c.args.self.now c.table.inside c.table.view_is c.table.invariant)
-    c.claim.ensures.made (claim-free c.args.n c.claim.result)
+returns-clause-made g c = makes (seat c.args.self.now c.table.inside c.table.view_is c.table.invariant) c.claim.ensures.made (claims c.args.n c.claim.result)
 
 pub claim-requires : goal.claim-requires
 claim-requires g c = may-make (seat c.args.self.now c.table.inside c.table.view_is c.table.invariant) (Claiming c.args.n)

@@ -1,8 +1,8 @@
-use Rattle.std.proofs.Common.{sym, ap, ◌∙◌}
+use Rattle.std.proofs.Common.{refl, sym, ap, ◌∙◌}
 use Rattle.slot_history.specs.States.{held_at}
 use Rattle.slot_station.specs.Tokens.{IsHolder}
 use Rattle.slot_history.specs.Calls.{NotingDone}
-use Rattle.one_thread.proofs.Seated.{seat, may-make, token-old, table-after, new-place, token-for, seat-makes}
+use Rattle.one_thread.proofs.Seated.{seat, may-make, table-after, token-goes, seat-makes}
 use Rattle.slot_station.proofs.TokensKept.{note-holds}
 use Rattle.one_thread.proofs.seat.OneSeatStation.note_done.Goals as goal
 
@@ -21,8 +21,7 @@ note_done-requires g c =
 
 pub returns-clause-holder : goal.returns-clause-holder
 returns-clause-holder g c =
-    let x = seat c.args.self.now c.table.inside c.table.view_is c.table.invariant in
     let w = c.args.self.now.worker in
-    let old = token-old x (λ d p. IsHolder d w p c.args._holder.now) c.requires.holder in
-    token-for x c.note_done.ensures (λ d p. IsHolder d w p c.args._holder.now)
-    (note-holds (g.O.SlotObject.story c.table.inside.object).shape w _ _ c.args._holder.now c.args.k old (new-place x c.note_done.ensures))
+    token-goes (seat c.args.self.now c.table.inside c.table.view_is c.table.invariant) c.note_done.ensures
+    (λ d p. IsHolder d w p c.args._holder.now) (λ d p. IsHolder d w p c.args._holder.now)
+    (λ d p ok. note-holds d w p _ c.args._holder.now c.args.k ok refl) c.requires.holder

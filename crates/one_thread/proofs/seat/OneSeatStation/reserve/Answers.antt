@@ -1,6 +1,6 @@
 use Rattle.slot_station.specs.Tokens.{ReserveGives}
 use Rattle.slot_history.specs.Calls.{Reserving}
-use Rattle.one_thread.proofs.Seated.{seat, may-make, reserve-free, table-free, brought, makes-free}
+use Rattle.one_thread.proofs.Seated.{seat, may-make, reserves, keeps, brought, makes}
 use Rattle.one_thread.proofs.seat.OneSeatStation.reserve.Goals as goal
 
 pub reserve-requires : goal.reserve-requires
@@ -8,12 +8,12 @@ reserve-requires g c = may-make (seat c.args.self.now c.table.inside c.table.vie
     (c.requires.place, c.requires.slot)
 
 pub invariant_of-table : goal.invariant_of-table
-invariant_of-table g c = table-free (seat c.args.self.now c.table.inside c.table.view_is c.table.invariant)
-    c.reserve.ensures.made (reserve-free c.args.s c.reserve.result)
+invariant_of-table g c = keeps (seat c.args.self.now c.table.inside c.table.view_is c.table.invariant)
+    c.reserve.ensures.made (reserves c.args.s c.reserve.result)
 
 pub returns-clause-made : goal.returns-clause-made
-returns-clause-made g c = makes-free (seat c.args.self.now c.table.inside c.table.view_is c.table.invariant)
-    c.reserve.ensures.made (reserve-free c.args.s c.reserve.result)
+returns-clause-made g c = makes (seat c.args.self.now c.table.inside c.table.view_is c.table.invariant)
+    c.reserve.ensures.made (reserves c.args.s c.reserve.result)
 
 pub returns-clause-holder : goal.returns-clause-holder
 returns-clause-holder g c = brought (seat c.args.self.now c.table.inside c.table.view_is c.table.invariant) c.reserve.ensures.made

@@ -1,6 +1,7 @@
+use Rattle.std.proofs.Common.{refl}
 use Rattle.slot_station.specs.Tokens.{IsHolder}
 use Rattle.slot_history.specs.Calls.{SettingTotal}
-use Rattle.one_thread.proofs.Seated.{seat, may-make, token-old, table-after, new-place, token-for, seat-makes}
+use Rattle.one_thread.proofs.Seated.{seat, may-make, table-after, token-goes, seat-makes}
 use Rattle.slot_station.proofs.TokensKept.{total-holds}
 use Rattle.one_thread.proofs.seat.OneSeatStation.set_total.Goals as goal
 
@@ -16,8 +17,7 @@ returns-clause-made g c = seat-makes (seat c.args.self.now c.table.inside c.tabl
 
 pub returns-clause-holder : goal.returns-clause-holder
 returns-clause-holder g c =
-    let x = seat c.args.self.now c.table.inside c.table.view_is c.table.invariant in
     let w = c.args.self.now.worker in
-    let old = token-old x (λ d p. IsHolder d w p c.args._holder.now) c.requires.holder in
-    token-for x c.set_total.ensures (λ d p. IsHolder d w p c.args._holder.now)
-    (total-holds (g.O.SlotObject.story c.table.inside.object).shape w _ _ c.args._holder.now c.args.total old (new-place x c.set_total.ensures))
+    token-goes (seat c.args.self.now c.table.inside c.table.view_is c.table.invariant) c.set_total.ensures
+    (λ d p. IsHolder d w p c.args._holder.now) (λ d p. IsHolder d w p c.args._holder.now)
+    (λ d p ok. total-holds d w p _ c.args._holder.now c.args.total ok refl) c.requires.holder

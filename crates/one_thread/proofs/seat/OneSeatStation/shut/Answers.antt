@@ -1,13 +1,13 @@
 use Rattle.slot_station.specs.Tokens.{ShutGives}
 use Rattle.slot_history.specs.Calls.{Shutting}
-use Rattle.one_thread.proofs.Seated.{seat, may-make, shut-free, table-free, brought, makes-free}
+use Rattle.one_thread.proofs.Seated.{seat, may-make, shuts, keeps, brought, makes}
 use Rattle.one_thread.proofs.seat.OneSeatStation.shut.Goals as goal
 
 pub invariant_of-table : goal.invariant_of-table
-invariant_of-table g c = table-free (seat c.args.self.now c.table.inside c.table.view_is c.table.invariant) c.shut.ensures.made (shut-free c.shut.result)
+invariant_of-table g c = keeps (seat c.args.self.now c.table.inside c.table.view_is c.table.invariant) c.shut.ensures.made (shuts c.shut.result)
 
 pub returns-clause-made : goal.returns-clause-made
-returns-clause-made g c = makes-free (seat c.args.self.now c.table.inside c.table.view_is c.table.invariant) c.shut.ensures.made (shut-free c.shut.result)
+returns-clause-made g c = makes (seat c.args.self.now c.table.inside c.table.view_is c.table.invariant) c.shut.ensures.made (shuts c.shut.result)
 
 pub shut-requires : goal.shut-requires
 shut-requires g c = may-make (seat c.args.self.now c.table.inside c.table.view_is c.table.invariant) Shutting

@@ -95,11 +95,11 @@ module _ (o : Inside) (ok : Kept o) where
     )
 
     -- after a call that changes its worker's place and notices alone
-    pub noticed : (a a' : Act) → a' ≡ a → IsAllowed o.shape (now_of o) w a → (places : List Place) (log : List Logged) → Wrote o w a' places log → Still a
-        → ((n : ℕ) → admitted_after a n ≡ n) × ((n : ℕ) → finished_after a n ≡ n) → (returns changes : List ℕ)
+    pub noticed : (returns changes : List ℕ) (a a' : Act) → a' ≡ a → IsAllowed o.shape (now_of o) w a → (places : List Place) (log : List Logged)
+        → Wrote o w a' places log → Still a → ((n : ℕ) → admitted_after a n ≡ n) × ((n : ℕ) → finished_after a n ≡ n)
         → (let S = next o.shape (now_of o) w a in HasMasks o.shape S.returns returns × HasMasks o.shape S.changes changes)
         → IsObject (record (contents o) { places = places; returns = returns; changes = changes; log = log })
-    noticed a a' is allowed places log wrote still numbers returns changes masks =
+    noticed returns changes a a' is allowed places log wrote still numbers masks =
         let S = now_of o in
         let k = site a (S.places w) in
         let same : slot_after o.shape w a (S.slots k) ≡ S.slots k = still o.shape w (S.slots k) in
@@ -118,7 +118,7 @@ module _ (o : Inside) (ok : Kept o) where
         → IsObject (record (contents o) { places = places; log = log })
     quiet a a' is allowed places log wrote still calm =
         let rest = resting a calm in
-        noticed a a' is allowed places log wrote still (calm.2, calm.3) o.returns.items o.changes.items (rest.0, rest.1)
+        noticed o.returns.items o.changes.items a a' is allowed places log wrote still (calm.2, calm.3) (rest.0, rest.1)
 
     -- after a call that changes no notices and no numbers, where the slot and the debts are those of the next state
     pub writes : (a a' : Act) → a' ≡ a → IsAllowed o.shape (now_of o) w a → (places : List Place) (log : List Logged) → Wrote o w a' places log → Calm a

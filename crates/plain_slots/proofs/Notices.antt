@@ -38,18 +38,18 @@ pub take-returns-after : (o : Inside) (ok : Kept o) (w part : ℕ) → MayMake (
     → IsObject (record (contents o) { places = places; returns = set o.returns.items i 0; log = log })
 take-returns-after o ok w part asks i at bits is places log wrote =
     let S = now_of o in
-    let mask = word-read o.shape w asks.below S.returns o.returns.items part i bits ok.returns_are asks.may at is in
-    noticed o ok w asks.below (TakeReturn part bits) (TakeReturn part bits) refl (asks.may, mask) places log wrote (λ d v x. refl) (λ n. refl, λ n. refl)
-    (set o.returns.items i 0) o.changes.items (words-taken o.shape w asks.below S.returns o.returns.items part i ok.returns_are asks.may at, ok.changes_are)
+    noticed o ok w asks.below (set o.returns.items i 0) o.changes.items (TakeReturn part bits) (TakeReturn part bits) refl
+    (asks.may, word-read o.shape w asks.below S.returns o.returns.items part i bits ok.returns_are asks.may at is) places log wrote
+    (λ d v x. refl) (λ n. refl, λ n. refl) (words-taken o.shape w asks.below S.returns o.returns.items part i ok.returns_are asks.may at, ok.changes_are)
 
 pub take-changes-after : (o : Inside) (ok : Kept o) (w part : ℕ) → MayMake (story_of o) w (TakingChange part) → (i : ℕ) → i ≡ w * PARTS + part
     → (bits : ℕ) → bits ≡ get_or o.changes.items i bits → (places : List Place) (log : List Logged) → Wrote o w (TakeChange part bits) places log
     → IsObject (record (contents o) { places = places; changes = set o.changes.items i 0; log = log })
 take-changes-after o ok w part asks i at bits is places log wrote =
     let S = now_of o in
-    let mask = word-read o.shape w asks.below S.changes o.changes.items part i bits ok.changes_are asks.may at is in
-    noticed o ok w asks.below (TakeChange part bits) (TakeChange part bits) refl (asks.may, mask) places log wrote (λ d v x. refl) (λ n. refl, λ n. refl)
-    o.returns.items (set o.changes.items i 0) (ok.returns_are, words-taken o.shape w asks.below S.changes o.changes.items part i ok.changes_are asks.may at)
+    noticed o ok w asks.below o.returns.items (set o.changes.items i 0) (TakeChange part bits) (TakeChange part bits) refl
+    (asks.may, word-read o.shape w asks.below S.changes o.changes.items part i bits ok.changes_are asks.may at is) places log wrote
+    (λ d v x. refl) (λ n. refl, λ n. refl) (ok.returns_are, words-taken o.shape w asks.below S.changes o.changes.items part i ok.changes_are asks.may at)
 
 -- ---- announce
 
@@ -86,7 +86,7 @@ module _ (o : Inside) (ok : Kept o) (w : ℕ) (asks : MayMake (story_of o) w Ann
       let (s, again, k, at) = asks.may in
       let r = within-at o ok w s k again at in
       let part : s / 64 < PARTS = let a = r.0 in let b = ok.shape.slots.1 in omega arith in
-      noticed o ok w asks.below Announce Announce refl asks.may places log wrote (λ d v x. refl) (λ n. refl, λ n. refl) returns changes (
+      noticed o ok w asks.below returns changes Announce Announce refl asks.may places log wrote (λ d v x. refl) (λ n. refl, λ n. refl) (
         subst (λ q. HasMasks o.shape (told true q S.returns) returns) (sym at)
             (subst (HasMasks o.shape (told true (Announcing s again k) S.returns)) (sym (then_ ∙ ap (λ q. words_told true q o.returns.items) (here ∙ at)))
             (masks-told o.shape true S.returns o.returns.items s k again ok.returns_are r.1 part)),

@@ -20,7 +20,8 @@ index-requires-2 c =
     let s = spot c.self.inside c.self.invariant _ c.self.view_is c.args.worker MarkingNext tt c.requires _ c.index.ensures _ c.slot_at-s.ensures in
     let (id, n, m, at, more) = asks-at c.self.inside c.args.worker c.index.result.now c.slot_at-s.result s in
     place-index c.self.inside c.self.invariant c.nth_other-next.result (subst (λ v. v < c.self.inside.shape.workers)
-    (sym (c.nth_other-next.ensures ∙ asked-is c.args.worker c.in-Asking.is at)) (next-worker c.self.inside c.args.worker c.index.result.now c.slot_at-s.result n s more))
+    (sym (c.nth_other-next.ensures ∙ asked-is c.args.worker c.in-Asking.is at))
+        (next-worker c.self.inside c.args.worker c.index.result.now c.slot_at-s.result n s more))
 
 pub index_mut-owes-requires : goal.index_mut-owes-requires
 index_mut-owes-requires c =
@@ -28,7 +29,8 @@ index_mut-owes-requires c =
     let (id, n, m, at, more) = asks-at c.self.inside c.args.worker c.index.result.now c.slot_at-s.result s in
     let low = next-worker c.self.inside c.args.worker c.index.result.now c.slot_at-s.result n s more in
     debt-index c.self.inside c.self.invariant c.slot_at-s.result (nth_other c.args.worker n) s.in_slots low c.cell_index.result
-    (c.cell_index.ensures ∙ ap (λ u. c.slot_at-s.result * c.self.inside.shape.workers + u) (c.nth_other-next.ensures ∙ asked-is c.args.worker c.in-Asking.is at))
+    (c.cell_index.ensures ∙ ap (λ u. c.slot_at-s.result * c.self.inside.shape.workers + u)
+        (c.nth_other-next.ensures ∙ asked-is c.args.worker c.in-Asking.is at))
 
 pub step-requires-clause-counted : goal.step-requires-clause-counted
 step-requires-clause-counted c = counted-at c.self.inside c.self.invariant c.args.worker

@@ -21,24 +21,24 @@ pub record Running : Type 0 where
 
 -- without the words
 abbrev pub story_of : Running → Story
-story_of r = record { shape = r.shape; log = r.log }
+story_of running = record { shape = running.shape; log = running.log }
 
 -- the state that its history leaves
 abbrev pub state_now : Running → ObjectState
-state_now r = state_in r.shape r.log
+state_now running = state_in running.shape running.log
 
 -- where a worker is
 abbrev pub place_now : Running → ℕ → Place
-place_now r w = place_in (story_of r) w
+place_now running w = place_in (story_of running) w
 
 -- the worker made the call
 abbrev pub Calls : Running → ℕ → Act → Running → Type 0
 Calls old w a new = MakesCall (story_of old) w a (story_of new)
 
--- the worker w may make the call c, and its step is on this word
-pub record IsCallOn (r : Running) (w : ℕ) (c : Call) (a : Address) : Type 0 where
-  pub may : MayMake (story_of r) w c
-  pub on : a ≡ address_of w c (place_now r w)
+-- the worker w may make the call c, and its step is on the word at this address
+pub record IsCallOn (running : Running) (w : ℕ) (c : Call) (address : Address) : Type 0 where
+  pub may : MayMake (story_of running) w c
+  pub on : address ≡ address_of w c (place_now running w)
 
 -- one atomic step: the call of a worker, the address of its word, what the word becomes, and the
 -- call with its answer
@@ -50,12 +50,12 @@ pub record WordStep : Type 0 where
   pub act : Act
 
 -- by what the word holds, this is the step of its call
-pub record IsStepOf (r : Running) (step : WordStep) : Type 0 where
-  pub call : IsCallOn r step.worker step.call step.address
-  pub changes : step.new
-      ≡ change_of step.call (place_now r step.worker) (word_at r.shape r.words step.address)
-  pub reads : step.act
-      ≡ answer_of step.call (place_now r step.worker) (word_at r.shape r.words step.address)
+pub record IsStepOf (running : Running) (step : WordStep) : Type 0 where
+  pub call : IsCallOn running step.worker step.call step.address
+  pub changes : step.new ≡ change_of step.call (place_now running step.worker)
+      (word_at running.shape running.words step.address)
+  pub reads : step.act ≡ answer_of step.call (place_now running step.worker)
+      (word_at running.shape running.words step.address)
 
 -- what is kept at run time is what the legal history of the log leaves
 pub record IsMachine (d : Shape) (words : List ℕ) (places : List Place)

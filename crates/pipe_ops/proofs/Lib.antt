@@ -3,7 +3,6 @@ pub mod BuildLemmas
 pub mod EmptyLemmas
 pub mod FoldingLemmas
 pub mod GroupingLemmas
-pub mod HeldLemmas
 pub mod InputsLemmas
 pub mod JoinRowLemmas
 pub mod JoiningLemmas

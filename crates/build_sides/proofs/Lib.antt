@@ -1,6 +1,6 @@
 mod Linked
 mod Distinct
-mod Items
+pub mod Items
 mod Hashed
 mod Adding
 mod Aggregates

@@ -4,9 +4,9 @@ ghost use Rattle.std.specs.Prelude.{◌≡◌, ℕ, ◌<◌, ◌^◌};
 ghost use Rattle.slot_history.specs.Bounds.{IsPlaceWithin};
 ghost use Rattle.slot_history.specs.Calls.{Call};
 ghost use Rattle.slot_station.specs.Places.{IsCounted};
+ghost use Rattle.slot_words.specs.Words.{StandsFor, word_at};
 ghost use Rattle.slot_words.specs.Numbers.{IsSmall};
 ghost use Rattle.slot_words.specs.Steps.{answer_of};
-ghost use Rattle.slot_words.specs.Words.{StandsFor, word_at};
 ghost use Rattle.slot_proto.specs.Machines.{Calls, IsCallOn, IsStepOf, place_now, state_now};
 
 use crate::reading::{

@@ -21,7 +21,6 @@ note_done-requires g c =
 
 pub returns-clause-holder : goal.returns-clause-holder
 returns-clause-holder g c =
-    let w = c.args.self.now.worker in
     token-goes (seat c.args.self.now c.table.inside c.table.view_is c.table.invariant) c.note_done.ensures
-    (λ d p. IsHolder d w p c.args._holder.now) (λ d p. IsHolder d w p c.args._holder.now)
-    (λ d p ok. note-holds d w p _ c.args._holder.now c.args.k ok refl) c.requires.holder
+    (λ d p. IsHolder d c.args.self.now.worker p c.args._holder.now) (λ d p. IsHolder d c.args.self.now.worker p c.args._holder.now)
+    (λ d p ok. note-holds d c.args.self.now.worker p _ c.args._holder.now c.args.k ok refl) c.requires.holder

@@ -19,8 +19,10 @@ use Rattle.slot_station.specs.Exchanges.{IsSeenAt, MayExchange, HoldsNoted, MayP
 use Rattle.slot_station.specs.Exchanges.{cell_here, exchange_here, after_exchange, put_note}
 use Rattle.slot_station.specs.Desks.{Seen, Makes, LeaderOwesNothing, OwnFits, NextFits}
 use Rattle.slot_station.specs.Desks.{OwnCellSays, CellSays, own_place, own_ranges, own_total}
-use Rattle.slot_station.specs.Desks.{totals_of, caller_of}
+use Rattle.slot_station.specs.Desks.{Owns, totals_of, caller_of}
 use Rattle.slot_station.specs.Replies.{look_act, claim_act, leave_act, SeesTaskSet, IsCutRange}
+use Rattle.slot_station.specs.declared.token.Holder.{Holder}
+use Rattle.slot_station.specs.Tokens.{IsHolder, HoldsAs}
 use Rattle.slot_station.specs.Replies.{LiesPast, OwesTaskSet, NamesSlots}
 
 -- what follows for a caller from the call that a worker made
@@ -105,3 +107,8 @@ pub record ExchangesSay {B Sub : Type 0} (fits : Sub → ℕ → ℕ → List (�
       → (HoldsNoted seen v fits value → CellSays fits seen v value)
       × (IfSome value (NextFits fits seen v) → IfSome value (MayPut seen v fits))
       × (put_note (own_place seen) value ≡ fresh_note value)
+
+-- a holder's token has the fields of what its worker holds
+abbrev pub HoldersShow : Type 0 → Type 0 → Type 0
+HoldersShow O Sub = (seen : Seen O Sub) (token : Holder)
+    → Owns IsHolder seen token → Owns HoldsAs seen token

@@ -1,6 +1,6 @@
 //! Laws that hold of every station, and of the cells of every form of the object.
 ghost use Rattle.slot_station.specs.Laws.{RepliesFollow, CellsGoOn, RepliesAllowed};
-ghost use Rattle.slot_station.specs.Laws.{ExchangesGoOn, ExchangesSay};
+ghost use Rattle.slot_station.specs.Laws.{ExchangesGoOn, ExchangesSay, HoldersShow};
 
 use crate::station::{Fits, Station};
 
@@ -38,4 +38,10 @@ pub fn exchanges_go_on<B: Fits, S: Station<B>>()
 /// `Station::cell`.
 pub fn exchanges_say<B: Fits, S: Station<B>>()
     ensures { ExchangesSay B.fits S.Origin }
+{}
+
+/// A holder's token has the fields of what its worker holds: its slot and query, the stage that was
+/// finalised, and whether it holds after a finalisation.
+pub fn holders_show<B: Fits, S: Station<B>>()
+    ensures { HoldersShow S.Origin B.Subject }
 {}

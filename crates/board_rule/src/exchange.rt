@@ -10,7 +10,7 @@ ghost use Rattle.board_rule.specs.Passes.{IsPassOf, seen_of};
 ghost use Rattle.board_rule.specs.Rule.{RunningRule, terms_of};
 
 use crate::board::{Board, Pass};
-use crate::rule::{Giving, Taking, Wanted};
+use crate::rule::{Giving, NamesCell, Taking};
 use crate::view::View;
 use atomic_table::Seat;
 use slot_station::answers::cell_index;
@@ -21,12 +21,12 @@ use std::marker::Brand;
 use std::sync::ledger::Ledger;
 
 /// Takes the cell of a worker out of the table, which the caller picks.
-fn take_cell<K: Wanted, B: Fits>(
+fn take_cell<K: NamesCell, B: Fits>(
     board: &Board<B>,
     seat: &mut Seat<Option<B>, View<B::Subject>>,
     cell: u32,
 )
-    requires wanted { cell ≡ K.cell }
+    requires named { cell ≡ K.cell }
     requires table { seat.old.table_id ≡ board.now.table.shared.table_id }
     requires words { 0 < board.now.table.shared.table_id.words }
     requires step { let t = board.now.table.shared in

@@ -50,20 +50,20 @@ impl<K: NamesCall, B: Fits> Play<Option<B>, View<B::Subject>> for Calling<K> {
 }
 
 /// Whose cell is taken. Who takes it picks the worker.
-pub trait Wanted {
+pub trait NamesCell {
     ghost cell: { ℕ };
 }
 
-impl Wanted for Brand {
+impl NamesCell for Brand {
     ghost cell = { 0 };
 }
 
 /// A load that takes a cell.
 pub struct Taking<K> {
-    wanted: PhantomData<K>,
+    cell: PhantomData<K>,
 }
 
-impl<K: Wanted, B: Fits> Play<Option<B>, View<B::Subject>> for Taking<K> {
+impl<K: NamesCell, B: Fits> Play<Option<B>, View<B::Subject>> for Taking<K> {
     ghost then = { taking B.fits K.cell };
 }
 

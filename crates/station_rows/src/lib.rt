@@ -1,22 +1,31 @@
 //! Worked rows of the slot object: what each worker calls, in order, and the answer that it gets.
 //!
-//! It stands on the forms of the object, `plain_slots` and `slot_proto`, and has tests alone. A row
-//! is a list of entries (`rows`). A player (`player`) makes them in order, through the bound of a
-//! station, by the calls of `worker_calls`, and asserts each answer. It plays on any form (`form`),
-//! which makes a table for a subject, seats a worker at it, and shows a slot's counter if that is a
-//! word. So each row is played on every form, and all give the same answers.
+//! It stands on the forms of the object, `plain_slots`, `slot_proto` and the shared board, and has
+//! tests alone. A row is a list of entries (`rows`). A player (`player`) makes them in order,
+//! through the bound of a station, by the calls of `worker_calls`, and asserts each answer. It plays
+//! on any form (`form`, `board_form`), which makes a table for a subject, seats a worker at it, and
+//! shows its words if it has words. So each row is played on every form, and all give the same
+//! answers. A board has its words read when it ends.
 //!
 //! Nothing stands above it. A new form of the object implements `Form` and is named once in `rows`
 //! and once in `limits`.
 #![tactic(auto)]
 
 #[cfg(test)]
+mod board_form;
+#[cfg(test)]
+mod board_table;
+#[cfg(test)]
 mod form;
+#[cfg(test)]
+mod hand;
 #[cfg(test)]
 mod limits;
 #[cfg(test)]
 mod player;
 #[cfg(test)]
 mod rows;
+#[cfg(test)]
+mod subject;
 #[cfg(test)]
 mod worker_calls;

@@ -1,8 +1,9 @@
 //! The limits of tables, on each form, and the history of a table that nobody used.
 ghost use Rattle.std.specs.Prelude.{◌≡◌, [], IfOk};
 
+use crate::board_table::BoardTable;
 use crate::form::Form;
-use crate::worker_calls::{Piece, Sets};
+use crate::subject::{Piece, Sets};
 use plain_slots::table::PlainTable;
 use slot_proto::proto::Proto;
 use slot_station::ghost_list::History;
@@ -34,6 +35,7 @@ fn ask_for_tables<T: Form>(rt: &impl Abort, alloc: Global) {
 fn tables_have_limits(rt: HostRuntime) -> Result<(), Fail> {
     ask_for_tables::<PlainTable<Piece>>(&rt, rt.alloc());
     ask_for_tables::<Proto<Piece>>(&rt, rt.alloc());
+    ask_for_tables::<BoardTable>(&rt, rt.alloc());
     Ok(())
 }
 

@@ -1,13 +1,10 @@
 //! A table and its workers, played entry by entry.
-ghost use Rattle.std.specs.Prelude.{◌≡◌, ◌<◌};
-ghost use Rattle.slot_station.specs.Desks.{own_place};
+ghost use Rattle.std.specs.Prelude.{◌≡◌};
 
-use crate::form::Form;
-use crate::worker_calls;
-use crate::worker_calls::{Hand, Piece, Sets};
+use crate::form::{Ask, Form};
+use crate::hand::Hand;
+use crate::subject::Sets;
 use slot_history::act::Act;
-use slot_history::place::Place;
-use slot_station::station::{Fits, Station};
 use slot_station::steps::Steps;
 use std::alloc::Global;
 use std::mem;
@@ -18,9 +15,9 @@ use std::test::Fail;
 /// A table, the subject that it serves, and what each worker has in hand.
 #[derive(Drop)]
 pub(crate) struct Player<T: Form> {
-    table: T,
-    sets: Sets,
-    hands: Vec<Hand>,
+    pub(crate) table: T,
+    pub(crate) sets: Sets,
+    pub(crate) hands: Vec<Hand>,
     ghost subject: { T.serves table ≡ sets },
 }
 
@@ -49,8 +46,13 @@ impl<T: Form> Player<T> {
         steps: &mut Steps<L>,
     ) -> Act {
         assert!(rt; (worker as usize) < self.hands.len());
-        let hand = mem::replace(&mut self.hands[worker as usize], Hand::Nothing);
-        let (made, hand) = self.table.call(rt, worker, &self.sets, hand, act, steps);
+        let ask = Ask {
+            worker,
+            sets: &self.sets,
+            hand: mem::replace(&mut self.hands[worker as usize], Hand::Nothing),
+            act: *act,
+        };
+        let (made, hand) = self.table.call(rt, ask, steps);
         self.hands[worker as usize] = hand;
         made
     }
@@ -63,11 +65,30 @@ impl<T: Form> Player<T> {
         }
     }
 
-    /// The counter of the slot holds this word, where the form has words.
+    /// The counter of the slot is this word, in a form that shows its words at any time.
     pub(crate) fn expect_counter(&self, rt: &impl Abort, slot: u32, word: u64) {
-        if let Some(counter) = self.table.counter(rt, slot) {
-            assert_eq!(rt; counter, word, "the counter of slot {slot}");
+        self.table.expect_counter(rt, slot, word);
+    }
+
+    /// Ends the table, which has one slot and whose workers are all free. If it has words, these are
+    /// the final ones: those up to the slot's, and then each worker's.
+    pub(crate) fn expect_words(
+        self,
+        rt: &impl Abort,
+        alloc: Global,
+        slot: &[u64; 6],
+        workers: &[[u64; 5]],
+    ) -> Result<(), Fail> {
+        let Player {
+            table,
+            sets: _,
+            hands: _,
+        } = self;
+        let mut words = slot.to_vec(alloc)?;
+        for worker in workers {
+            words.extend_from_slice(worker)?;
         }
+        table.expect_words(rt, alloc, words.as_slice())
     }
 
     /// Plays the entries of the workers in order, and asserts that each call makes its entry.
@@ -84,75 +105,5 @@ impl<T: Form> Player<T> {
                 "another answer to entry {i}, of worker {worker}"
             );
         }
-    }
-}
-
-/// The call of this entry, through the bound of a station. The answer is the entry that it made,
-/// and what the worker has in hand after it.
-pub(crate) fn call<S: Station<Piece>, L: Ledger>(
-    rt: &impl Abort,
-    station: &mut S,
-    place: &Place,
-    sets: &Sets,
-    hand: Hand,
-    act: &Act,
-    steps: &mut Steps<L>,
-) -> (Act, Hand)
-    requires place { place.now ≡ own_place (S.seen station.old) }
-    requires subject { sets.now ≡ (S.seen station.old).desk.subject }
-    ensures { (S.seen station.new).origin ≡ (S.seen station.old).origin }
-{
-    match *act {
-        Act::Arrivals(_) => (Act::Arrivals(station.arrivals(steps)), hand),
-        Act::Finished(_) => (Act::Finished(station.finished(steps)), hand),
-        Act::TakeReturn(part, _) => (worker_calls::take_return(rt, station, part, steps), hand),
-        Act::TakeChange(part, _) => (worker_calls::take_change(rt, station, part, steps), hand),
-        Act::ReserveGot(s) | Act::ReserveTaken(s, _) => worker_calls::reserve(
-            rt, station, place, s, steps,
-        ),
-        Act::AdmitGot(q) | Act::AdmitLost(q, _) => worker_calls::admit(
-            rt, station, place, sets, hand, q, steps,
-        ),
-        Act::NoteDone(k) => worker_calls::note_done(rt, station, place, hand, k, steps),
-        Act::SetTotal(total) => worker_calls::set_total(rt, station, place, hand, total, steps),
-        Act::Install(id) => worker_calls::install(rt, station, place, sets, hand, id, steps),
-        Act::Release => (
-            worker_calls::release(rt, station, place, hand, steps),
-            Hand::Nothing,
-        ),
-        Act::Announce => worker_calls::tell(rt, station, place, hand, steps),
-        _ => call_at_slot(rt, station, place, hand, act, steps),
-    }
-}
-
-/// The call of this entry, which is one of working on a task set or of its end.
-fn call_at_slot<S: Station<Piece>, L: Ledger>(
-    rt: &impl Abort,
-    station: &mut S,
-    place: &Place,
-    hand: Hand,
-    act: &Act,
-    steps: &mut Steps<L>,
-) -> (Act, Hand)
-    requires { place.now ≡ own_place (S.seen station.old) }
-    ensures { (S.seen station.new).origin ≡ (S.seen station.old).origin }
-{
-    match *act {
-        Act::Enter(s) => (worker_calls::enter(rt, station, place, s, steps), hand),
-        Act::LookOpen(_) | Act::LookInvalid | Act::LookVacant => (
-            worker_calls::look(rt, station, place, steps),
-            hand,
-        ),
-        Act::ClaimRange(n, _, _) | Act::ClaimUsed(n) => worker_calls::claim(
-            rt, station, place, n, steps,
-        ),
-        Act::ShutWon | Act::ShutLost => worker_calls::shut(rt, station, place, hand, steps),
-        Act::LeaveLeft | Act::LeaveOwe(_) => worker_calls::leave(rt, station, place, hand, steps),
-        Act::MarkMarked | Act::MarkMissed => worker_calls::mark(rt, station, place, hand, steps),
-        Act::SweepLast | Act::SweepOthers(_) => worker_calls::sweep(
-            rt, station, place, hand, steps,
-        ),
-        Act::PayLast | Act::PayDone => worker_calls::pay(rt, station, place, hand, steps),
-        _ => panic!(rt; "no call at a slot"),
     }
 }

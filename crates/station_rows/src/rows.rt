@@ -1,9 +1,10 @@
 //! Worked rows: what each worker calls on a table, in order, with the answers that it gets.
 ghost use Rattle.std.specs.Prelude.{◌≡◌, ◌<◌};
 
+use crate::board_table::BoardTable;
 use crate::form::Form;
 use crate::player::Player;
-use crate::worker_calls::{Piece, Sets};
+use crate::subject::{Piece, Sets};
 use plain_slots::table::PlainTable;
 use slot_history::act::Act;
 use slot_history::shape::STAGES;
@@ -28,7 +29,7 @@ fn table<T: Form>(
 
 /// A worker reserves slot s, and opens it with the first task set of the next query, of this id and
 /// total. Nobody is told of it yet.
-fn opens(worker: u32, s: u32, id: u32, total: u32) -> [(u32, Act); 4] {
+pub(crate) fn opens(worker: u32, s: u32, id: u32, total: u32) -> [(u32, Act); 4] {
     [
         (worker, Act::ReserveGot(s)),
         (worker, Act::AdmitGot(id / STAGES)),
@@ -38,7 +39,7 @@ fn opens(worker: u32, s: u32, id: u32, total: u32) -> [(u32, Act); 4] {
 }
 
 /// A worker goes to slot s, finds the task set of this id open and used up, and shuts it.
-fn shuts(worker: u32, s: u32, id: u32) -> [(u32, Act); 5] {
+pub(crate) fn shuts(worker: u32, s: u32, id: u32) -> [(u32, Act); 5] {
     [
         (worker, Act::Enter(s)),
         (worker, Act::LookOpen(id)),
@@ -75,7 +76,9 @@ fn pays_before_the_sweep<T: Form, L: Ledger>(
     table.play(rt, &[(0, Act::SweepLast)], steps);
     table.expect_counter(rt, 0, 4_294_967_296);
     assert_eq!(rt; table.held(0), Some((Some(0), 0)));
-    Ok(())
+    table.play(rt, &[(0, Act::NoteDone(1)), (0, Act::Release)], steps);
+    let slot = [0, 1, 1, 0, 16, 4_294_967_296];
+    table.expect_words(rt, alloc, &slot, &[[0, 0, 0, 1, 0]; 2])
 }
 
 /// Two marked workers pay before the sweep, and neither is the last.
@@ -110,7 +113,9 @@ fn two_pay_before_the_sweep<T: Form, L: Ledger>(
     table.play(rt, &[(0, Act::SweepLast)], steps);
     table.expect_counter(rt, 0, 4_294_967_296);
     assert_eq!(rt; table.held(0), Some((Some(0), 0)));
-    Ok(())
+    table.play(rt, &[(0, Act::NoteDone(1)), (0, Act::Release)], steps);
+    let slot = [0, 1, 1, 0, 16, 4_294_967_296];
+    table.expect_words(rt, alloc, &slot, &[[0, 0, 0, 1, 0]; 3])
 }
 
 /// A worker that looked before the task set was installed is marked for it, and pays last.
@@ -139,9 +144,11 @@ fn a_stranger_pays_last<T: Form, L: Ledger>(
         (1, Act::Finished(1)),
         (1, Act::Arrivals(1)),
         (0, Act::ReserveGot(0)),
+        (0, Act::Release),
     ];
     table.play(rt, &entries, steps);
-    Ok(())
+    let slot = [0, 1, 1, 0, 16, 4_294_967_296];
+    table.expect_words(rt, alloc, &slot, &[[0, 0, 0, 1, 0]; 2])
 }
 
 /// A table whose one slot served query 0, which worker 2 saw, and is empty again.
@@ -212,9 +219,12 @@ fn notices_outlive_a_query<T: Form, L: Ledger>(
         (2, Act::TakeChange(0, 1)),
         (2, Act::Enter(0)),
         (2, Act::LookOpen(9)),
+        (2, Act::LeaveLeft),
     ];
     table.play(rt, &entries, steps);
-    Ok(())
+    let slot = [0, 2, 2, 42, 30_064_771_072, 4_294_967_296];
+    let told = [0, 1, 0, 1, 0];
+    table.expect_words(rt, alloc, &slot, &[told, told, [0; 5]])
 }
 
 /// A slot is filled again before a worker that entered it has looked.
@@ -413,4 +423,9 @@ fn rows_are_played_on_states(rt: HostRuntime) -> Result<(), Fail> {
 #[test]
 fn rows_are_played_on_words(rt: HostRuntime) -> Result<(), Fail> {
     play::<Proto<Piece>, Brand>(&rt, rt.alloc(), Blank::new(1))
+}
+
+#[test]
+fn rows_are_played_on_the_board(rt: HostRuntime) -> Result<(), Fail> {
+    play::<BoardTable, Brand>(&rt, rt.alloc(), Blank::new(1))
 }

@@ -1,16 +1,18 @@
 //! A worker's calls at a cell type of the tests' own, through the bound of a station.
 //!
 //! Each asserts what its call asks for, by the worker's place and the token in its hand, so that a
-//! test may make its calls in any order. It answers the entry that the call made, and what the
-//! worker has in hand after it.
+//! test may make its calls in any order. It answers the entry that the call made, and leaves in the
+//! worker's hand what it has after the call.
 ghost use Rattle.std.specs.Prelude.{◌≡◌, ℕ, ◌<◌, true, IsSome, IfSome};
 ghost use Rattle.slot_history.specs.States as states;
 ghost use Rattle.slot_station.specs.declared.note.Note.TheVariants.{Kept};
 ghost use Rattle.slot_station.specs.Cells.{has_cell, fresh_note};
 ghost use Rattle.slot_station.specs.Desks.{own_place, own_holding, Owns, KeepsTrail};
-ghost use Rattle.station_rows.specs.Played.{total_in};
 ghost use Rattle.slot_station.specs.Tokens.{IsHolder};
+ghost use Rattle.station_rows.specs.Played.{IsAt, IsReady, KeepsOrigin};
 
+use crate::hand::{Hand, hand_at};
+use crate::subject::{Piece, Sets};
 use slot_history::act::Act;
 use slot_history::place::{Held, Place};
 use slot_history::shape::{MOST_CLAIM, MOST_QUERIES, MOST_TOTAL, PARTS, STAGES};
@@ -18,135 +20,323 @@ use slot_station::moves::id_at;
 use slot_station::reply::{Claim, Leave, Pay, Reserve, Shut, Sweep};
 use slot_station::station::{Fits, Station};
 use slot_station::steps::Steps;
-use slot_station::token::{Announcer, Coordinator, Debt, Holder, Spent};
+use slot_station::token::Holder;
+use std::mem;
 use std::process::Abort;
 use std::sync::ledger::Ledger;
 
-/// A cell's value: whose it is, and of which task set.
-#[derive(Drop)]
-pub(crate) struct Piece {
-    worker: u32,
-    id: u32,
+/// A worker at its station, which serves these sets: where it is, and what it has in hand.
+pub(crate) struct Worker<'s, S> {
+    pub(crate) station: &'s mut S,
+    pub(crate) place: Place,
+    pub(crate) hand: Hand,
+    pub(crate) sets: &'s Sets,
 }
 
-/// A subject: how many queries there are, and the ids of the task sets with their totals.
-#[derive(Drop)]
-pub(crate) struct Sets {
-    pub(crate) queries: u32,
-    pub(crate) totals: Vec<(u32, u32)>,
-}
-
-impl Fits for Piece {
-    ghost use Rattle.std.specs.Prelude.{◌≡◌};
-    ghost use Rattle.station_rows.specs.Played.{total_in};
-
-    type Subject = Sets;
-
-    ghost queries = { λ s. s.queries };
-
-    ghost total = { λ s. total_in s.totals.items };
-
-    ghost fits = { λ s w id ranges p. (p.worker ≡ w) × (p.id ≡ id) };
-}
-
-impl Sets {
-    /// The total of a task set.
-    fn total(&self, id: u32) -> Option<u32>
-        ensures { result ≡ total_in self.now.totals.items id }
+impl<'s, S: Station<Piece>> Worker<'s, S> {
+    /// The call of this entry. The answer is the entry that it made.
+    pub(crate) fn call<L: Ledger>(&mut self, rt: &impl Abort, act: Act, steps: &mut Steps<L>) -> Act
+        requires { IsAt S.seen self.old }
+        ensures { KeepsOrigin S.seen self.old self.new }
     {
-        let set = self.totals.iter().find(|set| set.0 == id)?;
-        Some(set.1)
+        self.expect_hand(rt);
+        match act {
+            Act::Arrivals(_) => Act::Arrivals(self.station.arrivals(steps)),
+            Act::Finished(_) => Act::Finished(self.station.finished(steps)),
+            Act::TakeReturn(part, _) => self.take_return(rt, part, steps),
+            Act::TakeChange(part, _) => self.take_change(rt, part, steps),
+            Act::ReserveGot(s) | Act::ReserveTaken(s, _) => self.reserve(rt, s, steps),
+            Act::AdmitGot(q) | Act::AdmitLost(q, _) => self.admit(rt, q, steps),
+            Act::NoteDone(k) => self.note_done(rt, k, steps),
+            Act::SetTotal(total) => self.set_total(rt, total, steps),
+            Act::Install(id) => self.install(rt, id, steps),
+            Act::Release => self.release(rt, steps),
+            Act::Announce => self.tell(rt, steps),
+            _ => self.call_at_slot(rt, act, steps),
+        }
     }
-}
 
-/// What a worker has in hand.
-#[derive(Drop)]
-pub(crate) enum Hand {
-    Nothing,
-    Spent(Spent),
-    Debt(Debt),
-    Coordinator(Coordinator),
-    Holder(Holder),
-    Announcer(Announcer),
-}
-
-pub(crate) fn enter<S: Station<Piece>, L: Ledger>(
-    rt: &impl Abort,
-    station: &mut S,
-    place: &Place,
-    s: u32,
-    steps: &mut Steps<L>,
-) -> Act
-    requires { place.now ≡ own_place (S.seen station.old) }
-    ensures { (S.seen station.new).origin ≡ (S.seen station.old).origin }
-{
-    let Place::Free = *place else {
-        panic!(rt; "the worker is not free");
-    };
-    let slots = station.slots();
-    assert!(rt; s < slots);
-    station.enter(s, steps);
-    Act::Enter(s)
-}
-
-pub(crate) fn look<S: Station<Piece>, L: Ledger>(
-    rt: &impl Abort,
-    station: &mut S,
-    place: &Place,
-    steps: &mut Steps<L>,
-) -> Act
-    requires { place.now ≡ own_place (S.seen station.old) }
-    ensures { (S.seen station.new).origin ≡ (S.seen station.old).origin }
-{
-    let Place::Entered(_) = *place else {
-        panic!(rt; "the worker has not just entered");
-    };
-    station.look(steps).act()
-}
-
-pub(crate) fn claim<S: Station<Piece>, L: Ledger>(
-    rt: &impl Abort,
-    station: &mut S,
-    place: &Place,
-    n: u32,
-    steps: &mut Steps<L>,
-) -> (Act, Hand)
-    requires { place.now ≡ own_place (S.seen station.old) }
-    ensures { (S.seen station.new).origin ≡ (S.seen station.old).origin }
-{
-    let Place::Inside(..) = *place else {
-        panic!(rt; "the worker is not inside");
-    };
-    assert!(rt; 0 < n);
-    assert!(rt; n <= MOST_CLAIM);
-    let claim = station.claim(n, steps);
-    let act = claim.act(n);
-    match claim {
-        Claim::Range(..) => (act, Hand::Nothing),
-        Claim::Exhausted(spent) => (act, Hand::Spent(spent)),
+    /// The call of this entry, which is one of working on a task set or of its end.
+    fn call_at_slot<L: Ledger>(&mut self, rt: &impl Abort, act: Act, steps: &mut Steps<L>) -> Act
+        requires { IsReady S.seen self.old }
+        ensures { KeepsOrigin S.seen self.old self.new }
+    {
+        match act {
+            Act::Enter(s) => self.enter(rt, s, steps),
+            Act::LookOpen(_) | Act::LookInvalid | Act::LookVacant => self.look(rt, steps),
+            Act::ClaimRange(n, _, _) | Act::ClaimUsed(n) => self.claim(rt, n, steps),
+            Act::ShutWon | Act::ShutLost => self.shut(rt, steps),
+            Act::LeaveLeft | Act::LeaveOwe(_) => self.leave(rt, steps),
+            Act::MarkMarked | Act::MarkMissed => self.mark(rt, steps),
+            Act::SweepLast | Act::SweepOthers(_) => self.sweep(rt, steps),
+            Act::PayLast | Act::PayDone => self.pay(rt, steps),
+            _ => panic!(rt; "no call at a slot"),
+        }
     }
-}
 
-pub(crate) fn shut<S: Station<Piece>, L: Ledger>(
-    rt: &impl Abort,
-    station: &mut S,
-    place: &Place,
-    hand: Hand,
-    steps: &mut Steps<L>,
-) -> (Act, Hand)
-    requires { place.now ≡ own_place (S.seen station.old) }
-    ensures { (S.seen station.new).origin ≡ (S.seen station.old).origin }
-{
-    let (Place::Used(slot, id), Hand::Spent(spent)) = (*place, hand) else {
-        panic!(rt; "the worker found no task set used up");
-    };
-    let worker = station.worker();
-    assert_eq!(rt; spent, Spent { worker, slot, id });
-    let shut = station.shut(spent, steps);
-    let act = shut.act();
-    match shut {
-        Shut::Won(coordinator) => (act, Hand::Coordinator(coordinator)),
-        Shut::Lost => (act, Hand::Nothing),
+    /// Asserts that the worker has in hand the token of its place.
+    fn expect_hand(&self, rt: &impl Abort)
+        requires { IsAt S.seen self.now }
+        ensures { IsReady S.seen self.now }
+    {
+        let worker = self.station.worker();
+        let workers = self.station.workers();
+        let due = hand_at(&self.place, worker, workers);
+        assert_eq!(rt; self.hand, due);
+    }
+
+    fn enter<L: Ledger>(&mut self, rt: &impl Abort, s: u32, steps: &mut Steps<L>) -> Act
+        requires { IsReady S.seen self.old }
+        ensures { KeepsOrigin S.seen self.old self.new }
+    {
+        assert!(rt; self.place == Place::Free);
+        assert!(rt; s < self.station.slots());
+        self.station.enter(s, steps);
+        Act::Enter(s)
+    }
+
+    fn look<L: Ledger>(&mut self, rt: &impl Abort, steps: &mut Steps<L>) -> Act
+        requires { IsReady S.seen self.old }
+        ensures { KeepsOrigin S.seen self.old self.new }
+    {
+        let Place::Entered(_) = self.place else {
+            panic!(rt; "the worker has not just entered");
+        };
+        self.station.look(steps).act()
+    }
+
+    fn claim<L: Ledger>(&mut self, rt: &impl Abort, n: u32, steps: &mut Steps<L>) -> Act
+        requires { IsReady S.seen self.old }
+        ensures { KeepsOrigin S.seen self.old self.new }
+    {
+        let Place::Inside(..) = self.place else {
+            panic!(rt; "the worker is not inside");
+        };
+        assert!(rt; 0 < n && n <= MOST_CLAIM);
+        let claim = self.station.claim(n, steps);
+        let act = claim.act(n);
+        if let Claim::Exhausted(spent) = claim {
+            self.hand = Hand::Spent(spent);
+        }
+        act
+    }
+
+    fn shut<L: Ledger>(&mut self, rt: &impl Abort, steps: &mut Steps<L>) -> Act
+        requires { IsReady S.seen self.old }
+        ensures { KeepsOrigin S.seen self.old self.new }
+    {
+        let Hand::Spent(spent) = self.take_hand() else {
+            panic!(rt; "the worker found no task set used up");
+        };
+        let shut = self.station.shut(spent, steps);
+        let act = shut.act();
+        if let Shut::Won(coordinator) = shut {
+            self.hand = Hand::Coordinator(coordinator);
+        }
+        act
+    }
+
+    /// Leaves the slot. The worker's own cell has a piece of the task set before, where it is
+    /// inside.
+    fn leave<L: Ledger>(&mut self, rt: &impl Abort, steps: &mut Steps<L>) -> Act
+        requires { IsReady S.seen self.old }
+        ensures { KeepsOrigin S.seen self.old self.new }
+    {
+        assert!(rt; may_leave(&self.place));
+        keep_own(self.station, &self.place, steps);
+        let leave = self.station.leave(steps);
+        let act = leave.act();
+        if let Leave::Owe(debt) = leave {
+            self.hand = Hand::Debt(debt);
+        }
+        act
+    }
+
+    fn pay<L: Ledger>(&mut self, rt: &impl Abort, steps: &mut Steps<L>) -> Act
+        requires { IsReady S.seen self.old }
+        ensures { KeepsOrigin S.seen self.old self.new }
+    {
+        let Hand::Debt(debt) = self.take_hand() else {
+            panic!(rt; "the worker owes nothing");
+        };
+        let pay = self.station.pay(debt, steps);
+        let act = pay.act();
+        if let Pay::Last(holder) = pay {
+            self.hand = Hand::Holder(holder);
+        }
+        act
+    }
+
+    fn mark<L: Ledger>(&mut self, rt: &impl Abort, steps: &mut Steps<L>) -> Act
+        requires { IsReady S.seen self.old }
+        ensures { KeepsOrigin S.seen self.old self.new }
+    {
+        let (Place::Asking(..), Hand::Coordinator(mut coordinator)) = (self.place, self.take_hand())
+        else {
+            panic!(rt; "the worker does not ask");
+        };
+        assert!(rt; coordinator.asked < self.station.workers() - 1);
+        let mark = self.station.mark_next(&mut coordinator, steps);
+        self.hand = Hand::Coordinator(coordinator);
+        mark.act()
+    }
+
+    fn sweep<L: Ledger>(&mut self, rt: &impl Abort, steps: &mut Steps<L>) -> Act
+        requires { IsReady S.seen self.old }
+        ensures { KeepsOrigin S.seen self.old self.new }
+    {
+        let (Place::Asking(..), Hand::Coordinator(coordinator)) = (self.place, self.take_hand())
+        else {
+            panic!(rt; "the worker does not ask");
+        };
+        assert!(rt; coordinator.asked == self.station.workers() - 1);
+        let sweep = self.station.sweep(coordinator, steps);
+        let act = sweep.act();
+        if let Sweep::Last(holder) = sweep {
+            self.hand = Hand::Holder(holder);
+        }
+        act
+    }
+
+    fn reserve<L: Ledger>(&mut self, rt: &impl Abort, s: u32, steps: &mut Steps<L>) -> Act
+        requires { IsReady S.seen self.old }
+        ensures { KeepsOrigin S.seen self.old self.new }
+    {
+        assert!(rt; self.place == Place::Free);
+        assert!(rt; s < self.station.slots());
+        let reserve = self.station.reserve(s, steps);
+        let act = reserve.act(s);
+        if let Reserve::Got(holder) = reserve {
+            self.hand = Hand::Holder(holder);
+        }
+        act
+    }
+
+    /// What the worker holds, with the token in its hand. It has nothing in hand then.
+    fn holding(&mut self, rt: &impl Abort) -> (Held, Holder)
+        requires { IsReady S.seen self.old }
+        ensures station { self.new.station ≡ self.old.station }
+        ensures sets { self.new.sets.now ≡ self.old.sets.now }
+        ensures held { result.0 ≡ own_holding (S.seen self.old.station.now) }
+        ensures holder { Owns IsHolder (S.seen self.old.station.now) result.1 }
+        ensures query { result.1.query ≡ result.0.query }
+        ensures stage { result.1.stage ≡ result.0.stage }
+    {
+        let (Place::Holding(_, held), Hand::Holder(holder)) = (self.place, self.take_hand()) else {
+            panic!(rt; "the worker holds no slot");
+        };
+        (held, holder)
+    }
+
+    fn admit<L: Ledger>(&mut self, rt: &impl Abort, q: u32, steps: &mut Steps<L>) -> Act
+        requires { IsReady S.seen self.old }
+        ensures { KeepsOrigin S.seen self.old self.new }
+    {
+        let (_, mut holder) = self.holding(rt);
+        assert!(rt; holder.query.is_none());
+        // it says that the object has the subject's queries
+        let _slots = self.station.slots();
+        assert!(rt; q < self.sets.queries);
+        let admit = self.station.admit(&mut holder, q, steps);
+        self.hand = Hand::Holder(holder);
+        admit.act(q)
+    }
+
+    fn note_done<L: Ledger>(&mut self, rt: &impl Abort, k: u32, steps: &mut Steps<L>) -> Act
+        requires { IsReady S.seen self.old }
+        ensures { KeepsOrigin S.seen self.old self.new }
+    {
+        let (held, mut holder) = self.holding(rt);
+        assert!(rt; held.query.is_some() && held.noted == 0);
+        assert!(rt; 0 < k && k <= STAGES && held.stage <= STAGES - k);
+        self.station.note_done(&mut holder, k, steps);
+        self.hand = Hand::Holder(holder);
+        Act::NoteDone(k)
+    }
+
+    fn set_total<L: Ledger>(&mut self, rt: &impl Abort, total: u32, steps: &mut Steps<L>) -> Act
+        requires { IsReady S.seen self.old }
+        ensures { KeepsOrigin S.seen self.old self.new }
+    {
+        let (held, mut holder) = self.holding(rt);
+        assert!(rt; held.query.is_some() && total <= MOST_TOTAL);
+        self.station.set_total(&mut holder, total, steps);
+        self.hand = Hand::Holder(holder);
+        Act::SetTotal(total)
+    }
+
+    /// Opens the slot with a task set of the subject. Every cell has a piece of it before.
+    fn install<L: Ledger>(&mut self, rt: &impl Abort, id: u32, steps: &mut Steps<L>) -> Act
+        requires { IsReady S.seen self.old }
+        ensures { KeepsOrigin S.seen self.old self.new }
+    {
+        let (held, mut holder) = self.holding(rt);
+        assert!(rt; id == next_of(rt, &held));
+        assert!(rt; held.total.is_some());
+        assert!(rt; held.total == self.sets.total(id));
+        if held.again {
+            assert!(rt; held.noted == 1);
+            assert!(rt; held.stage < STAGES - 1);
+        }
+        put_all(self.station, &mut holder, Some(id), steps);
+        let announcer = self.station.install(holder, id, steps);
+        self.hand = Hand::Announcer(announcer);
+        Act::Install(id)
+    }
+
+    /// Leaves the slot empty. Every value is taken out of its cells before.
+    fn release<L: Ledger>(&mut self, rt: &impl Abort, steps: &mut Steps<L>) -> Act
+        requires { IsReady S.seen self.old }
+        ensures { KeepsOrigin S.seen self.old self.new }
+    {
+        let (held, mut holder) = self.holding(rt);
+        assert!(rt; held.query.is_none() || 0 < held.noted);
+        put_all(self.station, &mut holder, None, steps);
+        self.station.release(holder, steps);
+        Act::Release
+    }
+
+    /// Tells the next worker, and ends the telling with the last.
+    fn tell<L: Ledger>(&mut self, rt: &impl Abort, steps: &mut Steps<L>) -> Act
+        requires { IsReady S.seen self.old }
+        ensures { KeepsOrigin S.seen self.old self.new }
+    {
+        let Hand::Announcer(mut announcer) = self.take_hand() else {
+            panic!(rt; "the worker does not announce");
+        };
+        let workers = self.station.workers();
+        assert!(rt; announcer.told < workers);
+        self.station.announce(&mut announcer, steps);
+        if announcer.told < workers {
+            self.hand = Hand::Announcer(announcer);
+        } else {
+            self.station.told_all(announcer);
+        }
+        Act::Announce
+    }
+
+    fn take_return<L: Ledger>(&mut self, rt: &impl Abort, part: u32, steps: &mut Steps<L>) -> Act
+        ensures { KeepsOrigin S.seen self.old self.new }
+    {
+        assert!(rt; part < PARTS);
+        Act::TakeReturn(part, self.station.take_return(part, steps))
+    }
+
+    fn take_change<L: Ledger>(&mut self, rt: &impl Abort, part: u32, steps: &mut Steps<L>) -> Act
+        ensures { KeepsOrigin S.seen self.old self.new }
+    {
+        assert!(rt; part < PARTS);
+        Act::TakeChange(part, self.station.take_change(part, steps))
+    }
+
+    /// What the worker has in hand. It has nothing in hand then.
+    fn take_hand(&mut self) -> Hand
+        ensures hand { result ≡ self.old.hand }
+        ensures station { self.new.station ≡ self.old.station }
+        ensures place { self.new.place ≡ self.old.place }
+        ensures sets { self.new.sets.now ≡ self.old.sets.now }
+    {
+        mem::replace(&mut self.hand, Hand::Nothing)
     }
 }
 
@@ -186,202 +376,6 @@ fn keep_own<S: Station<Piece>, L: Ledger>(station: &mut S, place: &Place, steps:
     }
 }
 
-/// Leaves the slot. The worker's own cell has a piece of the task set before, where it is inside.
-pub(crate) fn leave<S: Station<Piece>, L: Ledger>(
-    rt: &impl Abort,
-    station: &mut S,
-    place: &Place,
-    hand: Hand,
-    steps: &mut Steps<L>,
-) -> (Act, Hand)
-    requires { place.now ≡ own_place (S.seen station.old) }
-    ensures { (S.seen station.new).origin ≡ (S.seen station.old).origin }
-{
-    assert!(rt; may_leave(place));
-    keep_own(station, place, steps);
-    let leave = station.leave(steps);
-    let act = leave.act();
-    match leave {
-        Leave::Left => (act, hand),
-        Leave::Owe(debt) => (act, Hand::Debt(debt)),
-    }
-}
-
-pub(crate) fn pay<S: Station<Piece>, L: Ledger>(
-    rt: &impl Abort,
-    station: &mut S,
-    place: &Place,
-    hand: Hand,
-    steps: &mut Steps<L>,
-) -> (Act, Hand)
-    requires { place.now ≡ own_place (S.seen station.old) }
-    ensures { (S.seen station.new).origin ≡ (S.seen station.old).origin }
-{
-    let (Place::Owing(slot, id), Hand::Debt(debt)) = (*place, hand) else {
-        panic!(rt; "the worker owes nothing");
-    };
-    let worker = station.worker();
-    assert_eq!(rt; debt, Debt { worker, slot, id });
-    let pay = station.pay(debt, steps);
-    let act = pay.act();
-    match pay {
-        Pay::Last(holder) => (act, Hand::Holder(holder)),
-        Pay::Done => (act, Hand::Nothing),
-    }
-}
-
-pub(crate) fn mark<S: Station<Piece>, L: Ledger>(
-    rt: &impl Abort,
-    station: &mut S,
-    place: &Place,
-    hand: Hand,
-    steps: &mut Steps<L>,
-) -> (Act, Hand)
-    requires { place.now ≡ own_place (S.seen station.old) }
-    ensures { (S.seen station.new).origin ≡ (S.seen station.old).origin }
-{
-    let (Place::Asking(slot, id, asked, marked), Hand::Coordinator(mut coordinator)) = (
-        *place, hand,
-    ) else {
-        panic!(rt; "the worker does not ask");
-    };
-    let worker = station.worker();
-    let workers = station.workers();
-    assert_eq!(rt;
-        coordinator,
-        Coordinator {
-            worker,
-            slot,
-            id,
-            workers,
-            asked,
-            marked,
-        }
-    );
-    assert!(rt; asked < workers - 1);
-    let mark = station.mark_next(&mut coordinator, steps);
-    (mark.act(), Hand::Coordinator(coordinator))
-}
-
-pub(crate) fn sweep<S: Station<Piece>, L: Ledger>(
-    rt: &impl Abort,
-    station: &mut S,
-    place: &Place,
-    hand: Hand,
-    steps: &mut Steps<L>,
-) -> (Act, Hand)
-    requires { place.now ≡ own_place (S.seen station.old) }
-    ensures { (S.seen station.new).origin ≡ (S.seen station.old).origin }
-{
-    let (Place::Asking(slot, id, asked, marked), Hand::Coordinator(coordinator)) = (*place, hand)
-    else {
-        panic!(rt; "the worker does not ask");
-    };
-    let worker = station.worker();
-    let workers = station.workers();
-    assert_eq!(rt;
-        coordinator,
-        Coordinator {
-            worker,
-            slot,
-            id,
-            workers,
-            asked,
-            marked,
-        }
-    );
-    assert!(rt; asked == workers - 1);
-    let sweep = station.sweep(coordinator, steps);
-    let act = sweep.act();
-    match sweep {
-        Sweep::Last(holder) => (act, Hand::Holder(holder)),
-        Sweep::Others(_) => (act, Hand::Nothing),
-    }
-}
-
-pub(crate) fn reserve<S: Station<Piece>, L: Ledger>(
-    rt: &impl Abort,
-    station: &mut S,
-    place: &Place,
-    s: u32,
-    steps: &mut Steps<L>,
-) -> (Act, Hand)
-    requires { place.now ≡ own_place (S.seen station.old) }
-    ensures { (S.seen station.new).origin ≡ (S.seen station.old).origin }
-{
-    let Place::Free = *place else {
-        panic!(rt; "the worker is not free");
-    };
-    let slots = station.slots();
-    assert!(rt; s < slots);
-    let reserve = station.reserve(s, steps);
-    let act = reserve.act(s);
-    match reserve {
-        Reserve::Got(holder) => (act, Hand::Holder(holder)),
-        Reserve::Taken(_) => (act, Hand::Nothing),
-    }
-}
-
-/// What the worker holds, with the token in its hand.
-fn held_as<S: Station<Piece>>(
-    rt: &impl Abort,
-    station: &S,
-    place: &Place,
-    hand: Hand,
-) -> (Held, Holder)
-    requires { place.now ≡ own_place (S.seen station.now) }
-    ensures held { result.0 ≡ own_holding (S.seen station.now) }
-    ensures holder { Owns IsHolder (S.seen station.now) result.1 }
-    ensures query { result.1.query ≡ result.0.query }
-    ensures stage { result.1.stage ≡ result.0.stage }
-{
-    let (Place::Holding(slot, held), Hand::Holder(holder)) = (*place, hand) else {
-        panic!(rt; "the worker holds no slot");
-    };
-    let worker = station.worker();
-    let Held {
-        query,
-        stage,
-        again,
-        ..
-    } = held;
-    assert_eq!(rt;
-        holder,
-        Holder {
-            worker,
-            slot,
-            query,
-            stage,
-            again,
-        }
-    );
-    (held, holder)
-}
-
-pub(crate) fn admit<S: Station<Piece>, L: Ledger>(
-    rt: &impl Abort,
-    station: &mut S,
-    place: &Place,
-    sets: &Sets,
-    hand: Hand,
-    q: u32,
-    steps: &mut Steps<L>,
-) -> (Act, Hand)
-    requires place { place.now ≡ own_place (S.seen station.old) }
-    requires subject { sets.now ≡ (S.seen station.old).desk.subject }
-    ensures { (S.seen station.new).origin ≡ (S.seen station.old).origin }
-{
-    let (_, mut holder) = held_as(rt, station, place, hand);
-    let None = holder.query else {
-        panic!(rt; "a query was admitted");
-    };
-    // it says that the object has the subject's queries
-    let _slots = station.slots();
-    assert!(rt; q < sets.queries);
-    let admit = station.admit(&mut holder, q, steps);
-    (admit.act(q), Hand::Holder(holder))
-}
-
 /// The task set that a holder may install next.
 fn next_of(rt: &impl Abort, held: &Held) -> u32
     ensures query { IsSome held.now.query }
@@ -397,45 +391,6 @@ fn next_of(rt: &impl Abort, held: &Held) -> u32
     } else {
         STAGES * q
     }
-}
-
-pub(crate) fn note_done<S: Station<Piece>, L: Ledger>(
-    rt: &impl Abort,
-    station: &mut S,
-    place: &Place,
-    hand: Hand,
-    k: u32,
-    steps: &mut Steps<L>,
-) -> (Act, Hand)
-    requires { place.now ≡ own_place (S.seen station.old) }
-    ensures { (S.seen station.new).origin ≡ (S.seen station.old).origin }
-{
-    let (held, mut holder) = held_as(rt, station, place, hand);
-    assert!(rt; held.query.is_some());
-    assert!(rt; held.noted == 0);
-    assert!(rt; 0 < k);
-    assert!(rt; k <= STAGES);
-    assert!(rt; held.stage <= STAGES - k);
-    station.note_done(&mut holder, k, steps);
-    (Act::NoteDone(k), Hand::Holder(holder))
-}
-
-pub(crate) fn set_total<S: Station<Piece>, L: Ledger>(
-    rt: &impl Abort,
-    station: &mut S,
-    place: &Place,
-    hand: Hand,
-    total: u32,
-    steps: &mut Steps<L>,
-) -> (Act, Hand)
-    requires { place.now ≡ own_place (S.seen station.old) }
-    ensures { (S.seen station.new).origin ≡ (S.seen station.old).origin }
-{
-    let (held, mut holder) = held_as(rt, station, place, hand);
-    assert!(rt; held.query.is_some());
-    assert!(rt; total <= MOST_TOTAL);
-    station.set_total(&mut holder, total, steps);
-    (Act::SetTotal(total), Hand::Holder(holder))
 }
 
 /// Puts a piece of this task set, or of none nothing, into every cell of the slot that is held.
@@ -458,109 +413,4 @@ fn put_all<S: Station<Piece>, L: Ledger>(
         let piece = id.map(|id| Piece { worker, id });
         station.cell(holder, worker, piece, steps);
     }
-}
-
-/// Opens the slot with a task set of the subject. Every cell has a piece of it before.
-pub(crate) fn install<S: Station<Piece>, L: Ledger>(
-    rt: &impl Abort,
-    station: &mut S,
-    place: &Place,
-    sets: &Sets,
-    hand: Hand,
-    id: u32,
-    steps: &mut Steps<L>,
-) -> (Act, Hand)
-    requires place { place.now ≡ own_place (S.seen station.old) }
-    requires subject { sets.now ≡ (S.seen station.old).desk.subject }
-    ensures { (S.seen station.new).origin ≡ (S.seen station.old).origin }
-{
-    let (held, mut holder) = held_as(rt, station, place, hand);
-    assert!(rt; id == next_of(rt, &held));
-    assert!(rt; held.total.is_some());
-    assert!(rt; held.total == sets.total(id));
-    if held.again {
-        assert!(rt; held.noted == 1);
-        assert!(rt; held.stage < STAGES - 1);
-    }
-    put_all(station, &mut holder, Some(id), steps);
-    let announcer = station.install(holder, id, steps);
-    (Act::Install(id), Hand::Announcer(announcer))
-}
-
-/// Leaves the slot empty. Every value is taken out of its cells before.
-pub(crate) fn release<S: Station<Piece>, L: Ledger>(
-    rt: &impl Abort,
-    station: &mut S,
-    place: &Place,
-    hand: Hand,
-    steps: &mut Steps<L>,
-) -> Act
-    requires { place.now ≡ own_place (S.seen station.old) }
-    ensures { (S.seen station.new).origin ≡ (S.seen station.old).origin }
-{
-    let (held, mut holder) = held_as(rt, station, place, hand);
-    assert!(rt; held.query.is_none() || 0 < held.noted);
-    put_all(station, &mut holder, None, steps);
-    station.release(holder, steps);
-    Act::Release
-}
-
-/// Tells the next worker, and ends the telling with the last.
-pub(crate) fn tell<S: Station<Piece>, L: Ledger>(
-    rt: &impl Abort,
-    station: &mut S,
-    place: &Place,
-    hand: Hand,
-    steps: &mut Steps<L>,
-) -> (Act, Hand)
-    requires { place.now ≡ own_place (S.seen station.old) }
-    ensures { (S.seen station.new).origin ≡ (S.seen station.old).origin }
-{
-    let (Place::Announcing(slot, again, told), Hand::Announcer(mut announcer)) = (*place, hand)
-    else {
-        panic!(rt; "the worker does not announce");
-    };
-    let worker = station.worker();
-    let workers = station.workers();
-    assert_eq!(rt;
-        announcer,
-        Announcer {
-            worker,
-            slot,
-            workers,
-            told,
-            again,
-        }
-    );
-    assert!(rt; told < workers);
-    station.announce(&mut announcer, steps);
-    if announcer.told < workers {
-        return (Act::Announce, Hand::Announcer(announcer));
-    }
-    station.told_all(announcer);
-    (Act::Announce, Hand::Nothing)
-}
-
-pub(crate) fn take_return<S: Station<Piece>, L: Ledger>(
-    rt: &impl Abort,
-    station: &mut S,
-    part: u32,
-    steps: &mut Steps<L>,
-) -> Act
-    ensures { (S.seen station.new).origin ≡ (S.seen station.old).origin }
-{
-    assert!(rt; part < PARTS);
-    Act::TakeReturn(part, station.take_return(part, steps))
-}
-
-pub(crate) fn take_change<S: Station<Piece>, L: Ledger>(
-    rt: &impl Abort,
-    station: &mut S,
-    part: u32,
-    steps: &mut Steps<L>,
-) -> Act
-    ensures { (S.seen station.new).origin ≡ (S.seen station.old).origin }
-{
-    assert!(rt; part < PARTS);
-    Act::TakeChange(part, station.take_change(part, steps))
 }

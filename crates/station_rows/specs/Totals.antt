@@ -1,0 +1,6 @@
+-- The totals of the task sets that the tests play.
+use Rattle.std.specs.Prelude.{ℕ, eqb, List, Option, option_map, find}
+
+-- the total of a task set, by a list of ids and totals
+abbrev pub total_in : List (ℕ × ℕ) → ℕ → Option ℕ
+total_in totals id = option_map (λ set. set.1) (find (λ set. eqb set.0 id) totals)

@@ -1,0 +1,39 @@
+//! What the tests' tables serve: task sets that are given by their totals, and cells of pieces.
+ghost use Rattle.std.specs.Prelude.{◌≡◌};
+ghost use Rattle.station_rows.specs.Totals.{total_in};
+
+use slot_station::station::Fits;
+
+/// A cell's value: whose it is, and of which task set.
+#[derive(Drop)]
+pub(crate) struct Piece {
+    pub(crate) worker: u32,
+    pub(crate) id: u32,
+}
+
+/// A subject: how many queries there are, and the ids of the task sets with their totals.
+#[derive(Drop)]
+pub(crate) struct Sets {
+    pub(crate) queries: u32,
+    pub(crate) totals: Vec<(u32, u32)>,
+}
+
+impl Fits for Piece {
+    type Subject = Sets;
+
+    ghost queries = { λ s. s.queries };
+
+    ghost total = { λ s. total_in s.totals.items };
+
+    ghost fits = { λ s w id ranges p. (p.worker ≡ w) × (p.id ≡ id) };
+}
+
+impl Sets {
+    /// The total of a task set.
+    pub(crate) fn total(&self, id: u32) -> Option<u32>
+        ensures { result ≡ total_in self.now.totals.items id }
+    {
+        let set = self.totals.iter().find(|set| set.0 == id)?;
+        Some(set.1)
+    }
+}

@@ -1,17 +1,13 @@
 -- How a table grows row by row.
-use Rattle.std.proofs.Common.{◌≡◌, ◌≢◌, ℕ, List, [], ◌∷◌, ◌++◌, length, map, refl, sym, ap, ◌∙◌, arith}
-use Rattle.std.proofs.lemmas.List.{append-nil, append_assoc, length-map, length_push, map-append}
+use Rattle.std.proofs.Common.{◌≡◌, ◌≢◌, ℕ, List, [], ◌∷◌, ◌++◌, length, map, sym, ap, ◌∙◌, arith}
+use Rattle.std.proofs.lemmas.List.{append_assoc, length-map, length_push, map-append}
 use Rattle.std.proofs.lemmas.List.Elements.{All-push}
-use Rattle.col_table.specs.NamedRows.{IsTable, NamedRows, with_row}
+use Rattle.col_table.specs.NamedRows.{NamedRows, with_row}
 use Rattle.col_table.specs.declared.table.TheConstants.{MAX_ROWS}
 use Rattle.csv_tables.specs.Loading.{GrowsBy, IsRow}
 use Rattle.csv_tables.specs.Numbers.{number_of}
 
--- a table grows by no record to itself
-pub grows_none : (table : NamedRows) → IsTable table → GrowsBy table [] table
-grows_none table shape = record { names = refl; lines = λ k d h. absurd (omega arith); rows = sym (append-nil table.rows); shape = shape }
-
--- and by one record more to the table with one row more
+-- a table that grew by records grows by one more to the table with one row more
 pub grows_more : (old table : NamedRows) (records : List (List (List ℕ))) (fields : List (List ℕ)) → GrowsBy old records table → IsRow (length old.names) fields
     → length table.rows ≢ MAX_ROWS
     → GrowsBy old (records ++ fields ∷ []) (with_row table (map number_of fields))

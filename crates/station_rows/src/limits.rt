@@ -6,7 +6,7 @@ use crate::form::Form;
 use crate::subject::{Piece, Sets};
 use plain_slots::table::PlainTable;
 use slot_proto::proto::Proto;
-use slot_station::ghost_list::History;
+use slot_station::History;
 use slot_station::reply::MakeRefusal;
 use std::alloc::Global;
 use std::process::Abort;

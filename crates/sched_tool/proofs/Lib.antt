@@ -3,6 +3,7 @@ mod CommandLemmas
 mod CompletenessLemmas
 mod EndingLemmas
 mod FaultLemmas
+mod GrammarLemmas
 mod MakeLemmas
 mod OutsideLemmas
 mod QueriesLemmas

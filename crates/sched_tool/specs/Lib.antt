@@ -2,6 +2,8 @@ pub mod Behaviours
 pub mod Commands
 pub mod Endings
 pub mod ErrorLines
+pub mod Grammar
+pub mod Lines
 pub mod Outsides
 pub mod Programs
 pub mod ReadFaults

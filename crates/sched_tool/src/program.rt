@@ -16,6 +16,7 @@ mod command;
 mod error_lines;
 mod given;
 mod laws;
+mod line;
 mod make;
 mod output;
 mod refusal;

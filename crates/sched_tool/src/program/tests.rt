@@ -112,32 +112,85 @@ fn answers(rt: &(impl Abort + AllocGlobal), cases: &[(&str, &str, &str)]) -> Res
 
 #[test]
 fn reads_words(rt: HostRuntime) -> Result<(), Fail> {
-    let usage = "error: usage\n";
-    let cases: [(&[&str], u8, &str); 20] = [
+    let cases: [(&[&str], u8, &str); 10] = [
         (&["check", "s.json"], 0, ANSWER),
-        (&[], 2, usage),
-        (&["check"], 2, usage),
-        (&["check", "s.json", "s.json"], 2, usage),
-        (&["check", ""], 2, usage),
-        (&["check", "-s.json"], 2, usage),
-        (&["turns", "s.json"], 2, usage),
+        (&["check", "--", "s.json"], 0, ANSWER),
+        (&["check", "s.json", "--"], 0, ANSWER),
         (&["check", "-"], 3, "error: cannot read -\n"),
-        (&["make"], 2, usage),
-        (&["make", "7"], 2, usage),
-        (&["make", "7", "T"], 2, usage),
-        (&["make", "7", "t.csv"], 2, usage),
-        (&["make", "7", "u", "u"], 2, usage),
-        (&["make", "", "u"], 2, usage),
-        (&["make", "+7", "u"], 2, usage),
-        (&["make", "-7", "u"], 2, usage),
-        (&["make", "7 ", "u"], 2, usage),
-        (&["make", "00000000007", "u"], 2, usage),
-        (&["make", "4294967296", "u"], 2, usage),
-        (&["Make", "7", "u"], 2, usage),
+        (&["check", "--", "--"], 3, "error: cannot read --\n"),
+        (&["check", "--", "-x"], 3, "error: cannot read -x\n"),
+        (
+            &["check", "--", "--slots=1"],
+            3,
+            "error: cannot read --slots=1\n",
+        ),
+        (&["check", "--", "-"], 3, "error: cannot read -\n"),
+        (&["check", "a b"], 3, "error: cannot read a b\n"),
+        (&["check", "s.json="], 3, "error: cannot read s.json=\n"),
     ];
     for (words, status, text) in cases {
         let mut files = files_of(rt.alloc(), SCRIPT.as_bytes(), TABLE.as_bytes(), &[])?;
         ends(&rt, words, &mut files, ALL_WRITES, status, text)?;
+    }
+    Ok(())
+}
+
+// Words outside the grammar: of no command, of `check`, of `make`, and of commands that aren't
+// built.
+#[test]
+fn refuses_words(rt: HostRuntime) -> Result<(), Fail> {
+    let cases: [&[&str]; 47] = [
+        &[],
+        &[""],
+        &["-"],
+        &["--"],
+        &["--help"],
+        &["Check", "s.json"],
+        &["check ", "s.json"],
+        &["--", "check", "s.json"],
+        &["--workers", "1", "check", "s.json"],
+        &["check"],
+        &["check", ""],
+        &["check", "--"],
+        &["check", "---"],
+        &["check", "-s.json"],
+        &["check", "-h"],
+        &["check", "--help"],
+        &["check", "s.json", "s.json"],
+        &["check", "s.json", ""],
+        &["check", "s.json", "--", "--"],
+        &["check", "s.json", "--workers", "1"],
+        &["check", "--workers=1", "s.json"],
+        &["check", "--slots", "1", "--order=0", "s.json"],
+        &["check", "--workers", "s.json"],
+        &["check", "--workers", "--", "s.json"],
+        &["make"],
+        &["make", "7"],
+        &["make", "7", "--"],
+        &["make", "7", "T"],
+        &["make", "7", "t.csv"],
+        &["make", "7", ""],
+        &["make", "7", "u", "u"],
+        &["make", "", "u"],
+        &["make", "+7", "u"],
+        &["make", "-7", "u"],
+        &["make", "--", "-7", "u"],
+        &["make", "7 ", "u"],
+        &["make", "7.0", "u"],
+        &["make", "0x7", "u"],
+        &["make", "\u{667}", "u"],
+        &["make", "00000000007", "u"],
+        &["make", "4294967296", "u"],
+        &["make", "9999999999", "u"],
+        &["make", "7", "u", "--slots", "1"],
+        &["turns", "s.json"],
+        &["turns", "s.json", "--workers", "1"],
+        &["steps", "s.json", "--workers=1", "--order=0"],
+        &["run", "s.json", "--workers", "1"],
+    ];
+    for words in cases {
+        let mut files = files_of(rt.alloc(), SCRIPT.as_bytes(), TABLE.as_bytes(), &[])?;
+        ends(&rt, words, &mut files, ALL_WRITES, 2, "error: usage\n")?;
     }
     Ok(())
 }
@@ -156,7 +209,9 @@ fn add_part(
 ) -> Result<(), Fail> {
     let alloc = rt.alloc();
     let mut words = Vec::new(alloc);
-    words.push(String::from_str(alloc, "make")?)?;
+    for word in ["make", "--"] {
+        words.push(String::from_str(alloc, word)?)?;
+    }
     words.push(String::from_str(alloc, number)?)?;
     words.push(String::from_str(alloc, part)?)?;
     let mut files = MemFiles::new(alloc, Vec::new(alloc));
@@ -522,9 +577,8 @@ fn refuses_a_row_too_many(rt: HostRuntime) -> Result<(), Fail> {
 // A script that sums one column of one table.
 fn sum_script(alloc: Global, table: &str, file: &str, column: &str) -> Result<String, AllocError> {
     let entry = format!(in alloc; "{{\"name\":\"{table}\",\"file\":\"{file}\"}}")?;
-    let query = format!(in alloc;
-        "{{\"scan\":\"{table}\",\"output\":{{\"totals\":[{{\"fn\":\"sum\",\"col\":\"{column}\"}}]}}}}"
-    )?;
+    let output = format!(in alloc; "{{\"totals\":[{{\"fn\":\"sum\",\"col\":\"{column}\"}}]}}")?;
+    let query = format!(in alloc; "{{\"scan\":\"{table}\",\"output\":{output}}}")?;
     script_of(alloc, entry.as_str(), query.as_str())
 }
 
@@ -552,7 +606,8 @@ fn limits_the_bytes_of_names(rt: HostRuntime) -> Result<(), Fail> {
     Ok(())
 }
 
-// Names with characters of two and three bytes, and with U+0080, which is no ASCII control character.
+// Names with characters of two and three bytes, and with U+0080, which is no control character of
+// ASCII.
 #[test]
 fn takes_names_of_many_bytes(rt: HostRuntime) -> Result<(), Fail> {
     let alloc = rt.alloc();

@@ -2,9 +2,11 @@
 ghost use Rattle.std.specs.Prelude.{◌≡◌, None, Some, MatchOption};
 ghost use Rattle.std.specs.Char.{is_ascii_digit};
 ghost use Rattle.std.specs.List.{list_all};
-ghost use Rattle.sched_tool.specs.Words.{is_file_word, make_of, number_of, part_of};
+ghost use Rattle.sched_tool.specs.Lines.{seen, text_of};
+ghost use Rattle.sched_tool.specs.Words.{check_of, make_of, meaning_in, number_of, part_of};
 ghost use Rattle.sched_tool.specs.Commands.{asked, asked_by};
 
+use super::line::{Line, read_line};
 use load_gen::Part;
 
 /// What the program is asked for.
@@ -16,29 +18,54 @@ pub enum Command<'a> {
     Make(u32, Part),
 }
 
-/// Reads the words after the program's name: `check` and a file, which has at least one byte and is
-/// `-` or does not begin with `-`; or `make`, a number from 0 to 4,294,967,295 of at most ten
-/// decimal digits, and one of `script`, `t` and `u`. All other lists of words are outside the
-/// grammar. It never allocates.
+/// Reads the words after the program's name: the command first, then those that its line in the
+/// grammar has. All other lists of words are outside the grammar. It never allocates.
+///
+/// ```text
+/// check SCRIPT            SCRIPT has at least one byte
+/// make NUMBER PART        NUMBER is at most 4,294,967,295, in one to ten digits;
+///                         PART is `script`, `t` or `u`
+/// ```
 pub fn read_words(words: &[String]) -> Option<Command<'_>>
     ensures { MatchOption result (asked words.now ≡ None)
         (λ command. asked words.now ≡ Some (asked_by command)) }
 {
     match words {
-        [command, file] if command.as_str() == "check" && is_file_word(file.as_str()) => {
-            Some(Command::Check(file.as_str()))
-        }
-        [command, number, part] if command.as_str() == "make" => {
-            read_make(number.as_str(), part.as_str())
-        }
+        [] => None,
+        [command, rest @ ..] => read_command(command.as_str(), read_line(rest)?),
+    }
+}
+
+// Reads a command with what the words after it give.
+fn read_command<'a>(command: &str, line: Line<'a>) -> Option<Command<'a>>
+    ensures { MatchOption result (meaning_in command.now (seen line.entry) ≡ None)
+        (λ told. meaning_in command.now (seen line.entry) ≡ Some (asked_by told)) }
+{
+    if line.workers.is_some() || line.slots.is_some() || line.order.is_some() {
+        return None;
+    }
+    match command {
+        "check" => read_check(line.first, line.second),
+        "make" => read_make(line.first?, line.second?),
+        _ => None,
+    }
+}
+
+// Reads the words of `check`.
+fn read_check<'a>(file: Option<&'a str>, more: Option<&'a str>) -> Option<Command<'a>>
+    ensures { let meaning = check_of (text_of file.entry) (text_of more.entry) in
+        MatchOption result (meaning ≡ None) (λ told. meaning ≡ Some (asked_by told)) }
+{
+    match (file, more) {
+        (Some(file), None) if !file.is_empty() => Some(Command::Check(file)),
         _ => None,
     }
 }
 
 // Reads the number and the part of `make`.
 fn read_make<'a>(number: &str, part: &str) -> Option<Command<'a>>
-    ensures { MatchOption result (make_of number.now part.now ≡ None)
-        (λ command. make_of number.now part.now ≡ Some (asked_by command)) }
+    ensures { let meaning = make_of (Some number.now) (Some part.now) in
+        MatchOption result (meaning ≡ None) (λ told. meaning ≡ Some (asked_by told)) }
 {
     let number = number_of(number, 10, u32::MAX)?;
     let part = part_of(part)?;
@@ -86,14 +113,4 @@ fn are_digits(text: &[u8]) -> bool
         }
     }
     true
-}
-
-// Whether a word may name a file.
-fn is_file_word(word: &str) -> bool
-    ensures { result ≡ is_file_word word.now }
-{
-    match word.as_bytes() {
-        [] => false,
-        [first, rest @ ..] => *first != b'-' || rest.is_empty(),
-    }
 }

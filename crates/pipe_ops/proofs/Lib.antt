@@ -3,10 +3,14 @@ pub mod BuildLemmas
 pub mod EmptyLemmas
 pub mod FoldingLemmas
 pub mod GroupingLemmas
+pub mod HoldsLemmas
 pub mod InputsLemmas
 pub mod JoinRowLemmas
 pub mod JoiningLemmas
 pub mod MembersLemmas
+pub mod MergeRangeLemmas
+pub mod MergeTuplesLemmas
+pub mod MergingLemmas
 pub mod PermutationLemmas
 pub mod PlacedLemmas
 pub mod RowsLemmas

@@ -2,8 +2,10 @@ pub mod Folding
 pub mod Grouping
 pub mod Inputs
 pub mod Joining
+pub mod Merging
 pub mod Placed
 pub mod StageFolds
+pub mod StageLaws
 pub mod StagePlaces
 pub mod StageResults
 pub mod Taking

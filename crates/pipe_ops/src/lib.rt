@@ -13,6 +13,10 @@ mod builds;
 mod groups;
 mod inputs;
 mod joins;
+mod laws;
+mod merge_ranges;
+mod merged_groups;
+mod merging;
 mod outputs;
 mod plain;
 mod results;
@@ -23,6 +27,7 @@ mod takes;
 
 pub use acc::Acc;
 pub use inputs::Inputs;
+pub use laws::holds_fold;
 pub use plain::plain_answer;
 pub use results::StageResult;
 

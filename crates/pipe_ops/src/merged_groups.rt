@@ -1,0 +1,108 @@
+// The groups that the accumulators of a merge have together.
+ghost use Rattle.std.specs.Prelude.{◌≡◌, ◌<◌, ◌++◌, IfOk, IsPermutation, IsSortedBy, OnOk, flat_map, length, map};
+ghost use Rattle.std.specs.Cmp.Lexicographic.{slice_cmp};
+ghost use Rattle.std.specs.Ordering.{int_cmp, is_lt};
+ghost use Rattle.plan_ast.specs.Bounds.{IsWithin};
+ghost use Rattle.pipe_ops.specs.Grouping.{group_in};
+ghost use Rattle.pipe_ops.specs.Merging.{group_at, groups_in, held_groups, key_values};
+
+use crate::acc::Acc;
+use crate::groups::{Entry, as_groups, sort_by_key};
+use build_sides::{GroupSide, Key};
+use col_table::ListOf;
+use plan_ast::Group;
+use std::alloc::{AllocError, Global};
+
+/// The groups of all accumulators, in ascending order of their keys, which have `width` values
+/// each.
+pub(crate) fn merged_groups(
+    alloc: Global,
+    width: usize,
+    accs: Vec<Acc>,
+) -> Result<Vec<Group>, AllocError>
+    requires width { IsWithin 1 2 width }
+    ensures moved { IfOk result (λ groups.
+        IsPermutation (flat_map (held_groups width) accs.items) groups.items) }
+    ensures sorted { IfOk result (λ groups.
+        IsSortedBy (λ one other. is_lt (slice_cmp int_cmp one.key other.key)) groups.items) }
+{
+    let mut entries = all_groups(alloc, width, accs)?;
+    sort_by_key(&mut entries);
+    as_groups(alloc, entries)
+}
+
+// The groups of all accumulators.
+fn all_groups(alloc: Global, width: usize, accs: Vec<Acc>) -> Result<Vec<Entry>, AllocError>
+    requires width { IsWithin 1 2 width }
+    ensures { IfOk result (λ entries.
+        map group_in entries.items ≡ flat_map (held_groups width) accs.items) }
+{
+    let mut entries = Vec::new(alloc);
+    for acc in accs {
+        add_groups(alloc, width, &acc, &mut entries)?;
+    }
+    Ok(entries)
+}
+
+// Adds the groups of an accumulator.
+fn add_groups(
+    alloc: Global,
+    width: usize,
+    acc: &Acc,
+    entries: &mut Vec<Entry>,
+) -> Result<(), AllocError>
+    requires width { IsWithin 1 2 width }
+    ensures { OnOk result (map group_in entries.new.items
+        ≡ map group_in entries.old.items ++ held_groups width acc.now) }
+{
+    match acc {
+        Acc::Merge(side) => add_entries(alloc, width, side, entries),
+        _ => Ok(()),
+    }
+}
+
+// Adds the groups of a side.
+fn add_entries(
+    alloc: Global,
+    width: usize,
+    side: &GroupSide,
+    entries: &mut Vec<Entry>,
+) -> Result<(), AllocError>
+    requires width { IsWithin 1 2 width }
+    ensures { OnOk result (map group_in entries.new.items
+        ≡ map group_in entries.old.items ++ groups_in width side.now) }
+{
+    entries.reserve(side.len())?;
+    for number in 0..side.len() {
+        entries.push(entry_of(alloc, width, side, number)?)?;
+    }
+    Ok(())
+}
+
+// The group of a side with this number.
+fn entry_of(
+    alloc: Global,
+    width: usize,
+    side: &GroupSide,
+    number: usize,
+) -> Result<Entry, AllocError>
+    requires width { IsWithin 1 2 width }
+    requires number { number < length side.now.keys }
+    ensures { IfOk result (λ entry. group_in entry ≡ group_at width side.now number) }
+{
+    let key = values_of_key(alloc, width, side.key(number))?;
+    let mut totals = Vec::with_capacity(alloc, side.aggregates())?;
+    for place in 0..side.aggregates() {
+        totals.push(side.total(number, place))?;
+    }
+    Ok(Entry { key, totals })
+}
+
+// The one or two values of a key.
+fn values_of_key(alloc: Global, width: usize, key: Key) -> Result<ListOf<i64>, AllocError>
+    requires { IsWithin 1 2 width }
+    ensures { IfOk result (λ values. values ≡ key_values width key) }
+{
+    let values = [key.first, key.second];
+    Ok(ListOf::of(Vec::from_slice(alloc, &values[..width])?))
+}

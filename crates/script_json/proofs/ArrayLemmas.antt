@@ -1,16 +1,14 @@
 -- Arrays and their items.
-use Rattle.std.proofs.Common.{◌≡◌, ℕ, suc, ◌+◌, ◌<◌, ◌≤◌, List, [], ◌∷◌, ◌++◌, length, drop, get_or, true, false, nat_lt, Some, Ok, Err, refl, sym, ap, ◌∙◌}
-use Rattle.std.proofs.Common.{arith, rules, add-one, drop-cons}
-use Rattle.serde_json.specs.Data.{Data, item}
+use Rattle.std.proofs.Common.{◌≡◌, ℕ, ◌<◌, ◌≤◌, List, [], ◌∷◌, length, get_or, true, false, nat_lt, Some, Ok, Err, refl, sym}
+use Rattle.std.proofs.Common.{arith, rules}
+use Rattle.serde_json.specs.Data.{Data}
 use Rattle.serde_json.specs.Events.{items_len}
 use Rattle.serde_json.specs.Find.{as_array}
 use Rattle.serde_json.specs.View.{items_view, view}
 use Rattle.serde_json.specs.declared.value.Value.{Value}
 use Rattle.serde_json.proofs.Views.{items_len-items_view}
-use Rattle.script_json.specs.Forms.{Form, each, items_of, too_many, under, wrong_shape}
+use Rattle.script_json.specs.Forms.{items_of, too_many, wrong_shape}
 use Rattle.script_json.specs.Format.{joined_column, reference_among}
-use Rattle.script_json.specs.declared.refusal.PathStep.TheVariants.{At}
-use Rattle.script_json.specs.declared.refusal.ScriptRefusal.{ScriptRefusal}
 
 pub items_of-long : (least most : ℕ) (value : Data) (vs : List Value)
     → Some (items_view vs) ≡ as_array value → most < length vs → items_of least most value ≡ Err too_many
@@ -31,25 +29,6 @@ items_of-within least most value vs is few some =
     let f : nat_lt most (items_len (items_view vs)) ≡ false = rw (items_len-items_view vs) (search (rules)) in
     let g : nat_lt (items_len (items_view vs)) least ≡ false = rw (items_len-items_view vs) (search (rules)) in
     rw (sym is, f, g)
-
--- the items from a place on
-from_place : (vs : List Value) (v : Value) (i : ℕ)
-    → i < length vs → v ≡ get_or vs i v → items_view (drop i vs) ≡ item (view v) (items_view (drop (i + 1) vs))
-from_place vs v i within is =
-    let split : drop i vs ≡ v ∷ drop (i + 1) vs = rw add-one (drop-cons vs i v within ∙ ap (λ w. w ∷ drop (suc i) vs) (sym is)) in
-    ap items_view split
-
--- one item more was read
-pub each-item : {A : Type 0} (form : List A → Form A) (made : List A) (vs : List Value) (v : Value) (i : ℕ) (a : A)
-    → i < length vs → v ≡ get_or vs i v → length made ≡ i → under (At i) (form made (view v)) ≡ Ok a
-    → each form made (items_view (drop i vs)) ≡ each form (made ++ a ∷ []) (items_view (drop (i + 1) vs))
-each-item form made vs v i a within is count reads = rw (from_place vs v i within is, count, reads)
-
--- an item was refused
-pub each-refused : {A : Type 0} (form : List A → Form A) (made : List A) (vs : List Value) (v : Value) (i : ℕ) (refusal : ScriptRefusal)
-    → i < length vs → v ≡ get_or vs i v → length made ≡ i → under (At i) (form made (view v)) ≡ Err refusal
-    → each form made (items_view (drop i vs)) ≡ Err refusal
-each-refused form made vs v i refusal within is count reads = rw (from_place vs v i within is, count, reads)
 
 -- an array that is not of two items is no reference
 pub reference_among-other : (vs : List Value) (value : Data) → (length vs ≡ 2 → ⊥) → reference_among (Some (items_view vs)) value ≡ Err wrong_shape

@@ -1,5 +1,5 @@
 -- The format of scripts, version 1: what each JSON value stands for at its place, or its first
--- refusal.
+-- refusal; and the value that is written for each part of a script.
 use Rattle.std.specs.Prelude.{ℕ, ◌+◌, ◌^◌, ℤ, pos, negsuc, List, [], ◌∷◌, length, codes, Bool, true}
 use Rattle.std.specs.Prelude.{false, not, ◌&&◌, ◌==◌, nat_le, nat_lt, nat_eq, bytes_eq, is_some}
 use Rattle.std.specs.Prelude.{Option, Some, None, option_map, find, option_and_then, if◌then◌else◌}
@@ -23,7 +23,7 @@ use Rattle.plan_ast.specs.declared.queries.Output.TheVariants.{Rows, Totals, Gro
 use Rattle.plan_ast.specs.declared.queries.Query.{Query}
 use Rattle.script_json.specs.Forms.{Reading, Form, ◌>>=◌, ◌>>◌, or_refuse, refuse_if, under}
 use Rattle.script_json.specs.Forms.{wrong_shape, wrong_number, twice_named, object_of, required}
-use Rattle.script_json.specs.Forms.{optional, array_of, whole, text_of, word_of}
+use Rattle.script_json.specs.Forms.{array_of, whole, text_of, word_of}
 use Rattle.script_json.specs.Objects.{Layout, ◌&◌, array_with, built_by, may, must, object_with}
 use Rattle.script_json.specs.Objects.{reads_object}
 use Rattle.script_json.specs.Objects.{written_object}
@@ -62,6 +62,7 @@ operator_named = named (
     (codes "=", Eq) ∷ (codes "<>", Ne) ∷ (codes "<", Lt) ∷
     (codes "<=", Le) ∷ (codes ">", Gt) ∷ (codes ">=", Ge) ∷ [])
 
+-- the word that is written for an operator
 abbrev pub operator_word : Op → List ℕ
 operator_word Eq = codes "="
 operator_word Ne = codes "<>"
@@ -74,6 +75,7 @@ operator_word Ge = codes ">="
 abbrev pub function_named : List ℕ → Option Func
 function_named = named ((codes "sum", Sum) ∷ (codes "min", Min) ∷ (codes "max", Max) ∷ [])
 
+-- the word that is written for a function
 abbrev pub function_word : Func → List ℕ
 function_word Count = codes "count"
 function_word Sum = codes "sum"
@@ -137,6 +139,7 @@ reference_among (Some _) value = Err wrong_shape
 abbrev pub reference : Form NameRef
 reference value = reference_among (as_array value) value
 
+-- a column of the scanned table is written as a text, and one of a join's table with its side
 abbrev pub reference_value : NameRef → Data
 reference_value reference =
     if reference.side == 0 then string reference.name

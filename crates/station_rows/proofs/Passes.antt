@@ -4,17 +4,17 @@ use Rattle.board_rule.specs.declared.board.Board.{Board}
 use Rattle.board_rule.specs.declared.board.Pass.{Pass}
 use Rattle.std.specs.Prelude.{All, get_or}
 use Rattle.std.proofs.lemmas.Option.{slice_get-get_or}
-use Rattle.board_rule.specs.Lives.{IsDone, AreAll, AreDone, AreFresh}
+use Rattle.board_rule.specs.Lives.{IsFreePass, AreAll, AreFree, AreUnused}
 use Rattle.board_rule.specs.Passes.{IsPassOf, shape_of}
 
 module _ {B Sub : Type 0} (board : Board B Sub) where
   -- the passes of the workers from n on, each of whom is free
   abbrev pub FreeFrom : ℕ → List (Pass B Sub) → Type 0
   FreeFrom n [] = Unit {0}
-  FreeFrom n (p ∷ ps) = (p.worker ≡ n) × IsDone board p × FreeFrom (suc n) ps
+  FreeFrom n (p ∷ ps) = (p.worker ≡ n) × IsFreePass board p × FreeFrom (suc n) ps
 
   -- one more
-  pub free-more : (n : ℕ) (ps : List (Pass B Sub)) (p : Pass B Sub) → FreeFrom n ps → p.worker ≡ n + length ps → IsDone board p
+  pub free-more : (n : ℕ) (ps : List (Pass B Sub)) (p : Pass B Sub) → FreeFrom n ps → p.worker ≡ n + length ps → IsFreePass board p
       → FreeFrom n (ps ++ p ∷ [])
   free-more n [] p free own done = (omega (arith, own), done, tt)
   free-more n (q ∷ qs) p free own done = (free.0, free.1, free-more (suc n) qs p free.2 (omega (arith, own)) done)
@@ -27,16 +27,16 @@ module _ {B Sub : Type 0} (board : Board B Sub) where
   free-there n (p ∷ ps) free (suc k) low = let r = free-there (suc n) ps free.2 k (omega (arith, low)) in
       (r.0, r.1, omega (arith, r.2))
 
-  free-done : (n : ℕ) (ps : List (Pass B Sub)) → FreeFrom n ps → AreDone board ps
+  free-done : (n : ℕ) (ps : List (Pass B Sub)) → FreeFrom n ps → AreFree board ps
   free-done n [] free k p at = absurd (cc)
-  free-done n (q ∷ ps) free zero p at = subst (IsDone board) (cc) free.1
+  free-done n (q ∷ ps) free zero p at = subst (IsFreePass board) (cc) free.1
   free-done n (q ∷ ps) free (suc k) p at = free-done (suc n) ps free.2 k p at
 
   -- all of them
-  pub free-all : (ps : List (Pass B Sub)) → length ps ≡ (shape_of board).workers → FreeFrom 0 ps → AreAll board ps × AreDone board ps
+  pub free-all : (ps : List (Pass B Sub)) → length ps ≡ (shape_of board).workers → FreeFrom 0 ps → AreAll board ps × AreFree board ps
   free-all ps count free =
       ((λ w low. let r = free-there 0 ps free w (omega (arith, count, low)) in (w, r.0, r.1, omega (arith, r.2))), free-done 0 ps free)
 
   -- passes that did nothing are of their board
-  pub all-of : (ps : List (Pass B Sub)) → AreFresh board ps → All (IsPassOf board) ps
+  pub all-of : (ps : List (Pass B Sub)) → AreUnused board ps → All (IsPassOf board) ps
   all-of ps fresh k d low = (fresh k (get_or ps k d) (slice_get-get_or ps k d low)).of_board

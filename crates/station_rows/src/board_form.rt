@@ -1,6 +1,6 @@
 //! The shared board as a form. All passes are here, and one thread makes the calls with them.
 ghost use Rattle.std.specs.Prelude.{◌≡◌, ◌<◌, All, IfOk, vec_len};
-ghost use Rattle.board_rule.specs.Lives.{AreAll, AreDone};
+ghost use Rattle.board_rule.specs.Lives.{AreAll, AreFree};
 ghost use Rattle.board_rule.specs.Passes.{IsPassOf, shape_of, subject_of};
 ghost use Rattle.station_rows.specs.Boards.{AreOf};
 
@@ -88,7 +88,7 @@ pub(crate) fn free_passes(
 ) -> Result<Vec<Pass<Piece>>, AllocError>
     requires { AreOf board.now seats.items }
     ensures { IfOk result (λ passes. AreAll board.now passes.items
-        × AreDone board.now passes.items) }
+        × AreFree board.now passes.items) }
 {
     let mut passes = Vec::new(alloc);
     for worker in 0..board.shape.workers {

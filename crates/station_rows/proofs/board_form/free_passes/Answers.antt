@@ -1,5 +1,5 @@
 use Rattle.std.proofs.Common.{◌≡◌, ◌+◌, length, rules, refl, sym, subst}
-use Rattle.board_rule.specs.Lives.{IsDone}
+use Rattle.board_rule.specs.Lives.{IsFreePass}
 use Rattle.board_rule.specs.Passes.{shape_of}
 use Rattle.station_rows.proofs.Passes.{FreeFrom, free-more, free-all}
 use Rattle.station_rows.proofs.board_form.free_passes.Goals as goal
@@ -10,7 +10,7 @@ loop-worker-preserved g c =
     let pass = c.take_pass-pass in
     let old = c.loop-worker.passes.items in
     let kept = c.loop-worker.invariant in
-    let done : IsDone b pass.result = record { of_board = pass.ensures.pass; place = search rules } in
+    let done : IsFreePass b pass.result = record { of_board = pass.ensures.pass; place = search rules } in
     let own : pass.result.worker ≡ 0 + length old = search rules in
     let more : length c.push.new.self.items ≡ c.loop-worker.worker + 1 = search rules in (
       refl,

@@ -1,8 +1,9 @@
 -- Passes that are gathered one after another, from worker 0 on.
-use Rattle.std.proofs.Common.{◌≡◌, ℕ, ◌+◌, ◌<◌, List, [], ◌∷◌, ◌++◌, length, Some, slice_get, zero, suc, refl, subst, arith}
+use Rattle.std.proofs.Common.{◌≡◌, ℕ, ◌+◌, ◌<◌, List, [], ◌∷◌, ◌++◌, length, Some, slice_get, zero, suc, refl, sym, subst, arith}
 use Rattle.board_rule.specs.declared.board.Board.{Board}
 use Rattle.board_rule.specs.declared.board.Pass.{Pass}
-use Rattle.std.specs.Prelude.{All, get_or}
+use Rattle.std.specs.Prelude.{All, IfSome, Option, get_or}
+use Rattle.std.proofs.lemmas.List.Elements.{All-head, All-push, All-rest}
 use Rattle.std.proofs.lemmas.Option.{slice_get-get_or}
 use Rattle.board_rule.specs.Lives.{IsFreePass, AreAll, AreFree, AreUnused}
 use Rattle.board_rule.specs.Passes.{IsPassOf, shape_of}
@@ -40,3 +41,13 @@ module _ {B Sub : Type 0} (board : Board B Sub) where
   -- passes that did nothing are of their board
   pub all-of : (ps : List (Pass B Sub)) → AreUnused board ps → All (IsPassOf board) ps
   all-of ps fresh k d low = (fresh k (get_or ps k d) (slice_get-get_or ps k d low)).of_board
+
+  -- one more is taken from what is left, and its pass is put beside the others
+  pub keep-more : {X : Type 0} → (P : X → Type 0) (x : X) (left rest : List X) (p : Pass B Sub) (old new : List (Option (Pass B Sub)))
+      → left ≡ x ∷ rest → new ≡ old ++ Some p ∷ [] → (P x → IsPassOf board p)
+      → All P left → All (λ pass. IfSome pass (IsPassOf board)) old
+      → All P rest × All (λ pass. IfSome pass (IsPassOf board)) new
+  keep-more P x left rest p old new next more is all kept =
+      let Q : Option (Pass B Sub) → Type 0 = λ pass. IfSome pass (IsPassOf board) in
+      let head = All-head P x rest (subst (All P) next all) in
+      (All-rest P x rest left next all, subst (All Q) (sym more) (All-push Q old (Some p) kept (is head)))

@@ -2,10 +2,10 @@
 //!
 //! It stands on the forms of the object, `plain_slots`, `slot_proto` and the shared board, and has
 //! tests alone. A row is a list of entries (`rows`). A player (`player`) makes them in order,
-//! through the bound of a station, by the calls of `worker_calls`, and asserts each answer. It plays
-//! on any form (`form`, `board_form`), which makes a table for a subject, seats a worker at it, and
-//! shows its words if it has words. So each row is played on every form, and all give the same
-//! answers. A board has its words read when it ends.
+//! through the bound of a station, by the calls of `worker_calls`, and asserts each answer. It
+//! plays on any form (`form`, `board_form`), which makes a table for a subject, seats a worker at
+//! it, and shows its words if it has words: a board at its end alone. So each row is played on
+//! every form, and all give the same answers. In `threads` four threads share a board.
 //!
 //! Nothing stands above it. A new form of the object implements `Form` and is named once in `rows`
 //! and once in `limits`.
@@ -27,5 +27,7 @@ mod player;
 mod rows;
 #[cfg(test)]
 mod subject;
+#[cfg(test)]
+mod threads;
 #[cfg(test)]
 mod worker_calls;

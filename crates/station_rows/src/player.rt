@@ -70,8 +70,8 @@ impl<T: Form> Player<T> {
         self.table.expect_counter(rt, slot, word);
     }
 
-    /// Ends the table, which has one slot and whose workers are all free. If it has words, these are
-    /// the final ones: those up to the slot's, and then each worker's.
+    /// Ends the table, which has one slot and whose workers are all free. If it has words, these
+    /// are the final ones: those up to the slot's, and then each worker's.
     pub(crate) fn expect_words(
         self,
         rt: &impl Abort,

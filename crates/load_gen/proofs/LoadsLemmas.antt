@@ -1,21 +1,21 @@
 -- The tables that are drawn load from their texts.
-use Rattle.std.proofs.Common.{◌≡◌, ◌≢◌, ℕ, zero, suc, ◌+◌, ◌*◌, ◌<◌, ◌≤◌, ℤ, pos, List, [], ◌∷◌, ◌++◌, All, FitsSigned, slice_index, length, map, codes, refl}
-use Rattle.std.proofs.Common.{Result, Ok, Err, IfErr, sym, ap, ◌∙◌, arith, rules}
+use Rattle.std.proofs.Common.{◌≡◌, ◌≢◌, ℕ, zero, suc, ◌+◌, ◌*◌, ◌<◌, ◌≤◌, ℤ, pos, List, [], ◌∷◌, All, FitsSigned, slice_index, length, codes, refl}
+use Rattle.std.proofs.Common.{Result, Ok, Err, IfErr, sym, ◌∙◌, arith}
 use Rattle.std.specs.Prelude.{IsOk}
 use Rattle.std.specs.Int.{w64}
 use Rattle.std.proofs.lemmas.Int.{ints}
 use Rattle.std.proofs.lemmas.Str.{IsUtf8-from_ascii}
 use Rattle.std.proofs.lemmas.List.Elements.{All-cons, All-from_recursion, All-nil}
 use Rattle.col_table.specs.Name.{IsName, IsPlain}
-use Rattle.col_table.specs.NamedRows.{AllDiffer, IsHeading, IsTable, NamedRows, name_at}
+use Rattle.col_table.specs.NamedRows.{AllDiffer, IsHeading, IsTable, name_at}
 use Rattle.col_table.specs.Refusals.{RefusesHeading}
 use Rattle.col_table.specs.declared.table.ShapeRefusal.{ShapeRefusal}
 use Rattle.col_table.specs.declared.table.ShapeRefusal.TheVariants.{NoColumns, OutOfMemory, TooManyColumns, TwiceNamed}
 use Rattle.col_table.specs.declared.table.TheConstants.{MAX_ROWS}
 use Rattle.csv_tables.specs.Loading.{LoadsTable}
-use Rattle.csv_tables.specs.Writing.{BeginsWithMark, table_text}
+use Rattle.csv_tables.specs.Writing.{table_text}
 use Rattle.csv_tables.proofs.Texts.{text_loads}
-use Rattle.load_gen.specs.Draws.{draw, each_below, signed_draw, state_after}
+use Rattle.load_gen.specs.Draws.{each_below, state_after}
 use Rattle.load_gen.specs.Tables.{row_of_t, row_of_u, table_t, table_u}
 use Rattle.load_gen.proofs.DrawsLemmas.{All-each_below, head_same, length-each_below}
 use Rattle.load_gen.proofs.ScriptLemmas.{fits-draw, fits-signed}

@@ -1,6 +1,6 @@
 -- The script that is drawn can be read and written.
-use Rattle.std.proofs.Common.{◌≡◌, ◌≢◌, ℕ, zero, suc, ◌+◌, ◌*◌, ◌/◌, ◌%◌, ◌^◌, ◌<◌, ◌≤◌, ℤ, pos, negsuc, ◌-ℤ◌, Bool, true, false, List, [], ◌∷◌, All, IsTrue}
-use Rattle.std.proofs.Common.{None, Some, FitsSigned, length, map, nat_lt, codes, refl, sym, ap, ◌∙◌, arith, rules, subst}
+use Rattle.std.proofs.Common.{◌≡◌, ◌≢◌, ℕ, zero, suc, ◌+◌, ◌%◌, ◌^◌, ◌<◌, ◌≤◌, ℤ, pos, negsuc, false, List, [], ◌∷◌, All, IsTrue}
+use Rattle.std.proofs.Common.{None, FitsSigned, length, map, nat_lt, codes, refl, arith}
 use Rattle.std.specs.Int.{w64}
 use Rattle.std.specs.List.{AllPairs, range_with_len}
 use Rattle.std.proofs.lemmas.Bool.Decides.{nat_tests}
@@ -8,11 +8,8 @@ use Rattle.std.proofs.lemmas.Int.{ints}
 use Rattle.std.proofs.lemmas.List.Elements.{All-cons, All-from_recursion, All-nil}
 use Rattle.std.proofs.lemmas.List.Kept.{AllPairs-cons}
 use Rattle.plan_ast.specs.Bounds.{AreAggsInBounds, AreFewFilters, IsAggInBounds, IsInBounds, IsOutputInBounds}
-use Rattle.plan_ast.specs.declared.queries.Agg.{Agg}
-use Rattle.plan_ast.specs.declared.queries.Filter.{Filter}
 use Rattle.plan_ast.specs.declared.queries.Op.{Op}
 use Rattle.plan_ast.specs.declared.queries.Op.TheVariants.{Eq, Ge}
-use Rattle.plan_ast.specs.declared.queries.Join.{Join}
 use Rattle.plan_ast.specs.declared.queries.NameRef.{NameRef}
 use Rattle.plan_ast.specs.declared.queries.Query.{Query}
 use Rattle.script_json.specs.Format.{first_early, is_i64, is_name}
@@ -20,7 +17,7 @@ use Rattle.script_json.specs.declared.script.TableEntry.{TableEntry}
 use Rattle.script_json.specs.WellFormed.{IsAgg, IsEntry, IsFilter, IsJoin, IsOutput, IsQuery, IsReference, IsScript}
 use Rattle.load_gen.specs.Draws.{each_below, next_state, signed_of}
 use Rattle.load_gen.specs.Generated.{entry_of, script_from}
-use Rattle.load_gen.specs.Queries.{count_and_sum_of, column_of, filter_of, filters_of, joins_of, kind_of, output_of, queries_from, query_of, state_before}
+use Rattle.load_gen.specs.Queries.{count_and_sum_of, column_of, filter_of, filters_of, joins_of, kind_of, output_of, query_of, state_before}
 use Rattle.load_gen.specs.declared.queries.Kind.{Kind}
 use Rattle.load_gen.specs.declared.queries.Kind.TheVariants.{FilteredTotals, GroupTotals, JoinTotals, FilteredRows}
 use Rattle.load_gen.proofs.DrawsLemmas.{All-each_below, head_same, length-each_below}

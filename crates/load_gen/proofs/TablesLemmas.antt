@@ -1,5 +1,5 @@
 -- Rows across columns that are made number by number.
-use Rattle.std.proofs.Common.{◌≡◌, ℕ, zero, suc, ◌+◌, ◌<◌, ◌≤◌, ℤ, pos, List, [], ◌∷◌, ◌++◌, All, FitsSigned, length, map, of_z, to_z, w64, refl, sym, ap, ◌∙◌}
+use Rattle.std.proofs.Common.{◌≡◌, ℕ, zero, suc, ◌+◌, ◌<◌, ◌≤◌, ℤ, pos, List, [], ◌∷◌, ◌++◌, FitsSigned, map, of_z, to_z, w64, refl, sym, ap, ◌∙◌}
 use Rattle.std.proofs.Common.{arith, add-one}
 use Rattle.std.specs.Global.{Vec}
 use Rattle.std.proofs.lemmas.Int.{to_z-of_z}

@@ -1,5 +1,5 @@
 -- The large input of a number, and the texts of its parts.
-use Rattle.std.specs.Prelude.{ℕ, ◌≡◌, List, [], ◌∷◌, codes}
+use Rattle.std.specs.Prelude.{ℕ, List, [], ◌∷◌, codes}
 use Rattle.col_table.specs.NamedRows.{NamedRows}
 use Rattle.csv_tables.specs.Loading.{LoadsTable}
 use Rattle.csv_tables.specs.Writing.{table_text}

@@ -1,5 +1,4 @@
-use Rattle.std.proofs.Common.{◌≡◌, ◌+◌, ◌++◌, ◌∷◌, [], ◌∙◌, ap, sym}
-use Rattle.plan_ast.specs.declared.queries.Query.{Query}
+use Rattle.std.proofs.Common.{◌++◌, ◌∷◌, [], ◌∙◌, ap, sym}
 use Rattle.load_gen.specs.Draws.{each_below, next_state}
 use Rattle.load_gen.specs.Queries.{after_filters, kind_of, query_of, state_before}
 use Rattle.load_gen.proofs.DrawsLemmas.{each_below-more, each_below-zero, state_before-more, state_before-zero}

@@ -1,4 +1,4 @@
-use Rattle.std.proofs.Common.{◌≡◌, ℕ, ℤ, ◌+◌, ◌%◌, ◌++◌, ◌∷◌, [], List, FitsSigned, codes, length, pos, w64, ◌∙◌, ap, arith, rules, subst, sym}
+use Rattle.std.proofs.Common.{◌≡◌, ℕ, ℤ, ◌+◌, ◌%◌, ◌∷◌, [], FitsSigned, codes, length, pos, w64, ◌∙◌, ap, arith, rules, subst, sym}
 use Rattle.std.specs.Global.{Vec}
 use Rattle.std.proofs.lemmas.List.Elements.{All-cons, All-nil, All-same}
 use Rattle.col_table.specs.Columns.{rows_across, values_of}

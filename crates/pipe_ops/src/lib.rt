@@ -1,9 +1,11 @@
-//! The answers to queries.
+//! The answers to queries, in one go and by stages.
 //!
 //! `plain_answer` answers a checked query in one go, by nested loops over the rows of its tables.
+//! `run_range` takes a range of a stage's tuples into an accumulator (`Acc`).
 //!
-//! It stands on `plan_ast`, which says what the answer to a query is. What the layers above may
-//! use: the answer is the definition's, whatever the query.
+//! It stands on `plan_ast`, which says what the answer to a query is and what a stage makes of some
+//! of its tuples, and on `build_sides`. What the layers above may use: the plain answer is the
+//! definition's, and an accumulator holds exactly the tuples that it took.
 
 #![tactic(auto)]
 
@@ -30,6 +32,7 @@ pub use inputs::Inputs;
 pub use laws::holds_fold;
 pub use plain::plain_answer;
 pub use results::StageResult;
+pub use stages::run_range;
 
 #[cfg(test)]
 mod tests;

@@ -8,7 +8,7 @@ use Rattle.slot_station.specs.Tokens.{IsSpent, IsDebt, IsCoordinator, IsHolder, 
 use Rattle.station_rows.specs.declared.hand.Hand.{Hand}
 use Rattle.station_rows.specs.declared.hand.Hand.TheVariants as hand
 use Rattle.station_rows.specs.declared.subject.Sets.{Sets}
-use Rattle.station_rows.specs.declared.worker_calls.Worker.{Worker}
+use Rattle.station_rows.specs.declared.worker.Worker.{Worker}
 
 module _ (d : Shape) (w : ℕ) (p : Place) where
   -- what the worker w has in hand is the token of its place p

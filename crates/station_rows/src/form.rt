@@ -1,7 +1,7 @@
 //! A form of the slot object: it makes a table, and each call of a worker at it.
 use crate::hand::Hand;
 use crate::subject::{Piece, Sets};
-use crate::worker_calls::Worker;
+use crate::worker::Worker;
 use one_thread::object::SlotObject;
 use one_thread::table::OneTable;
 use plain_slots::object::PlainObject;

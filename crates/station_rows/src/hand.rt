@@ -8,7 +8,7 @@ use slot_station::token::{Announcer, Coordinator, Debt, Holder, Spent};
 
 /// What a worker has in hand.
 #[derive(Debug, PartialEq, Eq, Drop)]
-pub(crate) enum Hand {
+pub enum Hand {
     Nothing,
     Spent(Spent),
     Debt(Debt),
@@ -18,7 +18,7 @@ pub(crate) enum Hand {
 }
 
 /// What the worker of this number has in hand at this place of an object with so many workers.
-pub(crate) fn hand_at(place: &Place, worker: u32, workers: u32) -> Hand
+pub fn hand_at(place: &Place, worker: u32, workers: u32) -> Hand
     ensures { (d : Shape) → d.workers ≡ workers → IsDue d worker place.now result }
 {
     match *place {

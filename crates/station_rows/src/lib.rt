@@ -17,17 +17,16 @@ mod board_form;
 mod board_table;
 #[cfg(test)]
 mod form;
-#[cfg(test)]
-mod hand;
+pub mod hand;
 #[cfg(test)]
 mod limits;
 #[cfg(test)]
 mod player;
 #[cfg(test)]
 mod rows;
-#[cfg(test)]
-mod subject;
+pub mod subject;
 #[cfg(test)]
 mod threads;
+pub mod worker;
 #[cfg(test)]
 mod worker_calls;

@@ -6,16 +6,16 @@ use slot_station::station::Fits;
 
 /// A cell's value: whose it is, and of which task set.
 #[derive(Drop)]
-pub(crate) struct Piece {
-    pub(crate) worker: u32,
-    pub(crate) id: u32,
+pub struct Piece {
+    pub worker: u32,
+    pub id: u32,
 }
 
 /// A subject: how many queries there are, and the ids of the task sets with their totals.
 #[derive(Drop)]
-pub(crate) struct Sets {
-    pub(crate) queries: u32,
-    pub(crate) totals: Vec<(u32, u32)>,
+pub struct Sets {
+    pub queries: u32,
+    pub totals: Vec<(u32, u32)>,
 }
 
 impl Fits for Piece {
@@ -30,7 +30,7 @@ impl Fits for Piece {
 
 impl Sets {
     /// The total of a task set.
-    pub(crate) fn total(&self, id: u32) -> Option<u32>
+    pub fn total(&self, id: u32) -> Option<u32>
         ensures { result ≡ total_in self.now.totals.items id }
     {
         let set = self.totals.iter().find(|set| set.0 == id)?;

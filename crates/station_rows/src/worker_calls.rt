@@ -12,7 +12,8 @@ ghost use Rattle.slot_station.specs.Tokens.{IsHolder};
 ghost use Rattle.station_rows.specs.Played.{IsAt, IsReady, KeepsOrigin};
 
 use crate::hand::{Hand, hand_at};
-use crate::subject::{Piece, Sets};
+use crate::subject::Piece;
+use crate::worker::Worker;
 use slot_history::act::Act;
 use slot_history::place::{Held, Place};
 use slot_history::shape::{MOST_CLAIM, MOST_QUERIES, MOST_TOTAL, PARTS, STAGES};
@@ -24,14 +25,6 @@ use slot_station::token::Holder;
 use std::mem;
 use std::process::Abort;
 use std::sync::ledger::Ledger;
-
-/// A worker at its station, which serves these sets: where it is, and what it has in hand.
-pub(crate) struct Worker<'s, S> {
-    pub(crate) station: &'s mut S,
-    pub(crate) place: Place,
-    pub(crate) hand: Hand,
-    pub(crate) sets: &'s Sets,
-}
 
 impl<'s, S: Station<Piece>> Worker<'s, S> {
     /// The call of this entry. The answer is the entry that it made.

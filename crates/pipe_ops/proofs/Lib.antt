@@ -1,5 +1,6 @@
 pub mod AnswerLemmas
 pub mod BuildLemmas
+pub mod CoverLemmas
 pub mod EmptyLemmas
 pub mod FoldingLemmas
 pub mod GroupingLemmas
@@ -8,6 +9,8 @@ pub mod InputsLemmas
 pub mod JoinRowLemmas
 pub mod JoiningLemmas
 pub mod MembersLemmas
+pub mod MergeGroupsLemmas
+pub mod MergeLemmas
 pub mod MergeRangeLemmas
 pub mod MergeTuplesLemmas
 pub mod MergingLemmas

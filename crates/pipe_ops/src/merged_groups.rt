@@ -1,10 +1,11 @@
 // The groups that the accumulators of a merge have together.
-ghost use Rattle.std.specs.Prelude.{◌≡◌, ◌<◌, ◌++◌, IfOk, IsPermutation, IsSortedBy, OnOk, flat_map, length, map};
+ghost use Rattle.std.specs.Prelude.{◌≡◌, ◌<◌, ◌++◌, All, IfOk, IsPermutation, IsSortedBy, OnOk, flat_map, length, map};
 ghost use Rattle.std.specs.Cmp.Lexicographic.{slice_cmp};
 ghost use Rattle.std.specs.Ordering.{int_cmp, is_lt};
 ghost use Rattle.plan_ast.specs.Bounds.{IsWithin};
+ghost use Rattle.build_sides.specs.Numbered.{AreDistinct};
 ghost use Rattle.pipe_ops.specs.Grouping.{group_in};
-ghost use Rattle.pipe_ops.specs.Merging.{group_at, groups_in, held_groups, key_values};
+ghost use Rattle.pipe_ops.specs.Merging.{HasDistinctGroups, group_at, groups_in, held_groups, key_values};
 
 use crate::acc::Acc;
 use crate::groups::{Entry, as_groups, sort_by_key};
@@ -25,21 +26,23 @@ pub(crate) fn merged_groups(
         IsPermutation (flat_map (held_groups width) accs.items) groups.items) }
     ensures sorted { IfOk result (λ groups.
         IsSortedBy (λ one other. is_lt (slice_cmp int_cmp one.key other.key)) groups.items) }
+    ensures distinct { IfOk result (λ _. All HasDistinctGroups accs.items) }
 {
-    let mut entries = all_groups(alloc, width, accs)?;
+    let mut entries = all_groups(alloc, width, accs.as_slice())?;
     sort_by_key(&mut entries);
     as_groups(alloc, entries)
 }
 
 // The groups of all accumulators.
-fn all_groups(alloc: Global, width: usize, accs: Vec<Acc>) -> Result<Vec<Entry>, AllocError>
+fn all_groups(alloc: Global, width: usize, accs: &[Acc]) -> Result<Vec<Entry>, AllocError>
     requires width { IsWithin 1 2 width }
-    ensures { IfOk result (λ entries.
-        map group_in entries.items ≡ flat_map (held_groups width) accs.items) }
+    ensures groups { IfOk result (λ entries.
+        map group_in entries.items ≡ flat_map (held_groups width) accs.now) }
+    ensures distinct { IfOk result (λ _. All HasDistinctGroups accs.now) }
 {
     let mut entries = Vec::new(alloc);
     for acc in accs {
-        add_groups(alloc, width, &acc, &mut entries)?;
+        add_groups(alloc, width, acc, &mut entries)?;
     }
     Ok(entries)
 }
@@ -52,8 +55,9 @@ fn add_groups(
     entries: &mut Vec<Entry>,
 ) -> Result<(), AllocError>
     requires width { IsWithin 1 2 width }
-    ensures { OnOk result (map group_in entries.new.items
+    ensures groups { OnOk result (map group_in entries.new.items
         ≡ map group_in entries.old.items ++ held_groups width acc.now) }
+    ensures distinct { OnOk result (HasDistinctGroups acc.now) }
 {
     match acc {
         Acc::Merge(side) => add_entries(alloc, width, side, entries),
@@ -69,8 +73,9 @@ fn add_entries(
     entries: &mut Vec<Entry>,
 ) -> Result<(), AllocError>
     requires width { IsWithin 1 2 width }
-    ensures { OnOk result (map group_in entries.new.items
+    ensures groups { OnOk result (map group_in entries.new.items
         ≡ map group_in entries.old.items ++ groups_in width side.now) }
+    ensures distinct { OnOk result (AreDistinct side.now.keys) }
 {
     entries.reserve(side.len())?;
     for number in 0..side.len() {
@@ -88,7 +93,8 @@ fn entry_of(
 ) -> Result<Entry, AllocError>
     requires width { IsWithin 1 2 width }
     requires number { number < length side.now.keys }
-    ensures { IfOk result (λ entry. group_in entry ≡ group_at width side.now number) }
+    ensures group { IfOk result (λ entry. group_in entry ≡ group_at width side.now number) }
+    ensures distinct { IfOk result (λ _. AreDistinct side.now.keys) }
 {
     let key = values_of_key(alloc, width, side.key(number))?;
     let mut totals = Vec::with_capacity(alloc, side.aggregates())?;

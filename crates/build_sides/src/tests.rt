@@ -164,9 +164,12 @@ fn merges_the_groups_of_a_part(rt: HostRuntime) -> Result<(), Fail> {
 #[test]
 fn merges_every_group_of_a_part(rt: HostRuntime) -> Result<(), Fail> {
     let mut other = groups(&rt)?;
-    for key in [1, 2, 17, -15, 3, 33] {
-        fold(&rt, &mut other, &[key], 10 * key)?;
-    }
+    fold(&rt, &mut other, &[1], 10)?;
+    fold(&rt, &mut other, &[2], 20)?;
+    fold(&rt, &mut other, &[17], 170)?;
+    fold(&rt, &mut other, &[-15], -150)?;
+    fold(&rt, &mut other, &[3], 30)?;
+    fold(&rt, &mut other, &[33], 330)?;
     let mut one = groups(&rt)?;
     fold(&rt, &mut one, &[-15], 7)?;
     one.merge_part(1, &other)?;

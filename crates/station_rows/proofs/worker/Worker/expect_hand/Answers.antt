@@ -1,7 +1,7 @@
 use Rattle.std.proofs.Common.{◌≡◌, rules, subst, sym}
 use Rattle.slot_station.specs.Desks.{own_place}
 use Rattle.station_rows.specs.Played.{IsDue}
-use Rattle.station_rows.proofs.worker_calls.Worker.expect_hand.Goals as goal
+use Rattle.station_rows.proofs.worker.Worker.expect_hand.Goals as goal
 
 pub returns : goal.returns
 returns g c =

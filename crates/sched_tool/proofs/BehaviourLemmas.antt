@@ -4,7 +4,7 @@ use Rattle.load_gen.specs.declared.parts.Part.{Part}
 use Rattle.sched_tool.specs.Behaviours.{Behaviour, behaviour_of, check_behaviour, check_text, IsMemoryRefused, IsUsageRefused, make_behaviour, usage_behaviour}
 use Rattle.sched_tool.specs.Outsides.{Contents, known, Outside, surely_holds}
 use Rattle.sched_tool.specs.Verdicts.{OneAnswer, OneVerdict}
-use Rattle.sched_tool.specs.Words.{check, make, Meaning}
+use Rattle.sched_tool.specs.Words.{check, make, Meaning, run, steps, turns}
 use Rattle.sched_tool.specs.Writing.{IsFinding}
 use Rattle.sched_tool.specs.declared.program.refusal.Refusal.{Refusal}
 use Rattle.sched_tool.specs.declared.program.refusal.Refusal.TheVariants.{Usage, CannotRead, Script, Table, OutOfMemory}
@@ -80,13 +80,21 @@ make_consistent number part = record {
 pub sound : (outside : Outside) (meaning : Option Meaning) → IsSound (behaviour_of outside meaning)
 sound outside None = usage_sound
 sound outside (Some (check file)) = check_sound outside.holds file
-sound outside (Some (make number part)) = make_sound number part
+sound outside (Some (turns asked)) = usage_sound
+sound outside (Some (steps asked)) = usage_sound
+sound outside (Some (run asked)) = usage_sound
+sound outside (Some (make number None)) = usage_sound
+sound outside (Some (make number (Some part))) = make_sound number part
 
 -- and consistent over outsides that agree
 pub consistent : (a b : Outside) → Agree a b → (meaning : Option Meaning) → AreConsistent (behaviour_of a meaning) (behaviour_of b meaning)
 consistent a b agree None = usage_consistent
 consistent a b agree (Some (check file)) = check_consistent a.holds b.holds agree.files file
-consistent a b agree (Some (make number part)) = make_consistent number part
+consistent a b agree (Some (turns asked)) = usage_consistent
+consistent a b agree (Some (steps asked)) = usage_consistent
+consistent a b agree (Some (run asked)) = usage_consistent
+consistent a b agree (Some (make number None)) = usage_consistent
+consistent a b agree (Some (make number (Some part))) = make_consistent number part
 
 pub one_answer : OneAnswer
 one_answer content file a b x y =

@@ -1,15 +1,18 @@
 -- Numbers among the words.
-use Rattle.std.proofs.Common.{◌≡◌, ◌<◌, ◌≤◌, ◌^◌, ℕ, true, List, [], ◌∷◌, length, Some, None, ap, refl, sym, subst, arith}
+use Rattle.std.proofs.Common.{◌≡◌, ◌<◌, ◌≤◌, ◌^◌, ◌∙◌, false, ℕ, Bool, Option, true, List, [], ◌∷◌, length, Some, None, ap, refl, sym, subst, arith}
 use Rattle.std.proofs.lemmas.Bool.{and_parts, false_from_ne_true}
 use Rattle.std.proofs.lemmas.Bool.Decides.{nat_tests}
 use Rattle.std.proofs.lemmas.Str.{digit_value_digit}
 use Rattle.std.proofs.lemmas.Str.Parse.{without_leading_plus_none}
 use Rattle.std.specs.Char.{digit_value, is_ascii_digit}
-use Rattle.std.specs.List.{list_all}
-use Rattle.std.specs.Prelude.{if◌then◌else◌}
+use Rattle.std.specs.List.{after_first, before_first, list_all, position_or_len}
+use Rattle.std.specs.Option.{option_and_then, option_map}
+use Rattle.std.proofs.lemmas.List.Splits.{length-slice_split, slice_split_first, slice_split_none}
+use Rattle.std.proofs.lemmas.List.Sums.{fails_before_first}
+use Rattle.std.specs.Prelude.{◌==◌, if◌then◌else◌, is_some, nat_le, not}
 use Rattle.std.specs.Str.Parse.{AllDigits, digits_value, IsNumeral, without_leading_plus}
 use Rattle.csv_tables.proofs.Digits.{digit_range}
-use Rattle.sched_tool.specs.Words.{is_number_word, number_of}
+use Rattle.sched_tool.specs.Words.{fields_of, is_number_word, list_of, number_of, numbers_of}
 
 digit_below : (c : ℕ) → is_ascii_digit c ≡ true → digit_value c < 10
 digit_below c is = let range = digit_range c is in omega (arith, range, digit_value_digit c range)
@@ -28,17 +31,85 @@ no_plus (c ∷ cs) all =
     without_leading_plus_none (c ∷ cs) (λ plus. omega (arith, range, plus))
 
 -- a word that is a number has a digit, and its number is at most the greatest
-number_parts : (most greatest : ℕ) (word : List ℕ) → is_number_word most greatest word ≡ true → (0 < length word) × (digits_value 10 word ≤ greatest)
-number_parts most greatest word is = grind (arith, nat_tests)
+number_parts : (most least greatest : ℕ) (word : List ℕ) → is_number_word most least greatest word ≡ true
+    → (0 < length word) × (digits_value 10 word ≤ greatest)
+number_parts most least greatest word is = grind (arith, nat_tests)
 
 -- digits that write no 32-bit number are no word for a number
-pub not_number : (most greatest : ℕ) (word : List ℕ) → greatest < 2 ^ 32 → list_all is_ascii_digit word ≡ true
-    → ¬ (IsNumeral 10 (without_leading_plus word) × (digits_value 10 (without_leading_plus word) < 2 ^ 32)) → None ≡ number_of most greatest word
-not_number most greatest word small all none =
+pub not_number : (most least greatest : ℕ) (word : List ℕ) → greatest < 2 ^ 32 → list_all is_ascii_digit word ≡ true
+    → ¬ (IsNumeral 10 (without_leading_plus word) × (digits_value 10 (without_leading_plus word) < 2 ^ 32)) → None ≡ number_of most least greatest word
+not_number most least greatest word small all none =
     let same = no_plus word all in
     let other : ¬ (IsNumeral 10 word × (digits_value 10 word < 2 ^ 32)) =
     subst (λ w. ¬ (IsNumeral 10 w × (digits_value 10 w < 2 ^ 32))) same none in
-    let is_not = false_from_ne_true (is_number_word most greatest word) (λ is.
-    let parts = number_parts most greatest word is in
+    let is_not = false_from_ne_true (is_number_word most least greatest word) (λ is.
+    let parts = number_parts most least greatest word is in
     other ((parts.0, all_digits word all), omega (arith, parts.1, small))) in
     sym (ap (λ test. if test then Some (digits_value 10 word) else None) is_not)
+
+-- ---- lists of numbers
+
+-- the first field, and the others
+pub first_field : (text field more : List ℕ) → position_or_len (λ byte. byte == 44) text < length text → field ≡ before_first (λ byte. byte == 44) text
+    → more ≡ after_first (λ byte. byte == 44) text → fields_of text ≡ field ∷ fields_of more
+first_field text field more within is rest =
+    slice_split_first (λ byte. byte == 44) text 0 within ∙ (λ i. sym is i ∷ fields_of (sym rest i))
+
+pub some_field : (text : List ℕ) → 1 ≤ length (fields_of text)
+some_field text = omega (arith, length-slice_split (λ byte. byte == 44) text)
+
+-- a number is added to those of the other fields
+pub number_first : (greatest : ℕ) (field : List ℕ) (fields : List (List ℕ)) → is_some (number_of 9 0 greatest field) ≡ true
+    → is_some (numbers_of greatest (field ∷ fields)) ≡ is_some (numbers_of greatest fields)
+number_first greatest field fields is =
+    elim (number_of 9 0 greatest field) as (λ o. is_some o ≡ true → is_some (option_and_then (λ number. option_map (λ numbers. number ∷ numbers)
+    (numbers_of greatest fields)) o) ≡ is_some (numbers_of greatest fields)) [
+      | None ↦ λ none. absurd cc
+      | Some number ↦ λ some. elim (numbers_of greatest fields) as (λ o. is_some (option_map (λ numbers. number ∷ numbers) o) ≡ is_some o) [
+        | None ↦ refl
+        | Some numbers ↦ refl
+      ]
+    ] is
+
+pub no_number_first : (greatest : ℕ) (field : List ℕ) (fields : List (List ℕ)) → number_of 9 0 greatest field ≡ None
+    → is_some (numbers_of greatest (field ∷ fields)) ≡ false
+no_number_first greatest field fields none = rw none refl
+
+pub number_last : (greatest : ℕ) (field : List ℕ) → is_some (numbers_of greatest (field ∷ [])) ≡ is_some (number_of 9 0 greatest field)
+number_last greatest field =
+    elim (number_of 9 0 greatest field) as (λ o. is_some (option_and_then (λ number. Some (number ∷ [])) o) ≡ is_some o) [
+      | None ↦ refl
+      | Some number ↦ refl
+    ]
+
+-- a text without a comma is one field
+pub one_field : (text : List ℕ) → position_or_len (λ byte. byte == 44) text ≡ length text → fields_of text ≡ text ∷ []
+one_field text none =
+    slice_split_none (λ byte. byte == 44) text
+    (λ place any within. fails_before_first (λ byte. byte == 44) text place any (omega (arith, none, within)))
+
+-- a list is read if it has few fields and each is a number
+pub list_read : (greatest : ℕ) (text : List ℕ) → length (fields_of text) ≤ 4096
+    → is_some (numbers_of greatest (fields_of text)) ≡ is_some (list_of greatest text)
+list_read greatest text few =
+    let yes : nat_le (length (fields_of text)) 4096 ≡ true = grind (arith, nat_tests) in
+    sym (ap (λ test. is_some (if test then numbers_of greatest (fields_of text) else None)) yes)
+
+pub list_too_long : (greatest : ℕ) (text : List ℕ) → 4096 < length (fields_of text) → false ≡ is_some (list_of greatest text)
+list_too_long greatest text many =
+    let no : nat_le (length (fields_of text)) 4096 ≡ false = grind (arith, nat_tests) in
+    sym (ap (λ test. is_some (if test then numbers_of greatest (fields_of text) else None)) no)
+
+pub list_refused : (greatest : ℕ) (text : List ℕ) → is_some (numbers_of greatest (fields_of text)) ≡ false → false ≡ is_some (list_of greatest text)
+list_refused greatest text none =
+    elim (nat_le (length (fields_of text)) 4096) as (λ test. false ≡ is_some (if test then numbers_of greatest (fields_of text) else None)) [
+      | false ↦ refl
+      | true ↦ sym none
+    ]
+
+pub no_value : (o : Option ℕ) (test : Bool) → is_some o ≡ not test → test ≡ true → o ≡ None
+no_value None test is none = refl
+no_value (Some n) test is none = let both : true ≡ false = is ∙ ap not none in absurd cc
+
+pub a_value : (o : Option ℕ) (test : Bool) → is_some o ≡ not test → test ≡ false → is_some o ≡ true
+a_value o test is some = is ∙ ap not some

@@ -9,7 +9,7 @@ use Rattle.sched_tool.specs.Outsides.{Contents, Outside}
 use Rattle.report_text.specs.AnswersText.{answers_bytes, line}
 use Rattle.sched_tool.specs.Refusals.{IsCheckRefused}
 use Rattle.sched_tool.specs.Subjects.{IsAccepted, IsRead}
-use Rattle.sched_tool.specs.Words.{check, make, Meaning}
+use Rattle.sched_tool.specs.Words.{check, make, Meaning, run, steps, turns}
 use Rattle.report_text.specs.declared.replies.QueryReply.{QueryReply}
 use Rattle.report_text.specs.declared.replies.Reply.TheVariants.{Answer}
 use Rattle.sched_tool.specs.declared.program.refusal.Refusal.{Refusal}
@@ -93,8 +93,13 @@ make_behaviour number part = record {
 
 -- ---- all commands
 
--- the behaviour of what words ask for; none if they are outside the grammar
+-- the behaviour of what words ask for; none if they are outside the grammar. A command, or a form
+-- of one, that isn't built is refused as such words are.
 abbrev pub behaviour_of : Outside → Option Meaning → Behaviour
 behaviour_of outside None = usage_behaviour
 behaviour_of outside (Some (check file)) = check_behaviour outside.holds file
-behaviour_of outside (Some (make number part)) = make_behaviour number part
+behaviour_of outside (Some (turns asked)) = usage_behaviour
+behaviour_of outside (Some (steps asked)) = usage_behaviour
+behaviour_of outside (Some (run asked)) = usage_behaviour
+behaviour_of outside (Some (make number None)) = usage_behaviour
+behaviour_of outside (Some (make number (Some part))) = make_behaviour number part

@@ -1,20 +1,36 @@
 -- The commands that words were read to, and what a command gives.
-use Rattle.std.specs.Prelude.{◌≡◌, ◌⊎◌, ℕ, List, Option, String, map}
+use Rattle.std.specs.Prelude.{◌≡◌, ◌⊎◌, ℕ, List, [], Option, String, map, unwrap_or}
 use Rattle.std.specs.Global.{Global}
 use Rattle.std.specs.String.{string_bytes}
 use Rattle.sched_tool.specs.Behaviours.{Behaviour, behaviour_of}
+use Rattle.sched_tool.specs.Lines.{text_of}
 use Rattle.sched_tool.specs.Outsides.{Outside}
 use Rattle.sched_tool.specs.ReadFaults.{FaultsAt}
 use Rattle.sched_tool.specs.Statuses.{answer_status, memory_status}
-use Rattle.sched_tool.specs.Words.{check, make, Meaning, meaning_of}
+use Rattle.sched_tool.specs.Words.{AskedRun, check, make, Meaning, meaning_of, order_of, run, steps}
+use Rattle.sched_tool.specs.Words.{turns}
 use Rattle.sched_tool.specs.declared.program.output.Output.{Output}
 use Rattle.sched_tool.specs.declared.program.refusal.Refusal.{Refusal}
 use Rattle.sched_tool.specs.declared.program.words.Command.{Command}
-use Rattle.sched_tool.specs.declared.program.words.Command.TheVariants.{Check, Make}
+use Rattle.sched_tool.specs.declared.program.words.Command.TheVariants.{Check, Make, Run, Steps}
+use Rattle.sched_tool.specs.declared.program.words.Command.TheVariants.{Turns}
+use Rattle.sched_tool.specs.declared.program.words.RunWords.{RunWords}
+
+-- the run that words tell; an order that was read is one
+abbrev pub run_meant : RunWords → AskedRun
+run_meant told = record {
+  script = told.script.now;
+  workers = told.workers;
+  slots = told.slots;
+  order = unwrap_or (order_of told.workers (text_of told.order)) [];
+}
 
 -- what a command asks for
 abbrev pub asked_by : Command → Meaning
 asked_by (Check file) = check file.now
+asked_by (Turns told) = turns (run_meant told)
+asked_by (Steps told) = steps (run_meant told)
+asked_by (Run told) = run (run_meant told)
 asked_by (Make number part) = make number part
 
 -- what the words ask for; none if they are outside the grammar

@@ -64,7 +64,11 @@ fn run_command<F: Files, M: Meter>(
 {
     match read_words(words) {
         Some(Command::Check(script)) => check_script(alloc, files, script),
-        Some(Command::Make(number, part)) => make_text(alloc, number, part),
+        Some(Command::Make(number, Some(part))) => make_text(alloc, number, part),
+        // These are not built.
+        Some(Command::Turns(_) | Command::Steps(_) | Command::Run(_) | Command::Make(_, None)) => {
+            Err(Refusal::Usage)
+        }
         None => Err(Refusal::Usage),
     }
 }

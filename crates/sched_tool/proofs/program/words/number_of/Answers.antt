@@ -7,4 +7,4 @@ use Rattle.sched_tool.proofs.program.words.number_of.Goals as goal
 pub returns-in-Err : goal.returns-in-Err
 returns-in-Err c =
     let digits = ap (list_all is_ascii_digit) (sym c.as_bytes.ensures.value) ∙ sym c.are_digits.ensures ∙ c.if-not-are_digits.false in
-    not_number c.args.most c.args.greatest c.args.word.now (omega (arith, c.ranges.greatest.fits)) digits c.in-Err.ensures.value.0
+    not_number c.args.most c.args.least c.args.greatest c.args.word.now (omega (arith, c.ranges.greatest.fits)) digits c.in-Err.ensures.value.0

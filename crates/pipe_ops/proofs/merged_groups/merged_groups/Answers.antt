@@ -16,7 +16,8 @@ returns-clause-moved c =
     let sorted = c.sort_by_key.new.entries.items in
     IfOk-weaker c.as_groups.result _ _ (λ groups same.
     subst (IsPermutation (flat_map (held_groups c.args.width) c.args.accs.items)) (sym same)
-    (subst (λ l. IsPermutation l (map group_in sorted)) (rw c.as_slice.ensures.value at c.in_ok-entries.ensures.groups) (IsPermutation-map group_in entries sorted c.sort_by_key.ensures.moved))) c.as_groups.ensures
+    (subst (λ l. IsPermutation l (map group_in sorted)) (rw c.as_slice.ensures.value at c.in_ok-entries.ensures.groups)
+    (IsPermutation-map group_in entries sorted c.sort_by_key.ensures.moved))) c.as_groups.ensures
 
 pub returns-clause-sorted : goal.returns-clause-sorted
 returns-clause-sorted c =

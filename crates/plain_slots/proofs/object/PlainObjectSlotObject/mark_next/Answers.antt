@@ -21,7 +21,7 @@ index-requires-2 c =
     let (id, n, m, at, more) = asks-at c.self.inside c.args.worker c.index.result.now c.slot_at-s.result s in
     place-index c.self.inside c.self.invariant c.nth_other-next.result (subst (λ v. v < c.self.inside.shape.workers)
     (sym (c.nth_other-next.ensures ∙ asked-is c.args.worker c.in-Asking.is at))
-        (next-worker c.self.inside c.args.worker c.index.result.now c.slot_at-s.result n s more))
+    (next-worker c.self.inside c.args.worker c.index.result.now c.slot_at-s.result n s more))
 
 pub index_mut-owes-requires : goal.index_mut-owes-requires
 index_mut-owes-requires c =
@@ -30,7 +30,7 @@ index_mut-owes-requires c =
     let low = next-worker c.self.inside c.args.worker c.index.result.now c.slot_at-s.result n s more in
     debt-index c.self.inside c.self.invariant c.slot_at-s.result (nth_other c.args.worker n) s.in_slots low c.cell_index.result
     (c.cell_index.ensures ∙ ap (λ u. c.slot_at-s.result * c.self.inside.shape.workers + u)
-        (c.nth_other-next.ensures ∙ asked-is c.args.worker c.in-Asking.is at))
+    (c.nth_other-next.ensures ∙ asked-is c.args.worker c.in-Asking.is at))
 
 pub step-requires-clause-counted : goal.step-requires-clause-counted
 step-requires-clause-counted c = counted-at c.self.inside c.self.invariant c.args.worker

@@ -1,6 +1,7 @@
 -- Seats are split and joined.
 use Rattle.std.proofs.Common.{◌≡◌, ℕ, zero, suc, ◌+◌, ◌<◌, ◌≤◌, ◌⊎◌, Bool, true, false, cond, eqb, leb, List, [], ◌∷◌, ◌++◌}
-use Rattle.std.proofs.Common.{length, length-append, set, drop, Option, None, slice_index, refl, sym, ap, ◌∙◌, subst, inl, inr, ⊎_elim, le-leb, leb-true, arith}
+use Rattle.std.proofs.Common.{length, length-append, set, drop, Option, None, slice_index, refl, sym, ap, ◌∙◌, subst, inl, inr, ⊎_elim, le-leb, leb-true}
+use Rattle.std.proofs.Common.{arith}
 use mathlib.Core.Option.{some, some-injective, some-ne-none}
 use mathlib.Core.Logic.{dite}
 use native.Mathlib.Decide.{ℕ_discrete, dec_le}

@@ -45,8 +45,8 @@ NoticesStay {B = B} {Sub = Sub} total fits = (about : About Sub) (known : Knowle
     (table : State (Option B) (View Sub)) → IsTrueOf (terms_of total fits about) known table
     → IsNoticed about.shape (state_after about.shape known.trail)
 
--- The seat i has the cell of u at the slot s out: its view says that u's cell is, and its worker has
--- this cell.
+-- The seat i has the cell of u at the slot s out: its view says that u's cell is, and its worker
+-- has this cell.
 pub record HasOut {B Sub : Type 0} (terms : Terms B Sub) (known : Knowledge)
     (table : State (Option B) (View Sub)) (s u i : ℕ) : Type 0 where
   pub view : View Sub

@@ -50,7 +50,8 @@ module _ {Sub : Type 0} where
 
   -- what the view shows as the station of its worker, for this subject
   abbrev pub seen_by_view : View Sub → Sub → Seen (Unit {0}) Sub
-  seen_by_view v subject = seen_with (record { worker = number v; shape = v.shape; subject = subject })
+  seen_by_view v subject =
+      seen_with (record { worker = number v; shape = v.shape; subject = subject })
       v.trail (note_of v)
 
   -- ---- after steps

@@ -1,5 +1,7 @@
 -- The totals of one aggregate as the code keeps them, by the number of the group. Sums wrap.
-use Rattle.std.specs.Prelude.{◌≡◌, ℕ, ℤ, ◌+◌, ◌+ℤ◌, ◌%◌, ◌^◌, ◌<◌, ◌≤◌, nat_lt, List, [], ◌∷◌, ◌++◌, Some, map, length, slice_set, slice_index_or, vec_len, vec_capacity, if◌then◌else◌}
+use Rattle.std.specs.Prelude.{◌≡◌, ℕ, ℤ, ◌+◌, ◌+ℤ◌, ◌%◌, ◌^◌, ◌<◌, ◌≤◌, nat_lt, List, [], ◌∷◌, ◌++◌}
+use Rattle.std.specs.Prelude.{Some, map, length, slice_set, slice_index_or, vec_len, vec_capacity}
+use Rattle.std.specs.Prelude.{if◌then◌else◌}
 use Rattle.std.specs.Int.{w128, int_wrap}
 use Rattle.plan_ast.specs.Aggregates.{agg_sum}
 use Rattle.plan_ast.specs.Answer.{aggregate}

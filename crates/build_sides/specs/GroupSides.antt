@@ -1,5 +1,6 @@
 -- A group side as a map from keys to totals, and the rows that it folds.
-use Rattle.std.specs.Prelude.{◌≡◌, ◌⊎◌, ℕ, pos, ◌<◌, ◌==◌, Bool, List, [], ◌++◌, All, map, length, filter, slice_index_or, unsigned_abs}
+use Rattle.std.specs.Prelude.{◌≡◌, ◌⊎◌, ℕ, pos, ◌<◌, ◌==◌, Bool, List, [], ◌++◌, All, map, length}
+use Rattle.std.specs.Prelude.{filter, slice_index_or, unsigned_abs}
 use Rattle.std.specs.Int.{w64, int_rem_euclid}
 use Rattle.std.specs.Int.RustNames.{FitsSigned}
 use Rattle.plan_ast.specs.declared.queries.Func.{Func}

@@ -1,7 +1,10 @@
 // The totals of one aggregate over all groups, by the number of the group.
-ghost use Rattle.std.specs.Prelude.{◌≡◌, ◌<◌, ◌≤◌, [], length, vec_len, vec_capacity, slice_index_or, OnOk};
+ghost use Rattle.std.specs.Prelude.{◌≡◌, ◌<◌, ◌≤◌, [], length, vec_len, vec_capacity};
+ghost use Rattle.std.specs.Prelude.{slice_index_or, OnOk};
 ghost use Rattle.std.specs.Int.{int_min, int_max};
-ghost use Rattle.build_sides.specs.Columns.{FoldsValue, HasRoom, HasRoomFor, IsTotal, count_sum, func_of, put, totals_of, values_of, with_total, wrapped_sum};
+ghost use Rattle.build_sides.specs.Columns.{FoldsValue, HasRoom, HasRoomFor, IsTotal, count_sum};
+ghost use Rattle.build_sides.specs.Columns.{func_of, put, totals_of, values_of, with_total};
+ghost use Rattle.build_sides.specs.Columns.{wrapped_sum};
 ghost use Rattle.build_sides.specs.GroupTotals.{nothing_of};
 
 use plan_ast::{AggValue, Func};

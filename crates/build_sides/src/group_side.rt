@@ -1,12 +1,16 @@
 // The totals of groups by their key.
-ghost use Rattle.std.specs.Prelude.{◌≡◌, ℕ, ℤ, pos, ◌+◌, ◌^◌, ◌<◌, ◌≤◌, ◌++◌, ◌∷◌, [], All, List, map, length, slice_index_or, IfOk, OnOk, OnErr, if◌then◌else◌};
+ghost use Rattle.std.specs.Prelude.{◌≡◌, ℕ, ℤ, pos, ◌+◌, ◌^◌, ◌<◌, ◌≤◌, ◌++◌, ◌∷◌, [], All, List};
+ghost use Rattle.std.specs.Prelude.{map, length, slice_index_or, IfOk, OnOk, OnErr, if◌then◌else◌};
 ghost use Rattle.std.specs.Int.{w64};
 ghost use Rattle.std.specs.Int.RustNames.{FitsSigned};
 ghost use Rattle.plan_ast.specs.Bounds.{IsWithin};
 ghost use Rattle.build_sides.specs.Chains.{key_at};
-ghost use Rattle.build_sides.specs.Columns.{AddsTotal, FoldsValue, HasRoom, HasRoomFor, func_of, totals_of, values_of};
-ghost use Rattle.build_sides.specs.FoldedRows.{FoldedRow, group_key_of, row_of, rows_with, total_of};
-ghost use Rattle.build_sides.specs.GroupSides.{Folds, FoldsSomeKeys, column_of, funcs_of, key_part, rows_in, total_at};
+ghost use Rattle.build_sides.specs.Columns.{AddsTotal, FoldsValue, HasRoom, HasRoomFor, func_of};
+ghost use Rattle.build_sides.specs.Columns.{totals_of, values_of};
+ghost use Rattle.build_sides.specs.FoldedRows.{FoldedRow, group_key_of, row_of, rows_with};
+ghost use Rattle.build_sides.specs.FoldedRows.{total_of};
+ghost use Rattle.build_sides.specs.GroupSides.{Folds, FoldsSomeKeys, column_of, funcs_of, key_part};
+ghost use Rattle.build_sides.specs.GroupSides.{rows_in, total_at};
 ghost use Rattle.build_sides.specs.PartChains.{AreParts};
 ghost use Rattle.build_sides.specs.Numbered.{AreDistinct, Numbers};
 ghost use Rattle.build_sides.specs.declared.columns.Column.{Column};

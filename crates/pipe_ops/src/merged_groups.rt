@@ -1,11 +1,13 @@
 // The groups that the accumulators of a merge have together.
-ghost use Rattle.std.specs.Prelude.{◌≡◌, ◌<◌, ◌++◌, All, IfOk, IsPermutation, IsSortedBy, OnOk, flat_map, length, map};
+ghost use Rattle.std.specs.Prelude.{◌≡◌, ◌<◌, ◌++◌, All, IfOk, IsPermutation, IsSortedBy, OnOk};
+ghost use Rattle.std.specs.Prelude.{flat_map, length, map};
 ghost use Rattle.std.specs.Cmp.Lexicographic.{slice_cmp};
 ghost use Rattle.std.specs.Ordering.{int_cmp, is_lt};
 ghost use Rattle.plan_ast.specs.Bounds.{IsWithin};
 ghost use Rattle.build_sides.specs.Numbered.{AreDistinct};
 ghost use Rattle.pipe_ops.specs.Grouping.{group_in};
-ghost use Rattle.pipe_ops.specs.Merging.{HasDistinctGroups, group_at, groups_in, held_groups, key_values};
+ghost use Rattle.pipe_ops.specs.Merging.{HasDistinctGroups, group_at, groups_in, held_groups};
+ghost use Rattle.pipe_ops.specs.Merging.{key_values};
 
 use crate::acc::Acc;
 use crate::groups::{Entry, as_groups, sort_by_key};

@@ -1,5 +1,6 @@
 -- The printed text of a report: the answers, the shares of the workers, and the journal.
-use Rattle.std.specs.Prelude.{ℕ, List, [], ◌++◌, ◌==◌, decimal, cond, if◌then◌else◌, flat_map, codes}
+use Rattle.std.specs.Prelude.{ℕ, List, [], ◌++◌, ◌==◌, decimal, cond, if◌then◌else◌, flat_map}
+use Rattle.std.specs.Prelude.{codes}
 use Rattle.report_text.specs.AnswersText.{answers_bytes, line}
 use Rattle.report_text.specs.declared.report.ClaimOf.{ClaimOf}
 use Rattle.report_text.specs.declared.report.Record.{Record}

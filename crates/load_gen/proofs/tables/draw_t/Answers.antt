@@ -72,7 +72,8 @@ table_of-requires-clause-heights c =
 
 pub table_of-requires-clause-heading : goal.table_of-requires-clause-heading
 table_of-requires-clause-heading c =
-    let named : c.in_ok-names.names.items ≡ codes "k" ∷ codes "g" ∷ codes "v" ∷ [] = same_three _ _ _ _ _ _ _ c.in_ok-names.ensures.items c.in_ok-name.ensures c.in_ok-name-2.ensures c.in_ok-name-3.ensures in
+    let named : c.in_ok-names.names.items ≡ codes "k" ∷ codes "g" ∷ codes "v" ∷ [] = same_three _ _ _ _ _ _ _ c.in_ok-names.ensures.items
+    c.in_ok-name.ensures c.in_ok-name-2.ensures c.in_ok-name-3.ensures in
     subst IsHeading (sym named) t-heading
 
 -- the names and the columns are those of the table
@@ -81,7 +82,8 @@ is_made : (c : goal.After-table_of) → named_rows c.in_ok-names.names.items (ro
 is_made c =
     let state = c.args.draws.now in
     let rows = c.args.rows in
-    let named : c.in_ok-names.names.items ≡ codes "k" ∷ codes "g" ∷ codes "v" ∷ [] = same_three _ _ _ _ _ _ _ c.in_ok-names.ensures.items c.in_ok-name.ensures c.in_ok-name-2.ensures c.in_ok-name-3.ensures in
+    let named : c.in_ok-names.names.items ≡ codes "k" ∷ codes "g" ∷ codes "v" ∷ [] = same_three _ _ _ _ _ _ _ c.in_ok-names.ensures.items
+    c.in_ok-name.ensures c.in_ok-name-2.ensures c.in_ok-name-3.ensures in
     let all : c.loop.counter ≡ rows = omega arith in
     made_of_columns c.in_ok-names.names.items (codes "k" ∷ codes "g" ∷ codes "v" ∷ []) c.in_ok-columns.columns.items rows
     (key state ∷ group state ∷ value state ∷ []) named

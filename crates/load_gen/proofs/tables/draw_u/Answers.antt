@@ -57,7 +57,8 @@ table_of-requires-clause-heights c =
 
 pub table_of-requires-clause-heading : goal.table_of-requires-clause-heading
 table_of-requires-clause-heading c =
-    let named : c.in_ok-names.names.items ≡ codes "k" ∷ codes "w" ∷ [] = same_two _ _ _ _ _ c.in_ok-names.ensures.items c.in_ok-name.ensures c.in_ok-name-2.ensures in
+    let named : c.in_ok-names.names.items ≡ codes "k" ∷ codes "w" ∷ [] = same_two _ _ _ _ _ c.in_ok-names.ensures.items c.in_ok-name.ensures
+    c.in_ok-name-2.ensures in
     subst IsHeading (sym named) u-heading
 
 -- the names and the columns are those of the table
@@ -66,7 +67,8 @@ is_made : (c : goal.After-table_of) → named_rows c.in_ok-names.names.items (ro
 is_made c =
     let state = c.args.draws.now in
     let rows = c.args.rows in
-    let named : c.in_ok-names.names.items ≡ codes "k" ∷ codes "w" ∷ [] = same_two _ _ _ _ _ c.in_ok-names.ensures.items c.in_ok-name.ensures c.in_ok-name-2.ensures in
+    let named : c.in_ok-names.names.items ≡ codes "k" ∷ codes "w" ∷ [] = same_two _ _ _ _ _ c.in_ok-names.ensures.items c.in_ok-name.ensures
+    c.in_ok-name-2.ensures in
     let all : c.loop-row.row ≡ rows = omega arith in
     made_of_columns c.in_ok-names.names.items (codes "k" ∷ codes "w" ∷ []) c.in_ok-columns.columns.items rows (key ∷ weight state ∷ []) named
     (ap values_of c.in_ok-columns.ensures.items

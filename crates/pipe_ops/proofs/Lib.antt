@@ -23,3 +23,4 @@ pub mod ScanTuplesLemmas
 pub mod SideJoinLemmas
 pub mod StageRangeLemmas
 pub mod TakesLemmas
+pub mod TwoSharesLemmas

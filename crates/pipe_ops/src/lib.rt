@@ -39,4 +39,6 @@ pub use results::StageResult;
 pub use stages::run_range;
 
 #[cfg(test)]
+mod stage_tests;
+#[cfg(test)]
 mod tests;

@@ -1,4 +1,4 @@
--- The commands that words were read to, and what a command gives.
+-- What the commands that were read ask for, and what a command gives.
 use Rattle.std.specs.Prelude.{◌≡◌, ◌⊎◌, ℕ, List, [], Option, String, map, unwrap_or}
 use Rattle.std.specs.Global.{Global}
 use Rattle.std.specs.String.{string_bytes}
@@ -16,7 +16,7 @@ use Rattle.sched_tool.specs.declared.program.words.Command.TheVariants.{Check, M
 use Rattle.sched_tool.specs.declared.program.words.Command.TheVariants.{Turns}
 use Rattle.sched_tool.specs.declared.program.words.RunWords.{RunWords}
 
--- the run that words tell; an order that was read is one
+-- the run that a command asks for, by its words; the text of an order is read when the run begins
 abbrev pub run_meant : RunWords → AskedRun
 run_meant told = record {
   script = told.script.now;

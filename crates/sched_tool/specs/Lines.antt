@@ -1,4 +1,4 @@
--- What a line holds.
+-- A line of options and words as the grammar sees it: the bytes of its texts.
 use Rattle.std.specs.Prelude.{ℕ, List, Option}
 use Rattle.std.specs.Borrow.{Bor}
 use Rattle.std.specs.Option.{option_map}

@@ -1,9 +1,9 @@
-//! The program: the words after its name are read to a command, which reads its files and writes
+//! The program: the words after its name are read as a command, which reads its files and writes
 //! one text.
 //!
 //! It stands on the outside (`outside_io`), on scripts (`script_json`) and tables (`csv_tables`)
-//! that are read, on queries and their check (`plan_ast`), on their answers (`pipe_ops`) and on the
-//! text of these (`report_text`).
+//! that are read, on queries and their check (`plan_ast`), on their answers (`pipe_ops`), on the
+//! text of these (`report_text`), and on the generator of large inputs (`load_gen`).
 //!
 //! The one fact that it promises is the contract of `run_program`: for the words, and for what is
 //! known of the files, it says which text is written and with which status, and the cause of every

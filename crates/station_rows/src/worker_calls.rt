@@ -32,7 +32,7 @@ impl<'s, S: Station<Piece>> Worker<'s, S> {
         requires { IsAt S.seen self.old }
         ensures { KeepsOrigin S.seen self.old self.new }
     {
-        self.expect_hand(rt);
+        expect_hand(rt, self);
         match act {
             Act::Arrivals(_) => Act::Arrivals(self.station.arrivals(steps)),
             Act::Finished(_) => Act::Finished(self.station.finished(steps)),
@@ -65,17 +65,6 @@ impl<'s, S: Station<Piece>> Worker<'s, S> {
             Act::PayLast | Act::PayDone => self.pay(rt, steps),
             _ => panic!(rt; "no call at a slot"),
         }
-    }
-
-    /// Asserts that the worker has in hand the token of its place.
-    fn expect_hand(&self, rt: &impl Abort)
-        requires { IsAt S.seen self.now }
-        ensures { IsReady S.seen self.now }
-    {
-        let worker = self.station.worker();
-        let workers = self.station.workers();
-        let due = hand_at(&self.place, worker, workers);
-        assert_eq!(rt; self.hand, due);
     }
 
     fn enter<L: Ledger>(&mut self, rt: &impl Abort, s: u32, steps: &mut Steps<L>) -> Act
@@ -331,6 +320,17 @@ impl<'s, S: Station<Piece>> Worker<'s, S> {
     {
         mem::replace(&mut self.hand, Hand::Nothing)
     }
+}
+
+/// Asserts that the worker has in hand the token of its place.
+fn expect_hand<S: Station<Piece>>(rt: &impl Abort, worker: &Worker<'_, S>)
+    requires { IsAt S.seen worker.now }
+    ensures { IsReady S.seen worker.now }
+{
+    let number = worker.station.worker();
+    let workers = worker.station.workers();
+    let due = hand_at(&worker.place, number, workers);
+    assert_eq!(rt; worker.hand, due);
 }
 
 /// Whether a worker at this place has its own cell of the slot.

@@ -23,10 +23,10 @@ use std::alloc::{AllocError, Global};
 /// its queries. `make` writes a part of a large input. Neither uses the meter.
 ///
 /// The first refusal in this order is written, as its line, in place of all else: the words are
-/// outside the grammar (2); the script can't be read (3) or is refused (5); table by table in the
-/// script's order, the table can't be read (3) or is refused (6); a query is refused (5). Running
-/// out of memory ends the command where it happens (7). If a write fails, the status is 4, and a
-/// prefix of the text was written.
+/// outside the grammar, or ask for a command that isn't built (2); the script can't be read (3) or
+/// is refused (5); table by table in the script's order, the table can't be read (3) or is refused
+/// (6); a query is refused (5). If memory runs out, the command ends there (7). If a write fails,
+/// the status is 4, and a prefix of the text was written.
 pub fn command<F: Files, S: Sink, M: Meter>(
     alloc: Global,
     words: &[String],

@@ -30,7 +30,7 @@ pub enum TableFault {
 /// Why a command gives no answer.
 #[derive(Debug, Drop)]
 pub enum Refusal {
-    /// The words are outside the grammar.
+    /// The words are outside the grammar, or ask for a command that isn't built.
     Usage,
     /// A read of this file failed.
     CannotRead(Text),

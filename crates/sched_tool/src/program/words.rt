@@ -1,5 +1,5 @@
 //! What the words after the program's name mean.
-ghost use Rattle.std.specs.Prelude.{◌≡◌, ◌≤◌, None, Some, MatchOption, is_some};
+ghost use Rattle.std.specs.Prelude.{◌≡◌, ◌≤◌, None, Some, MatchOption, is_some, true};
 ghost use Rattle.std.specs.Char.{is_ascii_digit};
 ghost use Rattle.std.specs.List.{list_all};
 ghost use Rattle.sched_tool.specs.Commands.{asked, asked_by, run_meant};
@@ -129,8 +129,10 @@ fn read_make<'a>(number: &str, part: Option<&'a str>) -> Option<Command<'a>>
 
 // Reads a script's file and the options of its run.
 fn read_run<'a>(line: Line<'a>) -> Option<RunWords<'a>>
-    ensures { MatchOption result (run_of (seen line.entry) ≡ None)
+    ensures meant { MatchOption result (run_of (seen line.entry) ≡ None)
         (λ told. run_of (seen line.entry) ≡ Some (run_meant told)) }
+    ensures order { MatchOption result (Unit {0})
+        (λ told. is_some (order_of told.workers (text_of told.order)) ≡ true) }
 {
     let script = read_script(line.first, line.second)?;
     let workers = number_of(line.workers?, 9, 1, 64)?;

@@ -3,7 +3,8 @@ ghost use Rattle.std.specs.Prelude.{◌≡◌, ◌+◌, ◌<◌, true, IfSome};
 ghost use Rattle.std.proofs.Props.{props};
 ghost use Rattle.std.specs.Coded.{Coded-set, coded_option};
 ghost use Rattle.slot_station.specs.Cells.{has_cell, kept_note, fresh_note};
-ghost use Rattle.slot_station.specs.Desks.{own_place, Owns, Exchanges, ExchangesOwn, OwnFits, NextFits, OwnCellSays, CellSays};
+ghost use Rattle.slot_station.specs.Desks.{own_place, Owns, Exchanges, ExchangesOwn, OwnFits};
+ghost use Rattle.slot_station.specs.Desks.{NextFits, OwnCellSays, CellSays};
 ghost use Rattle.slot_station.specs.Tokens.{IsHolder};
 ghost use Rattle.board_rule.specs.Passes.{IsPassOf, seen_of, shape_of, subject_of};
 

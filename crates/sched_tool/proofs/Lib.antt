@@ -1,14 +1,14 @@
 mod BehaviourLemmas
 mod CommandLemmas
 mod CompletenessLemmas
-mod EndingLemmas
 mod FaultLemmas
 mod GrammarLemmas
 mod MakeLemmas
 mod OutsideLemmas
+mod PromiseLemmas
 mod QueriesLemmas
-mod RefusalLemmas
 mod ReadersLemmas
+mod RefusalLemmas
 mod SubjectsLemmas
 mod UniqueLemmas
 mod WordLemmas

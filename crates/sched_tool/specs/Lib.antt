@@ -1,11 +1,11 @@
 pub mod Behaviours
 pub mod Commands
-pub mod Endings
 pub mod ErrorLines
 pub mod Grammar
 pub mod Lines
 pub mod Outsides
 pub mod Programs
+pub mod Promises
 pub mod ReadFaults
 pub mod Refusals
 pub mod Statuses

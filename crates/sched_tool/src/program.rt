@@ -2,7 +2,7 @@
 ghost use Rattle.std.specs.Prelude.{◌≡◌, ℕ, List};
 ghost use Rattle.std.specs.Process.{exit_status};
 ghost use Rattle.sched_tool.specs.Commands.{behaviour_asked};
-ghost use Rattle.sched_tool.specs.Endings.{EndsRightly};
+ghost use Rattle.sched_tool.specs.Promises.{EndsRightly};
 ghost use Rattle.sched_tool.specs.ErrorLines.{error_bytes};
 ghost use Rattle.sched_tool.specs.Outsides.{known, possible};
 ghost use Rattle.sched_tool.specs.Programs.{end_status, words_in};

@@ -81,6 +81,26 @@ fn pays_before_the_sweep<T: Form, L: Ledger>(
     table.expect_words(rt, alloc, &slot, &[[0, 0, 0, 1, 0]; 2])
 }
 
+/// Two workers find a slot empty, and leave it.
+fn two_find_it_empty<T: Form, L: Ledger>(
+    rt: &impl Abort,
+    alloc: Global,
+    steps: &mut Steps<L>,
+) -> Result<(), Fail> {
+    let mut table = table::<T>(alloc, 1, 2, &[(0, 0)])?;
+    let entries = [
+        (0, Act::Enter(0)),
+        (1, Act::Enter(0)),
+        (0, Act::LookVacant),
+        (1, Act::LookVacant),
+        (1, Act::LeaveLeft),
+        (0, Act::LeaveLeft),
+    ];
+    table.play(rt, &entries, steps);
+    let slot = [0, 0, 0, 0, 0, 4_294_967_296];
+    table.expect_words(rt, alloc, &slot, &[[0; 5]; 2])
+}
+
 /// Two marked workers pay before the sweep, and neither is the last.
 fn two_pay_before_the_sweep<T: Form, L: Ledger>(
     rt: &impl Abort,
@@ -403,6 +423,7 @@ fn play<T: Form, L: Ledger>(rt: &impl Abort, alloc: Global, blank: Blank) -> Res
     requires some { 0 < blank.parts }
 {
     let mut steps = Steps::<L>::start(blank);
+    two_find_it_empty::<T, L>(rt, alloc, &mut steps)?;
     pays_before_the_sweep::<T, L>(rt, alloc, &mut steps)?;
     two_pay_before_the_sweep::<T, L>(rt, alloc, &mut steps)?;
     a_stranger_pays_last::<T, L>(rt, alloc, &mut steps)?;

@@ -1,7 +1,7 @@
 //! A command from its words to the bytes that it writes.
 ghost use Rattle.std.specs.Prelude.{◌≡◌, ℕ, List, IfErr, IfOk};
 ghost use Rattle.sched_tool.specs.Commands.{Gives, GivesUp, behaviour_asked};
-ghost use Rattle.sched_tool.specs.Endings.{EndsRightly};
+ghost use Rattle.sched_tool.specs.Promises.{EndsRightly};
 ghost use Rattle.sched_tool.specs.ErrorLines.{error_bytes};
 ghost use Rattle.sched_tool.specs.Outsides.{known, possible};
 ghost use Rattle.sched_tool.specs.Statuses.{memory_status};

@@ -3,7 +3,7 @@ use Rattle.sched_tool.specs.Commands.{asked, behaviour_asked}
 use Rattle.sched_tool.specs.Outsides.{possible}
 use Rattle.sched_tool.specs.Writing.{SinkState}
 use Rattle.sched_tool.proofs.CommandLemmas.{Ends, Ends-from}
-use Rattle.sched_tool.proofs.EndingLemmas.{ends_rightly}
+use Rattle.sched_tool.proofs.PromiseLemmas.{ends_rightly}
 use Rattle.sched_tool.proofs.program.command.command.Goals as goal
 
 pub returns : goal.returns

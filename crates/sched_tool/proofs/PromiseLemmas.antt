@@ -6,7 +6,7 @@ use Rattle.sched_tool.proofs.CommandLemmas.{Ends, faults_at_any, refused}
 use Rattle.sched_tool.proofs.CompletenessLemmas.{accepted_ends, refused_ends}
 use Rattle.sched_tool.proofs.OutsideLemmas.{Agree, Agree-swap, known-possible}
 use Rattle.sched_tool.specs.Behaviours.{Behaviour, behaviour_of}
-use Rattle.sched_tool.specs.Endings.{EndsRightly}
+use Rattle.sched_tool.specs.Promises.{EndsRightly}
 use Rattle.sched_tool.specs.ErrorLines.{error_bytes}
 use Rattle.sched_tool.specs.Outsides.{known, possible}
 use Rattle.sched_tool.specs.Statuses.{memory_status}

@@ -1,5 +1,5 @@
 // The stages of a query.
-ghost use Rattle.std.specs.Prelude.{◌≡◌, ◌<◌, [], length, slice_index_or};
+ghost use Rattle.std.specs.Prelude.{◌≡◌, ◌^◌, ◌<◌, ◌≤◌, [], length, slice_index_or};
 ghost use Rattle.col_table.specs.NamedRows.{no_rows};
 ghost use Rattle.plan_ast.specs.Bounds.{IsInBounds, IsWithin};
 ghost use Rattle.plan_ast.specs.Checks.{IsCheckedFor, query_of};
@@ -37,6 +37,7 @@ pub fn stage_total(checked: &Checked, tables: &[NamedTable], stage: u32) -> u32
     requires stage { stage < stages_of (query_of checked.now) }
     ensures total { result
         ≡ tuples_of tables.now (query_of checked.now) (stage_at (query_of checked.now) stage) }
+    ensures few { result ≤ 2 ^ 20 }
 {
     let builds = checked.query().joins.as_slice().len();
     let stage = stage as usize;

@@ -12,6 +12,7 @@ returns-then-stage-builds c =
     record {
       total = c.rows.ensures.count ∙ ap (λ (t : NamedRows). length t.rows) c.table_of_side.ensures ∙ sym
           (tuples_of-builds c.args.tables.now query c.args.stage (omega (arith, joins, c.if-stage-builds.true)));
+      few = omega (arith, c.rows.ensures.count, c.rows.ensures.table.few);
     }
 
 pub returns-then-stage-builds-2 : goal.returns-then-stage-builds-2
@@ -22,6 +23,7 @@ returns-then-stage-builds-2 c =
       total =
           c.rows-then-stage-builds-2.ensures.count ∙ ap (λ (t : NamedRows). length t.rows) c.table_of_side-then-stage-builds-2.ensures
           ∙ sym (ap (tuples_of c.args.tables.now query) (stage_at-scans query c.args.stage (c.if-stage-builds-2.true ∙ joins)));
+      few = omega (arith, c.rows-then-stage-builds-2.ensures.count, c.rows-then-stage-builds-2.ensures.table.few);
     }
 
 pub returns-else-stage-builds-2 : goal.returns-else-stage-builds-2
@@ -31,4 +33,5 @@ returns-else-stage-builds-2 c =
     record {
       total = sym (ap (tuples_of c.args.tables.now query)
           (stage_at-merges query c.args.stage (omega (arith, joins, c.if-stage-builds.false, c.if-stage-builds-2.false))));
+      few = omega arith;
     }

@@ -2,3 +2,4 @@ pub mod Spreads
 pub mod Choices
 pub mod Bounds
 pub mod Writes
+pub mod Joins

@@ -1,9 +1,8 @@
-use Rattle.std.proofs.Common.{◌≡◌, ◌<◌, length, set, max, subst, sym, ap, ◌∙◌, true}
-use Rattle.std.proofs.lemmas.List.{length-set}
-use Rattle.stride_set.specs.Slots.{spread_among, pass_in}
-use Rattle.stride_set.specs.Strides.{StrideState, IsBounded, JoinReturn, strides_of}
+use Rattle.std.proofs.Common.{◌≡◌, ◌<◌, length, max, subst, sym, ap, ◌∙◌}
+use Rattle.stride_set.specs.Slots.{pass_in}
+use Rattle.stride_set.specs.Strides.{StrideState, JoinReturn}
 use Rattle.stride_set.specs.Fields.{state_of}
-use Rattle.stride_set.proofs.Bounds.{stride_after-bounded}
+use Rattle.stride_set.proofs.Joins.{widest-joined, kept-joined}
 use Rattle.stride_set.proofs.Writes.{pass_in-read, strides_of-join_return}
 use Rattle.stride_set.proofs.StrideSet.join_return.Goals as goal
 
@@ -13,14 +12,11 @@ returns c =
     let within : c.args.s < length v.slots = subst (λ (v : StrideState). c.args.s < length v.slots) (sym c.self.view_is) c.requires in
     let pass : c.max-pass.result ≡ max (pass_in v.slots c.args.s) v.floor = c.max-pass.ensures ∙ ap (λ p. max p v.floor)
     (pass_in-read v.slots c.args.s c.index.result.now within c.index.ensures) in
-    let widest : c.max-self-inside.result ≡ max v.widest (spread_among (set v.slots c.args.s (record { active = true; pass = c.max-pass.result }))) =
-    c.max-self-inside.ensures ∙ ap (max v.widest) (c.spread.ensures ∙ ap spread_among c.deref.ensures.value) in
-    let e = strides_of-join_return v c.args.s c.max-pass.result c.max-self-inside.result within pass widest in
-    rw (← c.self.view_is) e
+    let widest = widest-joined v c.args.s c.max-pass.result c.deref.result.now c.spread.result c.max-self-inside.result c.deref.ensures.value
+    c.spread.ensures c.max-self-inside.ensures in
+    rw (← c.self.view_is) (strides_of-join_return v c.args.s c.max-pass.result c.max-self-inside.result within pass widest)
 
 pub invariant_of-self : goal.invariant_of-self
 invariant_of-self c =
-    let before = strides_of (state_of c.self.inside) in
-    let within = subst (λ (v : StrideState). c.args.s < length v.slots) (sym c.self.view_is) c.requires in
-    let bounded = stride_after-bounded before (JoinReturn c.args.s) c.self.invariant.0 within in
-    (subst IsBounded (sym (returns c)) (rw (← c.self.view_is) bounded), rw length-set c.self.invariant.1)
+    kept-joined (state_of c.self.inside) c.args.s c.max-pass.result (JoinReturn c.args.s) c.max-self-inside.result c.self.invariant
+    c.self.view_is c.requires (returns c)

@@ -17,9 +17,9 @@ calls_of (Call e ∷ log) = e ∷ calls_of log
 calls_of (Exchanged exchange ∷ log) = calls_of log
 
 -- the history of the one log that is shown
-abbrev pub calls_in : List (List Logged) → List Entry
-calls_in [] = []
-calls_in (log ∷ logs) = calls_of log
+abbrev pub calls_of_first : List (List Logged) → List Entry
+calls_of_first [] = []
+calls_of_first (log ∷ logs) = calls_of log
 
 -- the note that the worker w has of the cell of v, at the slot at which w is
 abbrev pub note_in : List Logged → ℕ → ℕ → Note

@@ -1,6 +1,6 @@
 //! The history of an object that has ended.
 ghost use Rattle.std.specs.Prelude.{◌≡◌, ◌<◌};
-ghost use Rattle.slot_station.specs.Log.{calls_in};
+ghost use Rattle.slot_station.specs.Log.{calls_of_first};
 
 use crate::any_word::AnyWord;
 use crate::log::Logged;
@@ -19,17 +19,17 @@ pub struct History {
 impl Model for History {
     ghost use Rattle.slot_history.specs.declared.act.Entry.{Entry};
     ghost use Rattle.std.specs.Prelude.{List};
-    ghost use Rattle.slot_station.specs.Log.{calls_in};
+    ghost use Rattle.slot_station.specs.Log.{calls_of_first};
 
     ghost Value = { List Entry };
 
-    ghost view = { λ h. calls_in h.badge.views };
+    ghost view = { λ h. calls_of_first h.badge.views };
 }
 
 impl History {
     /// The history whose log the badge shows. It takes no memory.
     pub fn of(badge: Badge<LinkedList<Logged>>) -> History
-        ensures { result ≡ calls_in badge.views }
+        ensures { result ≡ calls_of_first badge.views }
     {
         History { badge }
     }

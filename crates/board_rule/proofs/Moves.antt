@@ -120,11 +120,10 @@ module _ {B Sub : Type 0} (terms : Terms B Sub) (known : Knowledge) (st : table.
   fit = ok.views i v at
 
   -- the law of exchanges, by what the view shows
-  law : ExchangeKeeps terms.fits (Unit {0}) (moment_known terms known) terms.subject X u
-  law = exchanges-go-on terms.fits (Unit {0}) (moment_known terms known) terms.subject X (record {
+  law : ExchangeKeeps terms.fits (moment_known terms known) X u
+  law = exchanges-go-on terms.fits (Unit {0}) (moment_known terms known) X (record {
     legal = ok.words_are.legal;
     shape_is = fit.shape w ws nums;
-    subject_is = refl;
     below = low;
     begins = fit.begins;
     own = extends.mine terms known st ok i v at w ws nums;

@@ -16,7 +16,7 @@ use Rattle.slot_station.proofs.Lists.{pair-within}
 use Rattle.one_thread.specs.Stories.{Story}
 use Rattle.one_thread.specs.Seats.{desk_over, shown_by}
 use Rattle.one_thread.specs.Tables.{IsTableKept, table_of}
-use Rattle.one_thread.proofs.Seated.{Seat, seen-at}
+use Rattle.one_thread.proofs.Seated.{Seat, seen-at, table-subject}
 use Rattle.one_thread.proofs.TableCells.{place-in, table-finds, table-exchange}
 
 -- the seat's worker may exchange the cell of v at its slot, which lies at i
@@ -35,18 +35,21 @@ module _ {B Sub : Type 0} {b : Ghosts B Sub} (seat : Seat b) (legal : IsLegal se
     at : i ≡ slot_of (own_place shown) * o.shape.workers + v
     at = lies ∙ ap₂ (λ t (e : Shape). t * e.workers + v) slot_is shape_is
 
-    keeps : ExchangeKeeps b.fits (Unit {0}) (moment_of o.shape o.log) seat.subject shown v
-    keeps = exchanges-go-on b.fits (Unit {0}) (moment_of o.shape o.log) seat.subject shown (seen-at seat legal) v may
+    keeps : ExchangeKeeps b.fits (moment_of o.shape o.log) shown v
+    keeps = exchanges-go-on b.fits (Unit {0}) (moment_of o.shape o.log) shown (seen-at seat legal) v may
+
+    kept : IsTableKept b (table_of o shown.desk.subject) cells
+    kept = subst (λ x. IsTableKept b (table_of o x) cells) (table-subject seat) seat.kept
 
     pub seat-index : i < length cells
-    seat-index = subst (λ j. j < length cells) (sym at) (place-in b o seat.subject cells seat.kept shown v keeps)
+    seat-index = subst (λ j. j < length cells) (sym at) (place-in b o shown cells kept v keeps)
 
     pub seat-finds : {r : Option B} → r ≡ get_or cells i r → HoldsNoted shown v b.fits r
     seat-finds {r = r} read =
         let j = slot_of (own_place shown) * o.shape.workers + v in
         let found : slice_get cells j ≡ Some r = slice_get_read cells (o.shape.slots * o.shape.workers) j r (sym seat.kept.count)
         (pair-within o.shape.slots o.shape.workers (slot_of (own_place shown)) v keeps.in_slots keeps.in_workers) (read ∙ ap (λ k. get_or cells k r) at) in
-        table-finds b o seat.subject cells seat.kept shown v keeps r found
+        table-finds b o shown cells kept v keeps r found
 
     pub seat-exchanges : {new dest : Option B} → dest ≡ new → {note : Note} → note ≡ put_note (own_place shown) new → IfSome new (MayPut shown v b.fits)
         → {after : Story} → after ≡ record o { log = Exchanged (exchange_here shown v note) ∷ o.log }
@@ -56,4 +59,5 @@ module _ {B Sub : Type 0} {b : Ghosts B Sub} (seat : Seat b) (legal : IsLegal se
         let IsKept : Story → ℕ → Option B → Type 0 = λ y j x. IsTableKept b (table_of y seat.subject) (set cells j x) in
         subst (λ y. IsKept y i dest) (sym grows) (subst (λ j. IsKept longer j dest) (sym at)
         (subst (λ x. IsKept longer (slot_of (own_place shown) * o.shape.workers + v) x) (sym puts)
-        (table-exchange b o seat.subject cells seat.kept shown v keeps new fit note is)))
+        (subst (λ x. IsTableKept b (table_of longer x) (set cells (slot_of (own_place shown) * o.shape.workers + v) new)) (sym (table-subject seat))
+        (table-exchange b o shown cells kept v keeps new fit note is))))

@@ -175,7 +175,7 @@ module _ {B Sub : Type 0} {b : Ghosts B Sub} (x : Seat b) where
   pub object-shape : object.shape ≡ start.shape
   object-shape = ap (λ (t : TableStory Sub). t.shape) x.view ∙ x.same_shape
 
-  table-subject : subject ≡ start.subject
+  pub table-subject : subject ≡ start.subject
   table-subject = ap (λ (t : TableStory Sub). t.subject) x.view ∙ x.same_subject
 
   -- a fact of the place that the trail gives, of the object's
@@ -212,11 +212,10 @@ module _ {B Sub : Type 0} {b : Ghosts B Sub} (x : Seat b) where
   log-same = ap (λ (t : TableStory Sub). t.log) x.view
 
   -- what the seat shows, the object's log gives
-  pub seen-at : IsLegal object.shape (calls_of object.log) → IsSeenAt (moment_of object.shape object.log) subject shown
+  pub seen-at : IsLegal object.shape (calls_of object.log) → IsSeenAt (moment_of object.shape object.log) shown
   seen-at legal = record {
     legal = legal;
     shape_is = sym object-shape;
-    subject_is = sym table-subject;
     below = own-below;
     begins = subst (λ l. Begins (calls_of object.log) (trail_in worker (calls_of l))) log-same (begins worker (calls_of object.log));
     own = sym (own-trail worker (calls_of object.log)) ∙ ap (λ l. own_calls worker (trail_in worker (calls_of l))) log-same;

@@ -19,8 +19,12 @@ use Rattle.one_thread.specs.Stories.{Story}
 use Rattle.one_thread.specs.Tables.{IsTableKept, table_of}
 
 -- a worker, by what its seat shows, exchanges the cell of v in a table with these cells
-module _ {B O Sub : Type 0} (b : Ghosts B Sub) (object : Story) (subject : Sub) (cells : List (Option B)) (ok : IsTableKept b (table_of object subject) cells)
-    (seen : Seen O Sub) (v : ℕ) (keeps : ExchangeKeeps b.fits O (moment_of object.shape object.log) subject seen v) where
+module _ {B O Sub : Type 0} (b : Ghosts B Sub) (object : Story) (seen : Seen O Sub) (cells : List (Option B))
+    (ok : IsTableKept b (table_of object seen.desk.subject) cells) (v : ℕ)
+    (keeps : ExchangeKeeps b.fits (moment_of object.shape object.log) seen v) where
+  abbrev subject : Sub
+  subject = seen.desk.subject
+
   abbrev s : ℕ
   s = slot_of (own_place seen)
 

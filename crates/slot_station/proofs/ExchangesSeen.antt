@@ -58,10 +58,13 @@ module _ {B : Type 0} (fits : ℕ → List (ℕ × ℕ) → B → Type 0) (R R' 
   put-by (Holding s k) same (Some b) f = f
   put-by p same (Some b) f = subst (λ r. fits (id_at p) r b) same f
 
-module _ {B Sub O : Type 0} (fits : Sub → ℕ → ℕ → List (ℕ × ℕ) → B → Type 0) (m : Moment) (subject : Sub) (seen : Seen O Sub)
-    (at : IsSeenAt m subject seen) (v : ℕ) (may : MayExchange (caller_of seen) v) where
+module _ {B Sub O : Type 0} (fits : Sub → ℕ → ℕ → List (ℕ × ℕ) → B → Type 0) (m : Moment) (seen : Seen O Sub)
+    (at : IsSeenAt m seen) (v : ℕ) (may : MayExchange (caller_of seen) v) where
   abbrev w : ℕ
   w = seen.desk.worker
+
+  abbrev subject : Sub
+  subject = seen.desk.subject
 
   abbrev p : Place
   p = place_then m w
@@ -117,8 +120,8 @@ module _ {B Sub O : Type 0} (fits : Sub → ℕ → ℕ → List (ℕ × ℕ) �
       says-maps (FitsKept f (ranges_then m v) p) (FitsFresh f (ranges_then m v) p) (FitsKept f (ranges_seen seen v) p) (FitsFresh f (ranges_seen seen v) p)
       (kept-by f (ranges_then m v) (ranges_seen seen v) p agree) (fresh-by f (ranges_then m v) (ranges_seen seen v) p) (m.notes w v) value
       (found-says f m (x (seen.notes v)) at.below at.legal (has (seen.notes v)) value c) in
-      subst (λ q. CellOf f m (record { slot = slot_of q; worker = v; value = value }) → Says q (seen.notes v) (fits seen.desk.subject v)) place-is
-      (λ c. subst (λ u. Says p (seen.notes v) (fits u v)) (sym at.subject_is) (subst (λ n. Says p n f) (at.notes v) (by_history c)))
+      subst (λ q. CellOf f m (record { slot = slot_of q; worker = v; value = value }) → Says q (seen.notes v) f) place-is
+      (λ c. subst (λ n. Says p n f) (at.notes v) (by_history c))
 
   puts : (value : Option B) → IfSome value (MayPut seen v fits) → (note : Note) → note ≡ put_note (own_place seen) value
       → CellOf (fits subject v) (after_exchange (x note) m) (cell_here seen v value)
@@ -127,7 +130,7 @@ module _ {B Sub O : Type 0} (fits : Sub → ℕ → ℕ → List (ℕ × ℕ) �
       subst (λ q. IfSome value (FitsPut f (ranges_seen seen v) q) → note ≡ put_note q value
       → CellOf f (after_exchange (x note) m) (record { slot = slot_of q; worker = v; value = value })) place-is
       (λ fit_so noted. put-says f m (x note) at.below at.legal (has note) value noted (put-by f (ranges_then m v) (ranges_seen seen v) p agree value fit_so))
-      (subst (λ u. IfSome value (FitsPut (fits u v) (ranges_seen seen v) (own_place seen))) at.subject_is fit) is
+      fit is
 
   keeps-others : (note : Note) (cell : Cell B) → (cell.slot ≡ slot_of (own_place seen) → cell.worker ≢ v) → CellOf (fits subject cell.worker) m cell
       → CellOf (fits subject cell.worker) (after_exchange (x note) m) cell
@@ -135,14 +138,14 @@ module _ {B Sub O : Type 0} (fits : Sub → ℕ → ℕ → List (ℕ × ℕ) �
       (λ same. other (same ∙ ap slot_of place-is))
 
 pub exchanges-go-on : {B Sub : Type 0} (fits : Sub → ℕ → ℕ → List (ℕ × ℕ) → B → Type 0) (O : Type 0) → ExchangesGoOn fits O
-exchanges-go-on fits O moment subject seen at v may = record {
-  in_slots = in-slots fits moment subject seen at v may;
-  in_workers = in-workers fits moment subject seen at v may;
-  has = has-here fits moment subject seen at v may;
-  only = only-here fits moment subject seen at v may;
-  found = finds fits moment subject seen at v may;
-  put = puts fits moment subject seen at v may;
-  others = keeps-others fits moment subject seen at v may;
+exchanges-go-on fits O moment seen at v may = record {
+  in_slots = in-slots fits moment seen at v may;
+  in_workers = in-workers fits moment seen at v may;
+  has = has-here fits moment seen at v may;
+  only = only-here fits moment seen at v may;
+  found = finds fits moment seen at v may;
+  put = puts fits moment seen at v may;
+  others = keeps-others fits moment seen at v may;
 }
 
 -- ---- in the words of a station's exchanges

@@ -12,14 +12,11 @@ use Rattle.slot_station.specs.Cells.{Moment, Cell, Caller, kept_note, fresh_note
 use Rattle.slot_station.specs.Cells.{FitsNext, FitsFinalised, FitsClaims}
 use Rattle.slot_station.specs.Desks.{Seen, own_place}
 
--- What a station shows is seen at this moment, of an object that serves this subject: the history
--- is legal, the worker's trail begins it and has all of its own calls, and its notes are those of
--- the moment.
-pub record IsSeenAt {O Sub : Type 0} (moment : Moment) (subject : Sub) (seen : Seen O Sub)
-    : Type 0 where
+-- What a station shows is seen at this moment: the history is legal, the worker's trail begins it
+-- and has all of its own calls, and its notes are those of the moment.
+pub record IsSeenAt {O Sub : Type 0} (moment : Moment) (seen : Seen O Sub) : Type 0 where
   pub legal : IsLegal moment.shape moment.history
   pub shape_is : seen.desk.shape ≡ moment.shape
-  pub subject_is : seen.desk.subject ≡ subject
   pub below : seen.desk.worker < moment.shape.workers
   pub begins : Begins moment.history seen.trail
   pub own : own_calls seen.desk.worker moment.history ≡ own_calls seen.desk.worker seen.trail

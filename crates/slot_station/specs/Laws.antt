@@ -66,32 +66,31 @@ RepliesAllowed = (totals : ℕ → Option ℕ) (caller : Caller) (call : Call) (
 -- one of the object's and with the worker, which has none at another slot. The worker finds what
 -- its note says. If the value that it puts fits, the cell is as the new note says. What is known of
 -- the other cells stays.
-module _ {B Sub : Type 0} (fits : Sub → ℕ → ℕ → List (ℕ × ℕ) → B → Type 0) (O : Type 0) where
-  pub record ExchangeKeeps (moment : Moment) (subject : Sub) (seen : Seen O Sub) (v : ℕ)
-      : Type 0 where
-    pub in_slots : slot_of (own_place seen) < moment.shape.slots
-    pub in_workers : v < moment.shape.workers
-    pub has : HasCell (state_after moment.shape moment.history) (slot_of (own_place seen)) v
-        seen.desk.worker
-    pub only : (s u : ℕ) → HasCell (state_after moment.shape moment.history) s u seen.desk.worker
-        → s ≡ slot_of (own_place seen)
-    pub found : (value : Option B) → CellOf (fits subject v) moment (cell_here seen v value)
-        → HoldsNoted seen v fits value
-    pub put : (value : Option B) → IfSome value (MayPut seen v fits)
-        → (note : Note) → note ≡ put_note (own_place seen) value
-        → CellOf (fits subject v) (after_exchange (exchange_here seen v note) moment)
-        (cell_here seen v value)
-    pub others : (note : Note) (cell : Cell B)
-        → (cell.slot ≡ slot_of (own_place seen) → cell.worker ≢ v)
-        → CellOf (fits subject cell.worker) moment cell
-        → CellOf (fits subject cell.worker) (after_exchange (exchange_here seen v note) moment)
-        cell
+pub record ExchangeKeeps {B Sub O : Type 0} (fits : Sub → ℕ → ℕ → List (ℕ × ℕ) → B → Type 0)
+    (moment : Moment) (seen : Seen O Sub) (v : ℕ) : Type 0 where
+  pub in_slots : slot_of (own_place seen) < moment.shape.slots
+  pub in_workers : v < moment.shape.workers
+  pub has : HasCell (state_after moment.shape moment.history) (slot_of (own_place seen)) v
+      seen.desk.worker
+  pub only : (s u : ℕ) → HasCell (state_after moment.shape moment.history) s u seen.desk.worker
+      → s ≡ slot_of (own_place seen)
+  pub found : (value : Option B) → CellOf (fits seen.desk.subject v) moment (cell_here seen v value)
+      → HoldsNoted seen v fits value
+  pub put : (value : Option B) → IfSome value (MayPut seen v fits)
+      → (note : Note) → note ≡ put_note (own_place seen) value
+      → CellOf (fits seen.desk.subject v) (after_exchange (exchange_here seen v note) moment)
+      (cell_here seen v value)
+  pub others : (note : Note) (cell : Cell B)
+      → (cell.slot ≡ slot_of (own_place seen) → cell.worker ≢ v)
+      → let of_worker : ℕ → List (ℕ × ℕ) → B → Type 0 = fits seen.desk.subject cell.worker in
+      CellOf of_worker moment cell
+      → CellOf of_worker (after_exchange (exchange_here seen v note) moment) cell
 
-  -- an exchange keeps what is known of each cell, whoever sees how much of the history
-  abbrev pub ExchangesGoOn : Type 0
-  ExchangesGoOn = (moment : Moment) (subject : Sub) (seen : Seen O Sub)
-      → IsSeenAt moment subject seen → (v : ℕ) → MayExchange (caller_of seen) v
-      → ExchangeKeeps moment subject seen v
+-- an exchange keeps what is known of each cell, whoever sees how much of the history
+abbrev pub ExchangesGoOn : {B Sub : Type 0} → (Sub → ℕ → ℕ → List (ℕ × ℕ) → B → Type 0) → Type 0
+    → Type 0
+ExchangesGoOn {Sub = Sub} fits O = (moment : Moment) (seen : Seen O Sub) → IsSeenAt moment seen
+    → (v : ℕ) → MayExchange (caller_of seen) v → ExchangeKeeps fits moment seen v
 
 -- What is found and put by place, in the words of a station's two exchanges: of the own cell while
 -- the worker is inside, and of each cell while it holds a slot.

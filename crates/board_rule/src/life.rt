@@ -1,8 +1,8 @@
 //! How a board begins and ends.
-ghost use Rattle.std.specs.Prelude.{◌≡◌, Err, IfOk, IsOkUnless, MatchOption, length, vec_len};
+ghost use Rattle.std.specs.Prelude.{◌≡◌, IfOk, IsOkUnless, length, vec_len};
 ghost use Rattle.std.specs.Slots.{slots_items, slots_len, IsFull};
 ghost use Rattle.slot_history.specs.Bounds.{IsShape};
-ghost use Rattle.slot_station.specs.Shapes.{refusal_of, shape_with};
+ghost use Rattle.slot_station.specs.Shapes.{IsRefusedBy, refusal_of, shape_with};
 ghost use Rattle.slot_station.specs.declared.reply.MakeRefusal.TheVariants.{OutOfMemory};
 ghost use Rattle.board_rule.specs.Ends.{IsGathered};
 ghost use Rattle.board_rule.specs.Lives.{AreAll, AreFree, AreUnused, IsJoined, IsUndealt};
@@ -37,8 +37,8 @@ impl<B: Fits> Board<B> {
         subject: Snapshot<B::Subject>,
     ) -> Result<(Board<B>, Vec<Pass<B>>), MakeRefusal>
         requires { queries ≡ B.queries subject.value }
-        ensures refused { MatchOption (refusal_of slots workers queries)
-            (IsOkUnless result OutOfMemory) (λ e. result ≡ Err e) }
+        ensures refused { IsRefusedBy (refusal_of slots workers queries)
+            (IsOkUnless result OutOfMemory) result }
         ensures shape { IfOk result (λ made.
             passes.shape_of made.0 ≡ shape_with slots workers queries) }
         ensures subject { IfOk result (λ made. passes.subject_of made.0 ≡ subject.value) }

@@ -1,8 +1,8 @@
 //! The table for one thread, whatever makes the steps of its calls.
-ghost use Rattle.std.specs.Prelude.{◌≡◌, [], MatchOption, IfOk, Err, IsOkUnless};
+ghost use Rattle.std.specs.Prelude.{◌≡◌, [], IfOk, IsOkUnless};
 ghost use Rattle.slot_station.specs.declared.reply.MakeRefusal.TheVariants.{OutOfMemory};
 ghost use Rattle.slot_station.specs.Log.{calls_of};
-ghost use Rattle.slot_station.specs.Shapes.{refusal_of};
+ghost use Rattle.slot_station.specs.Shapes.{IsRefusedBy, refusal_of};
 
 use crate::object::SlotObject;
 use slot_history::shape::Shape;
@@ -39,8 +39,7 @@ impl<B: Fits, O: SlotObject> OneTable<B, O> {
     /// A table whose slots are empty, whose cells hold None, and with no notices. `subject` is what
     /// it serves, for contracts alone, and `queries` the number of the subject's queries. BadSlots
     /// is the answer exactly outside 1 to 128 slots, else BadWorkers exactly outside 1 to 64
-    /// workers, else BadQueries exactly past 4,096 queries. Else OutOfMemory is the answer where
-    /// memory for the cells or the object runs out.
+    /// workers, else BadQueries exactly past 4,096 queries. Else only OutOfMemory can come.
     pub fn make(
         alloc: Global,
         slots: u32,
@@ -49,8 +48,8 @@ impl<B: Fits, O: SlotObject> OneTable<B, O> {
         subject: Snapshot<B::Subject>,
     ) -> Result<OneTable<B, O>, MakeRefusal>
         requires { queries ≡ B.queries subject.value }
-        ensures refused { MatchOption (refusal_of slots workers queries)
-            (IsOkUnless result OutOfMemory) (λ refusal. result ≡ Err refusal) }
+        ensures refused { IsRefusedBy (refusal_of slots workers queries)
+            (IsOkUnless result OutOfMemory) result }
         ensures table { IfOk result (λ table. table ≡ record {
           shape = record { workers = workers; slots = slots; queries = queries };
           subject = subject.value;

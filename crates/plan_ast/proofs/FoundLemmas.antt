@@ -1,7 +1,5 @@
 -- What was found is there.
-use Rattle.std.proofs.Common.{◌≡◌, ℕ, ◌+◌, ◌<◌, List, [], ◌∷◌, ◌++◌, length, get_or, map, take, true, Option, Some, None, option_map, option_to_list}
-use Rattle.std.proofs.Common.{refl, sym, ap, ◌∙◌}
-use Rattle.std.proofs.lemmas.List.{map-append, take_more}
+use Rattle.std.proofs.Common.{◌≡◌, List, true, Option, Some, None, option_map, option_to_list, refl}
 use Rattle.col_table.specs.NamedRows.{NamedRows}
 use Rattle.plan_ast.specs.Names.{is_there, of_column, own_column, column_in, column_place, agg_mention, first_missing}
 use Rattle.plan_ast.specs.Places.{column_at, filter_at, folded_at, agg_at}
@@ -13,14 +11,6 @@ use Rattle.plan_ast.specs.declared.places.ColumnAt.{ColumnAt}
 use Rattle.plan_ast.specs.declared.places.FilterAt.{FilterAt}
 use Rattle.plan_ast.specs.declared.places.AggAt.{AggAt}
 use Rattle.plan_ast.proofs.MissingLemmas.{is_some-option_map, missing_there}
-
--- one more item was found
-pub found_more : {X Y : Type 0} (at : X → Option Y) (xs : List X) (i : ℕ) (x : X) (ys : List Y) (y : Y) → i < length xs → x ≡ get_or xs i x → map at
-    (take i xs) ≡ map Some ys → at x ≡ Some y
-    → map at (take (i + 1) xs) ≡ map Some (ys ++ y ∷ [])
-found_more at xs i x ys y short is found this =
-    ap (map at) (take_more xs i x short ∙ ap (λ v. take i xs ++ v ∷ []) (sym is)) ∙ map-append at (take i xs) (x ∷ [])
-    ∙ ap (λ v. v ++ at x ∷ []) found ∙ ap (λ v. map Some ys ++ v ∷ []) this ∙ sym (map-append Some ys (y ∷ []))
 
 pub there-column_at : (tables : List NamedTable) (sides : List NamedRows) (ref : NameRef) (at : ColumnAt) → column_at sides ref ≡ Some at → is_there
     tables (of_column sides ref) ≡ true

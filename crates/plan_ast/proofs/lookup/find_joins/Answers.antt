@@ -1,10 +1,9 @@
-use Rattle.std.proofs.Common.{◌≡◌, ◌<◌, ℕ, List, ◌∷◌, [], ◌++◌, take, length, sym, ap, ◌∙◌, subst}
+use Rattle.std.proofs.Common.{◌<◌, ℕ, ◌∷◌, [], ◌++◌, take, length}
 use Rattle.std.proofs.lemmas.List.Elements.{All-push}
 use Rattle.std.proofs.lemmas.Result.{err_from_is_err_and}
-use Rattle.col_table.specs.NamedRows.{NamedRows}
 use Rattle.plan_ast.specs.Names.{of_table, join_columns, table_named}
-use Rattle.plan_ast.specs.Places.{IsJoinAt, IsRefusedBy, sides_at, table_at}
-use Rattle.plan_ast.proofs.JoinsLemmas.{AreJoinsAt-more, adds_more, joined_sides, missing-table, refused-joins, sides_at-added, table_named-found}
+use Rattle.plan_ast.specs.Places.{IsJoinAt, IsRefusedBy, sides_at}
+use Rattle.plan_ast.proofs.JoinsLemmas.{AreJoinsAt-more, adds_more, at_its_name, joined_sides, missing-table, refused-joins}
 use Rattle.plan_ast.proofs.MissingLemmas.{refused_after, refused_before}
 use Rattle.plan_ast.proofs.lookup.find_joins.Goals as goal
 
@@ -32,12 +31,9 @@ returns-in_err-find_join-clause-refused c =
     let place : ℕ = c.in_ok-place.place in
     let e = c.in_err-find_join.field-0.0 in
     let now = sides_at tables old ++ joined_sides tables before in
-    let sides : sides_at tables c.as_slice.result.now ≡ now = ap (sides_at tables) c.as_slice.ensures.value ∙ sides_at-added tables before old
-    c.loop-join.sides.items c.loop-join.invariant.sides in
-    let table : table_at tables place ≡ table_named tables join.table = sym (table_named-found tables join.table place c.in_ok-place.ensures.found) in
     let columns : IsRefusedBy tables (join_columns now (table_named tables join.table) join) e =
-    subst (λ s. IsRefusedBy tables (join_columns s (table_named tables join.table) join) e) sides
-    (subst (λ t. IsRefusedBy tables (join_columns (sides_at tables c.as_slice.result.now) t join) e) table c.in_err-find_join.ensures.refused) in
+    at_its_name (λ s t. IsRefusedBy tables (join_columns s t join) e) tables before old c.loop-join.sides.items c.as_slice.result.now join.table place
+    c.as_slice.ensures.value c.loop-join.invariant.sides c.in_ok-place.ensures.found c.in_err-find_join.ensures.refused in
     let p = err_from_is_err_and c.from_residual-in_err-find_join.result c.from_residual-in_err-find_join.ensures.1 in
     rw (p.1, p.2)
     (refused-joins tables (sides_at tables old) joins c.loop-join.join-index join c.loop-join.found.items c.loop-join.invariant.sides.added e
@@ -56,12 +52,9 @@ loop-join-preserved c =
     let place : ℕ = c.in_ok-place.place in
     let at = c.in_ok-find_join.field-0 in
     let now = sides_at tables old ++ joined_sides tables before in
-    let sides : sides_at tables c.as_slice.result.now ≡ now = ap (sides_at tables) c.as_slice.ensures.value ∙ sides_at-added tables before old
-    c.loop-join.sides.items c.loop-join.invariant.sides in
-    let table : table_at tables place ≡ table_named tables join.table = sym (table_named-found tables join.table place c.in_ok-place.ensures.found) in
     let this : IsJoinAt now (table_named tables join.table) join at =
-    subst (λ (s : List NamedRows). IsJoinAt s (table_named tables join.table) join at) sides
-    (subst (λ (t : NamedRows). IsJoinAt (sides_at tables c.as_slice.result.now) t join at) table c.in_ok-find_join.ensures.found) in
+    at_its_name (λ s t. IsJoinAt s t join at) tables before old c.loop-join.sides.items c.as_slice.result.now join.table place c.as_slice.ensures.value
+    c.loop-join.invariant.sides c.in_ok-place.ensures.found c.in_ok-find_join.ensures.found in
     let pushed = c.in_ok-push-2.ensures.items in
     record {
       within = rw pushed (All-push (λ side. side < length tables) c.loop-join.sides.items place c.loop-join.invariant.within c.in_ok-place.ensures.within);

@@ -14,15 +14,6 @@ use Rattle.build_sides.specs.declared.key_table.Key.{Key}
 use Rattle.build_sides.proofs.Folding.{AllOf, PutsGroup, folds_more, values_at}
 use Rattle.build_sides.proofs.Items.{item_at-number, same_key_tells}
 
--- a side without groups folds no rows
-pub folds_none : (columns : List Totals) → Folds [] (record { keys = []; columns = columns })
-folds_none columns = record {
-  totals = λ a lt key. refl;
-  absent = λ key absent. refl;
-  present = λ key none e lt. absurd (omega arith);
-  fit = All-nil FitsRow;
-}
-
 -- the total of a group is what its aggregate makes of the rows with its key
 pub total_is : (side : GroupTotals) (rows : List FoldedRow) (n a : ℕ) → AreGroups side → Folds rows side → n < length side.keys → a < length side.columns
     → total_at side a n ≡ total_of (column_of side a).func a (key_at side.keys n) rows

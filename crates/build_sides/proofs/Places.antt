@@ -42,6 +42,34 @@ pub column_at : (items : List Column) (a : ℕ) (d : Column) → a < length item
     → slice_index_or (map totals_of items) a no_totals ≡ totals_of (slice_index_or items a d)
 column_at items a d lt = get_or-map totals_of items a d no_totals lt
 
+pub same_count : (xs ys : List Column) → map totals_of xs ≡ map totals_of ys → length xs ≡ length ys
+same_count xs ys same = sym (length-map xs totals_of) ∙ ap length same ∙ length-map ys totals_of
+
+pub map-func : (xs : List Column) → map (λ (c : Totals). c.func) (map totals_of xs) ≡ map func_of xs
+map-func [] = refl
+map-func (x ∷ xs) = ap (λ l. func_of x ∷ l) (map-func xs)
+
+pub func_count : (xs ys : List Column) → map func_of xs ≡ map func_of ys → length xs ≡ length ys
+func_count xs ys same = sym (length-map xs func_of) ∙ ap length same ∙ length-map ys func_of
+
+pub totals_count : (xs ys zs : List Column) → map totals_of xs ≡ map totals_of ys
+    → map (λ (c : Totals). c.func) (map totals_of ys) ≡ map (λ (c : Totals). c.func) (map totals_of zs) → length zs ≡ length xs
+totals_count xs ys zs same funcs = sym (func_count ys zs (sym (map-func ys) ∙ funcs ∙ map-func zs)) ∙ sym (same_count xs ys same)
+
+-- each column got its total of the group
+puts_each : (keys keys' : List Key) (key : Key) (n : ℕ) (middle new : List Column) (total : ℕ → AggValue) → Numbers keys keys' key n
+    → length new ≡ length middle
+    → ((a : ℕ) (d : Column) → a < length middle → totals_of (slice_index_or new a d) ≡ with_total (totals_of (slice_index_or middle a d)) n (total a))
+    → PutsGroup (record { keys = keys; columns = map totals_of middle }) (record { keys = keys'; columns = map totals_of new }) key n total
+puts_each keys keys' key n middle new total numbers count each = record {
+  numbers = numbers;
+  count = length-map new totals_of ∙ count ∙ sym (length-map middle totals_of);
+  each = λ a lt.
+      let within : a < length middle = omega (arith, length-map middle totals_of) in
+      let d = an_item middle a within in
+      column_at new a d (omega arith) ∙ each a d within ∙ ap (λ (c : Totals). with_total c n (total a)) (sym (column_at middle a d within));
+}
+
 -- a group's values were folded
 pub puts_values : (keys keys' : List Key) (key : Key) (n : ℕ) (columns : List Totals) (middle new : List Column) (values : List ℤ) → Numbers keys keys' key n
     → map totals_of middle ≡ columns → length new ≡ length middle
@@ -49,37 +77,24 @@ pub puts_values : (keys keys' : List Key) (key : Key) (n : ℕ) (columns : List 
     → PutsGroup (record { keys = keys; columns = columns }) (record { keys = keys'; columns = map totals_of new }) key n
     (λ a. aggregate (slice_index_or columns a no_totals).func (slice_index_or values a (pos 0) ∷ []))
 puts_values keys keys' key n columns middle new values numbers is count each =
-    rw (sym is) (record {
-      numbers = numbers;
-      count = length-map new totals_of ∙ count ∙ sym (length-map middle totals_of);
-      each = λ a lt.
-          let within : a < length middle = omega (arith, length-map middle totals_of) in
-          let d = an_item middle a within in
-          column_at new a d (omega arith) ∙ each a d within
-          ∙ ap (λ (c : Totals). with_total c n (aggregate c.func (slice_index_or values a (pos 0) ∷ []))) (sym (column_at middle a d within));
-    })
+    rw (sym is) (puts_each keys keys' key n middle new (λ a. aggregate (slice_index_or (map totals_of middle) a no_totals).func
+    (slice_index_or values a (pos 0) ∷ [])) numbers count (λ a d within.
+    each a d within ∙ ap (λ (c : Totals). with_total (totals_of (slice_index_or middle a d)) n (aggregate c.func (slice_index_or values a (pos 0) ∷ [])))
+    (sym (column_at middle a d within))))
 
 -- another side's totals were added
-pub puts_totals : (keys keys' others_keys : List Key) (key : Key) (n from : ℕ) (columns : List Totals) (middle new others : List Column)
-    → Numbers keys keys' key n
-    → map totals_of middle ≡ columns → length new ≡ length middle → length others ≡ length middle
+pub puts_totals : (keys keys' others_keys : List Key) (key : Key) (n from : ℕ) (first middle new others : List Column) → Numbers keys keys' key n
+    → map totals_of middle ≡ map totals_of first
+    → map (λ (c : Totals). c.func) (map totals_of first) ≡ map (λ (c : Totals). c.func) (map totals_of others) → length new ≡ length middle
     → ((a : ℕ) (d : Column) → a < length middle → AddsTotal n from (slice_index_or others a d) (slice_index_or middle a d) (slice_index_or new a d))
-    → PutsGroup (record { keys = keys; columns = columns }) (record { keys = keys'; columns = map totals_of new }) key n
+    → PutsGroup (record { keys = keys; columns = map totals_of first }) (record { keys = keys'; columns = map totals_of new }) key n
     (λ a. total_at (record { keys = others_keys; columns = map totals_of others }) a from)
-puts_totals keys keys' others_keys key n from columns middle new others numbers is count same each =
-    rw (sym is) (record {
-      numbers = numbers;
-      count = length-map new totals_of ∙ count ∙ sym (length-map middle totals_of);
-      each = λ a lt.
-          let within : a < length middle = omega (arith, length-map middle totals_of) in
-          let d = an_item middle a within in
-          column_at new a d (omega arith) ∙ (each a d within).is
-          ∙ ap (λ (c : Totals). with_total c n
-          (slice_index_or (values_of (slice_index_or others a d)) from (nothing_of (totals_of (slice_index_or others a d)))))
-          (sym (column_at middle a d within))
-          ∙ ap (λ (c : Totals). with_total (slice_index_or (map totals_of middle) a no_totals) n (slice_index_or c.values from (nothing_of c)))
-          (sym (column_at others a d (omega arith)));
-    })
+puts_totals keys keys' others_keys key n from first middle new others numbers is funcs count each =
+    let same : length others ≡ length middle = totals_count middle first others is funcs in
+    rw (sym is) (puts_each keys keys' key n middle new (λ a. total_at (record { keys = others_keys; columns = map totals_of others }) a from) numbers count
+    (λ a d within.
+    (each a d within).is ∙ ap (λ (c : Totals). with_total (totals_of (slice_index_or middle a d)) n (slice_index_or c.values from (nothing_of c)))
+    (sym (column_at others a d (omega arith)))))
 
 same_funcs : (xs ys : List Totals) → length xs ≡ length ys
     → ((a : ℕ) → a < length ys → (slice_index_or xs a no_totals).func ≡ (slice_index_or ys a no_totals).func)
@@ -102,9 +117,6 @@ pub all_same : (items : List Column) (count : ℕ)
 all_same items count same k d lt =
     ap (λ (c : Totals). length c.values) (sym (column_at items k d lt)) ∙ same k (omega (arith, length-map items totals_of))
 
-pub same_count : (xs ys : List Column) → map totals_of xs ≡ map totals_of ys → length xs ≡ length ys
-same_count xs ys same = sym (length-map xs totals_of) ∙ ap length same ∙ length-map ys totals_of
-
 -- columns of the same aggregates have them place by place
 pub func_same : (xs ys : List Column) (i : ℕ) (x y : Column) → map func_of xs ≡ map func_of ys → i < length xs → i < length ys
     → x ≡ slice_index_or xs i x → y ≡ slice_index_or ys i y → func_of x ≡ func_of y
@@ -112,20 +124,9 @@ func_same xs ys i x y same lt lt' at at' =
     ap func_of at ∙ sym (get_or-map func_of xs i x Count lt) ∙ ap (λ l. slice_index_or l i Count) same ∙ get_or-map func_of ys i y Count lt'
     ∙ sym (ap func_of at')
 
-pub map-func : (xs : List Column) → map (λ (c : Totals). c.func) (map totals_of xs) ≡ map func_of xs
-map-func [] = refl
-map-func (x ∷ xs) = ap (λ l. func_of x ∷ l) (map-func xs)
-
 pub map-func_none : (funcs : List Func) → map (λ (c : Totals). c.func) (map (λ f. record { func = f; values = [] }) funcs) ≡ funcs
 map-func_none [] = refl
 map-func_none (f ∷ funcs) = ap (λ l. f ∷ l) (map-func_none funcs)
-
-pub func_count : (xs ys : List Column) → map func_of xs ≡ map func_of ys → length xs ≡ length ys
-func_count xs ys same = sym (length-map xs func_of) ∙ ap length same ∙ length-map ys func_of
-
-pub totals_count : (xs ys zs : List Column) → map totals_of xs ≡ map totals_of ys
-    → map (λ (c : Totals). c.func) (map totals_of ys) ≡ map (λ (c : Totals). c.func) (map totals_of zs) → length zs ≡ length xs
-totals_count xs ys zs same funcs = sym (func_count ys zs (sym (map-func ys) ∙ funcs ∙ map-func zs)) ∙ sym (same_count xs ys same)
 
 -- a side without groups
 pub groups_none : (keys : List Key) (columns : List Totals) (funcs : List Func) → keys ≡ [] → columns ≡ map (λ f. record { func = f; values = [] }) funcs

@@ -162,7 +162,8 @@ impl GroupSide {
     }
 
     /// Folds a row: its key of one or two values, and a value for each aggregate, which is 0 where
-    /// the aggregate counts. All keys of a side have the same number of values.
+    /// the aggregate counts. A key of one value counts as the pair of it and 0. So all keys of a
+    /// side should have the same number of values.
     ///
     /// The side is unchanged if memory runs out. A new group beyond 2^30 is out of memory too.
     pub fn fold_row(&mut self, key: &[i64], values: &[i64]) -> Result<(), AllocError>

@@ -10,16 +10,15 @@ pub loop-place-preserved : goal.loop-place-preserved
 loop-place-preserved c =
     let columns = c.args.columns.now.items in
     let values = c.args.values.now in
-    let now = c.loop-place.columns.items in
     let i = c.loop-place.place in
     let fits : FitsSigned w64 (slice_index_or c.args.values.now c.loop-place.place (pos 0)) = search rules in
     record {
-      count = length-set now i c.fold.new.self ∙ c.loop-place.invariant.count;
-      done = done_more (λ k d a b. FoldsValue c.args.number (slice_index_or values k (pos 0)) a b) columns now i c.index_mut.result.now c.fold.new.self
-          (omega arith)
+      count = length-set c.loop-place.columns.items i c.fold.new.self ∙ c.loop-place.invariant.count;
+      done = done_more (λ k d a b. FoldsValue c.args.number (slice_index_or values k (pos 0)) a b) columns c.loop-place.columns.items i
+          c.index_mut.result.now c.fold.new.self (omega arith)
           c.loop-place.invariant.done c.loop-place.invariant.rest c.index_mut.ensures.value
           (λ d. rw (to_z-of_z w64 (slice_index_or values i (pos 0)) fits) at c.fold.ensures);
-      rest = rest_less columns now i c.fold.new.self c.loop-place.invariant.rest;
+      rest = rest_less columns c.loop-place.columns.items i c.fold.new.self c.loop-place.invariant.rest;
       fits = below_more (λ k. FitsSigned w64 (slice_index_or values k (pos 0))) i c.loop-place.invariant.fits fits;
     }
 

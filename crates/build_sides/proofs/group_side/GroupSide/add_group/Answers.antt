@@ -5,7 +5,7 @@ use Rattle.build_sides.specs.GroupSides.{total_at}
 use Rattle.build_sides.specs.GroupTotals.{Totals}
 use Rattle.build_sides.proofs.Folding.{groups_more}
 use Rattle.build_sides.proofs.Groups.{folds_group}
-use Rattle.build_sides.proofs.Places.{all_same, funcs_stay, map-func, puts_totals, totals_count}
+use Rattle.build_sides.proofs.Places.{all_same, funcs_stay, map-func, puts_totals}
 use Rattle.build_sides.proofs.group_side.GroupSide.add_group.Goals as goal
 
 pub number_with_room-requires : goal.number_with_room-requires
@@ -34,16 +34,14 @@ invariant_of-self-2 c =
     let others = c.other.inside.columns.items in
     let key = key_at c.other.inside.keys c.args.from in
     let n = c.in_ok-number.number in
-    let count : length others ≡ length c.number_with_room.new.columns.items =
-    totals_count c.number_with_room.new.columns.items c.self.inside.columns.items others c.in_ok-number.ensures.same
-    (rw (← c.self.view_is, ← c.other.view_is) at c.requires.same) in
     record {
       groups = groups_more (record { keys = c.self.inside.keys; columns = old })
           (record { keys = c.number_with_room.new.keys; columns = map totals_of c.add_totals.new.columns.items })
           key n (λ a. total_at (record { keys = c.other.inside.keys; columns = map totals_of others }) a c.args.from) c.self.invariant.groups
-          (puts_totals c.self.inside.keys c.number_with_room.new.keys c.other.inside.keys key n c.args.from old c.number_with_room.new.columns.items
-          c.add_totals.new.columns.items others (rw c.key-key.ensures at c.in_ok-number.ensures.numbers) c.in_ok-number.ensures.same c.add_totals.ensures.count
-          count (rw c.as_slice.ensures.value at c.add_totals.ensures.each));
+          (puts_totals c.self.inside.keys c.number_with_room.new.keys c.other.inside.keys key n c.args.from c.self.inside.columns.items
+          c.number_with_room.new.columns.items c.add_totals.new.columns.items others (rw c.key-key.ensures at c.in_ok-number.ensures.numbers)
+          c.in_ok-number.ensures.same (rw (← c.self.view_is, ← c.other.view_is) at c.requires.same) c.add_totals.ensures.count
+          (rw c.as_slice.ensures.value at c.add_totals.ensures.each));
       parts = c.in_ok-number.ensures.parts;
     }
 
@@ -53,16 +51,14 @@ returns-clause-funcs c =
     let others = c.other.inside.columns.items in
     let key = key_at c.other.inside.keys c.args.from in
     let n = c.in_ok-number.number in
-    let count : length others ≡ length c.number_with_room.new.columns.items =
-    totals_count c.number_with_room.new.columns.items c.self.inside.columns.items others c.in_ok-number.ensures.same
-    (rw (← c.self.view_is, ← c.other.view_is) at c.requires.same) in
     rw (← c.self.view_is) (
     funcs_stay (record { keys = c.self.inside.keys; columns = old })
     (record { keys = c.number_with_room.new.keys; columns = map totals_of c.add_totals.new.columns.items })
     key n (λ a. total_at (record { keys = c.other.inside.keys; columns = map totals_of others }) a c.args.from)
-    (puts_totals c.self.inside.keys c.number_with_room.new.keys c.other.inside.keys key n c.args.from old c.number_with_room.new.columns.items
-    c.add_totals.new.columns.items others (rw c.key-key.ensures at c.in_ok-number.ensures.numbers) c.in_ok-number.ensures.same c.add_totals.ensures.count
-    count (rw c.as_slice.ensures.value at c.add_totals.ensures.each)))
+    (puts_totals c.self.inside.keys c.number_with_room.new.keys c.other.inside.keys key n c.args.from c.self.inside.columns.items
+    c.number_with_room.new.columns.items c.add_totals.new.columns.items others (rw c.key-key.ensures at c.in_ok-number.ensures.numbers)
+    c.in_ok-number.ensures.same (rw (← c.self.view_is, ← c.other.view_is) at c.requires.same) c.add_totals.ensures.count
+    (rw c.as_slice.ensures.value at c.add_totals.ensures.each)))
 
 pub returns-clause-folds : goal.returns-clause-folds
 returns-clause-folds c =
@@ -70,9 +66,6 @@ returns-clause-folds c =
     let others = c.other.inside.columns.items in
     let key = key_at c.other.inside.keys c.args.from in
     let n = c.in_ok-number.number in
-    let count : length others ≡ length c.number_with_room.new.columns.items =
-    totals_count c.number_with_room.new.columns.items c.self.inside.columns.items others c.in_ok-number.ensures.same
-    (rw (← c.self.view_is, ← c.other.view_is) at c.requires.same) in
     let lt : c.args.from < length c.other.inside.keys = rw (← c.other.view_is) at c.requires.within in
     let same : map (λ (x : Totals). x.func) old ≡ map (λ (x : Totals). x.func) (map totals_of others) =
     rw (← c.self.view_is, ← c.other.view_is) at c.requires.same in
@@ -80,7 +73,7 @@ returns-clause-folds c =
     folds_group (record { keys = c.self.inside.keys; columns = old })
     (record { keys = c.number_with_room.new.keys; columns = map totals_of c.add_totals.new.columns.items })
     (record { keys = c.other.inside.keys; columns = map totals_of others }) n c.args.from rows more c.self.invariant.groups c.other.invariant.groups lt same
-    (puts_totals c.self.inside.keys c.number_with_room.new.keys c.other.inside.keys key n c.args.from old c.number_with_room.new.columns.items
-    c.add_totals.new.columns.items others (rw c.key-key.ensures at c.in_ok-number.ensures.numbers) c.in_ok-number.ensures.same c.add_totals.ensures.count
-    count (rw c.as_slice.ensures.value at c.add_totals.ensures.each))
+    (puts_totals c.self.inside.keys c.number_with_room.new.keys c.other.inside.keys key n c.args.from c.self.inside.columns.items
+    c.number_with_room.new.columns.items c.add_totals.new.columns.items others (rw c.key-key.ensures at c.in_ok-number.ensures.numbers)
+    c.in_ok-number.ensures.same same c.add_totals.ensures.count (rw c.as_slice.ensures.value at c.add_totals.ensures.each))
     few folds of_other)

@@ -19,16 +19,15 @@ loop-at-init c =
     let keys = c.args.other.now.keys in
     let heads = c.other.inside.parts.heads.items in
     let nexts = c.other.inside.parts.nexts.items in
-    let part = c.args.part in
     let parts : AreParts c.other.inside.parts keys = rw (ap (λ (s : GroupTotals). s.keys) c.other.view_is) at c.other.invariant.parts in
-    let lt : part < length heads = omega (arith, parts.count) in
-    let at : c.index-at.result.now ≡ slice_index heads part = c.index-at.ensures ∙ get_or_default heads part c.index-at.result.now 0 lt in
-    let bound = parts.chained.head_bound part lt in
+    let lt : c.args.part < length heads = omega (arith, parts.count) in
+    let at : c.index-at.result.now ≡ slice_index heads c.args.part = c.index-at.ensures ∙ get_or_default heads c.args.part c.index-at.result.now 0 lt in
+    let bound = parts.chained.head_bound c.args.part lt in
     record {
       bound = rw at bound;
-      part = λ e h. parts.chained.head_place part e lt (sym at ∙ h);
+      part = λ e h. parts.chained.head_place c.args.part e lt (sym at ∙ h);
       funcs = refl;
-      folds = λ rows others few folds of_other. rw (at, head_past part heads nexts keys parts.chained others bound, append-nil rows) folds;
+      folds = λ rows others few folds of_other. rw (at, head_past c.args.part heads nexts keys parts.chained others bound, append-nil rows) folds;
     }
 
 pub loop-at-preserved : goal.loop-at-preserved

@@ -11,10 +11,11 @@ use std::test::Fail;
 const CROWD: u32 = 20_000;
 
 // One of many keys that a new table puts into one bucket, however many buckets it has: a key's hash
-// is its product with an odd number, folded to half its width.
+// is the upper half of its product with an odd number.
 fn crowded(number: u32) -> i64 {
-    let product = u64::from(number) << 32u32 | u64::from(number);
-    product.wrapping_mul(0xf1de_83e1_9937_733d).cast_signed()
+    u64::from(number)
+        .wrapping_mul(0xf1de_83e1_9937_733d)
+        .cast_signed()
 }
 
 #[test]
@@ -27,6 +28,8 @@ fn rows_by_their_key(rt: HostRuntime) -> Result<(), Fail> {
     assert!(rt; side.matches(2) == [1].as_slice());
     assert!(rt; side.matches(-1) == [3].as_slice());
     assert!(rt; side.matches(0).is_empty());
+    assert!(rt; side.first_match(1) == Some(0) && side.first_match(-1) == Some(3));
+    assert!(rt; side.first_match(0).is_none() && !side.is_unique());
     Ok(())
 }
 
@@ -57,6 +60,7 @@ fn finds_the_rows_of_crowded_keys(rt: HostRuntime) -> Result<(), Fail> {
         assert!(rt; side.matches(crowded(row)) == [row].as_slice(), "at {row}");
     }
     assert!(rt; side.matches(crowded(CROWD)).is_empty());
+    assert!(rt; side.is_unique());
     Ok(())
 }
 

@@ -1,5 +1,5 @@
 -- Headers, and the places of their fields.
-use Rattle.std.proofs.Common.{◌≡◌, ℕ, ◌<◌, ◌≤◌, ◌+◌, ◌++◌, ◌∷◌, List, [], Bool, Some, Decides, length, get_or, take, nat_eq, ap, arith, inl, inr, sym, subst}
+use Rattle.std.proofs.Common.{◌≡◌, ℕ, ◌<◌, ◌≤◌, ◌+◌, ◌++◌, ◌∷◌, List, [], Bool, Some, Decides, length, get_or, take, nat_eq, ap, arith, inl, inr, refl, sym, subst}
 use Rattle.std.proofs.Common.{◌∙◌}
 use Rattle.std.specs.Cmp.Lexicographic.{pointwise}
 use Rattle.std.specs.List.{Contains, IsAnyAnswer}
@@ -10,6 +10,9 @@ use Rattle.std.proofs.lemmas.Slice.Eq.{bytes_eq-Decides}
 use Rattle.col_table.specs.Name.{IsName}
 use Rattle.col_table.specs.NamedRows.{AllDiffer}
 use Rattle.col_table.specs.declared.table.TheConstants.{MAX_COLUMNS}
+use Rattle.col_table.specs.Refusals.{RefusesNames}
+use Rattle.col_table.specs.declared.table.ShapeRefusal.{ShapeRefusal}
+use Rattle.col_table.specs.declared.table.ShapeRefusal.TheVariants as shape
 use Rattle.csv.specs.Records.{Row, field_at, fields_of}
 use Rattle.csv.proofs.RecordFacts.{field-get, field-none}
 use Rattle.csv_tables.specs.Loading.{IsHeader}
@@ -70,6 +73,14 @@ names_push names name are legal new = record { legal = All-push IsName names nam
 -- names that are some, and few, head a table
 pub header_from_names : (fields : List (List ℕ)) → AreNames fields → 0 < length fields → length fields ≤ MAX_COLUMNS → IsHeader fields
 header_from_names fields are some few = record { legal = are.legal; heading = record { some = some; few = few; differ = are.differ } }
+
+-- so only memory can be missing for the table under them
+pub only_memory : (names : List (List ℕ)) → AreNames names → 0 < length names → length names ≤ MAX_COLUMNS → (refusal : ShapeRefusal)
+    → RefusesNames names refusal → refusal ≡ shape.OutOfMemory
+only_memory names are some few shape.NoColumns none = absurd (omega arith)
+only_memory names are some few shape.TooManyColumns many = absurd (omega arith)
+only_memory names are some few (shape.TwiceNamed place) twice = absurd (are.differ place twice.1.within twice.1.twice)
+only_memory names are some few shape.OutOfMemory heading = refl
 
 -- the refusals of a field after names
 pub bad_name : (header : List (List ℕ)) (index place : ℕ) (field : List ℕ) → length header ≤ MAX_COLUMNS → index < length header → get_or header index []

@@ -7,7 +7,7 @@ ghost use Rattle.csv_tables.specs.Loading.{IsHeader};
 ghost use Rattle.csv_tables.specs.Refusals.{AreNames, OrMemory, RefusesHeader};
 
 use crate::refusal::TableRefusal;
-use col_table::{ColumnName, MAX_COLUMNS, MAX_NAME_BYTES, Table};
+use col_table::{ColumnName, MAX_COLUMNS, MAX_NAME_BYTES, ShapeRefusal, Table};
 use csv::ByteRecord;
 use std::alloc::Global;
 
@@ -20,7 +20,21 @@ pub(crate) fn table_under(alloc: Global, header: &ByteRecord) -> Result<Table, T
     ensures refused { IfErr result (OrMemory (RefusesHeader (fields_of header.now))) }
 {
     let names = parse_names(alloc, header)?;
-    Table::new(alloc, names).map_err(|_| TableRefusal::OutOfMemory)
+    match Table::new(alloc, names) {
+        Ok(table) => Ok(table),
+        Err(refusal) => Err(memory_of(refusal)),
+    }
+}
+
+// The refusal of names that may head a table: only memory can be missing.
+fn memory_of(refusal: ShapeRefusal) -> TableRefusal
+    requires { refusal ≡ ShapeRefusal.OutOfMemory }
+    ensures { result ≡ TableRefusal.OutOfMemory }
+{
+    match refusal {
+        ShapeRefusal::OutOfMemory => TableRefusal::OutOfMemory,
+        _ => unreachable!(),
+    }
 }
 
 // The names that the fields of a header are.

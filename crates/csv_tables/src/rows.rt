@@ -1,6 +1,7 @@
 // The rows of a table.
 ghost use Rattle.std.specs.Prelude.{◌≡◌, ◌<◌, ◌≤◌, ℕ, List, IfErr, IfOk, MatchOption};
-ghost use Rattle.std.specs.Prelude.{OnOk, length, map, []};
+ghost use Rattle.std.specs.Prelude.{OnOk, length, map, slice_index_or, []};
+ghost use Rattle.col_table.specs.NamedRows.{with_row};
 ghost use Rattle.csv.specs.Records.{fields_of};
 ghost use Rattle.csv_tables.specs.Loading.{GrowsBy, IsRow};
 ghost use Rattle.csv_tables.specs.Numbers.{number_of};
@@ -11,8 +12,9 @@ use crate::number::{FieldFault, parse_value};
 use crate::plain::read_plain_row;
 use crate::refusal::TableRefusal;
 use crate::scan::{Found, read_record};
-use col_table::{MAX_COLUMNS, MAX_ROWS, Table};
+use col_table::{MAX_COLUMNS, MAX_ROWS, RowRefusal, Table};
 use csv::ByteRecord;
+use std::alloc::AllocError;
 
 // Adds the rows of the records from a place on to a table without rows.
 pub(crate) fn read_rows(
@@ -32,10 +34,23 @@ pub(crate) fn read_rows(
     let row = &mut values[..table.cols() as usize];
     let mut start = at;
     while let Some(next) = read_row(bytes, start, table.rows() + 1, fields, field, row)? {
-        table.push_row(row).map_err(|_| TableRefusal::OutOfMemory)?;
+        add_row(table, row)?;
         start = next;
     }
     Ok(())
+}
+
+// Adds a row to a table that isn't full.
+fn add_row(table: &mut Table, row: &[i64]) -> Result<(), AllocError>
+    requires width { length row.now ≡ length table.old.names }
+    requires room { length table.old.rows < MAX_ROWS }
+    ensures { OnOk result (table.new ≡ with_row table.old row.now) }
+{
+    match table.push_row(row) {
+        Ok(()) => Ok(()),
+        Err(RowRefusal::OutOfMemory) => Err(AllocError),
+        Err(RowRefusal::Full) => unreachable!(),
+    }
 }
 
 // Fills a row with the values of the record that begins at a place and has this number. Answers the
@@ -89,13 +104,23 @@ fn parse_row(fields: &ByteRecord, number: u32, row: &mut [i64]) -> Result<(), Ta
         return Err(TableRefusal::Ragged(number));
     }
     for (place, value) in row.iter_mut().enumerate() {
-        let field = fields.get(place).ok_or(TableRefusal::OutOfMemory)?;
-        match parse_value(field) {
+        match parse_value(field_of(fields, place)) {
             Ok(read) => *value = read,
             Err(fault) => return Err(refusal_at(fault, number, place as u32 + 1)),
         }
     }
     Ok(())
+}
+
+// The field of a record at a place.
+fn field_of(fields: &ByteRecord, place: usize) -> &[u8]
+    requires { place < length (fields_of fields.now) }
+    ensures { result.now ≡ slice_index_or (fields_of fields.now) place [] }
+{
+    match fields.get(place) {
+        Some(field) => field,
+        None => unreachable!(),
+    }
 }
 
 // The refusal of the field at this place in the record with this number.

@@ -1,25 +1,19 @@
-use Rattle.std.proofs.Common.{◌<◌, ◌∙◌, ◌++◌, ◌∷◌, [], All, ap, arith, get_or, length, map, option_map, subst, sym, take, to_z, of_z, w64, FitsSigned}
+use Rattle.std.proofs.Common.{◌<◌, ◌∙◌, ◌++◌, ◌∷◌, [], All, ap, arith, get_or, length, map, subst, sym, take, to_z, of_z, w64, FitsSigned}
 use Rattle.std.proofs.lemmas.Int.{to_z-of_z}
 use Rattle.std.proofs.lemmas.List.{length-set, map-append, take_more, take_more_set}
 use Rattle.std.proofs.lemmas.List.Elements.{All-push}
 use Rattle.csv.specs.Records.{fields_of}
-use Rattle.csv.proofs.RecordFacts.{field-get, field-there}
 use Rattle.csv_tables.specs.Numbers.{IsValue, number_of}
 use Rattle.csv_tables.proofs.Refused.{field_refused}
 use Rattle.csv_tables.proofs.rows.parse_row.Goals as goal
-
-pub returns-in_err-field-clause-refused : goal.returns-in_err-field-clause-refused
-returns-in_err-field-clause-refused c =
-    absurd (field-there (fields_of c.args.fields.now) c.loop-place.place (omega (arith, c.loop-place.invariant.width))
-    (sym c.get.ensures.value ∙ ap (option_map (λ s. s.now)) c.in_err-field.ensures.ok_part))
 
 pub returns-in-Err-clause-refused : goal.returns-in-Err-clause-refused
 returns-in-Err-clause-refused c =
     let fields = fields_of c.args.fields.now in
     let place = c.loop-place.place in
     let within : place < length fields = omega (arith, c.loop-place.invariant.width) in
-    let here = field-get fields place c.in_ok-field.field.now (sym c.get.ensures.value ∙ ap (option_map (λ s. s.now)) c.in_ok-field.ensures.ok_part) in
-    rw c.refusal_at.ensures (field_refused (length c.args.row.now) c.args.number fields place c.in_ok-field.field.now c.in-Err.fault c.requires.within
+    let here = sym c.field_of.ensures in
+    rw c.refusal_at.ensures (field_refused (length c.args.row.now) c.args.number fields place c.field_of.result.now c.in-Err.fault c.requires.within
     (omega arith) within here c.loop-place.invariant.values c.in-Err.ensures.fault)
 
 pub loop-place-preserved : goal.loop-place-preserved
@@ -28,7 +22,7 @@ loop-place-preserved c =
     let place = c.loop-place.place in
     let row = c.loop-place.row in
     let within : place < length fields = omega (arith, c.loop-place.invariant.width) in
-    let here = field-get fields place c.in_ok-field.field.now (sym c.get.ensures.value ∙ ap (option_map (λ s. s.now)) c.in_ok-field.ensures.ok_part) in
+    let here = sym c.field_of.ensures in
     let value = c.in-Ok.ensures.value in
     let read = c.in-Ok.read in
     let fits = subst (FitsSigned w64) (sym value.1) value.0.1 in

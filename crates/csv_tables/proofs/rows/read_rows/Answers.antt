@@ -1,13 +1,16 @@
-use Rattle.std.proofs.Common.{◌≡◌, ◌≢◌, ◌∙◌, ◌++◌, ◌∷◌, [], ap, arith, length, subst, sym}
+use Rattle.std.proofs.Common.{◌≢◌, ◌∙◌, ◌++◌, ◌∷◌, [], ap, arith, length, subst, sym}
 use Rattle.std.proofs.lemmas.List.{append_assoc}
-use Rattle.std.proofs.lemmas.Result.{IfOk-at_ok}
 use Rattle.col_table.specs.NamedRows.{with_row}
 use Rattle.col_table.specs.declared.table.TheConstants.{MAX_ROWS}
 use Rattle.csv_tables.specs.Loading.{GrowsBy, IsRow}
 use Rattle.csv_tables.specs.Reading.{records_at}
 use Rattle.csv_tables.proofs.Growth.{grows_more}
-use Rattle.csv_tables.proofs.Outcomes.{IfOk-map_err}
 use Rattle.csv_tables.proofs.rows.read_rows.Goals as goal
+
+pub add_row-requires-clause-room : goal.add_row-requires-clause-room
+add_row-requires-clause-room c =
+    let (line, at, is, values, few) = rw c.in-Some.is at c.in_ok-next.ensures.read in
+    omega (arith, few, c.rows.ensures.count)
 
 pub loop-next-preserved : goal.loop-next-preserved
 loop-next-preserved c =
@@ -17,9 +20,7 @@ loop-next-preserved c =
     let width = c.loop-next.invariant.width in
     let (line, at, is, values, few) = rw c.in-Some.is at c.in_ok-next.ensures.read in
     let row = subst (λ count. IsRow count line) width is in
-    let pushes = IfOk-map_err c.push_row.result c.map_err.result _
-    (λ _. c.push_row.new.self ≡ with_row table c.read_row.new.row) c.map_err.ensures.cases c.push_row.ensures.ok in
-    let pushed = IfOk-at_ok (λ _. c.push_row.new.self ≡ with_row table c.read_row.new.row) c.in_ok-map_err.was pushes ∙ ap (with_row table) values in
+    let pushed = c.in_ok-add_row.ensures ∙ ap (with_row table) values in
     let room : length table.rows ≢ MAX_ROWS = λ full. absurd (omega (arith, few, c.rows.ensures.count)) in
     record {
       within = at.within;

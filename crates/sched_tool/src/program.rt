@@ -20,6 +20,8 @@ mod line;
 mod make;
 mod output;
 mod refusal;
+#[cfg(test)]
+mod run_word_tests;
 mod status;
 mod subject;
 #[cfg(test)]

@@ -3,7 +3,6 @@
 ghost use Rattle.std.specs.Prelude.{◌≤◌, length};
 
 use super::command::command;
-use super::words::{Command, RunWords, read_words};
 use super::{Ended, GivenWords, run_program};
 use outside_io::{CostMeter, MemFiles, MemSink};
 use std::alloc::{AllocError, Global};
@@ -53,8 +52,8 @@ fn files_of(
     Ok(files)
 }
 
-// The words as texts of their own.
-fn texts(alloc: Global, words: &[&str]) -> Result<Vec<String>, AllocError> {
+/// The words as texts of their own.
+pub(super) fn texts(alloc: Global, words: &[&str]) -> Result<Vec<String>, AllocError> {
     let mut all = Vec::new(alloc);
     for word in words {
         all.push(String::from_str(alloc, word)?)?;
@@ -198,147 +197,6 @@ fn refuses_words(rt: HostRuntime) -> Result<(), Fail> {
     for words in cases {
         let mut files = files_of(rt.alloc(), SCRIPT.as_bytes(), TABLE.as_bytes(), &[])?;
         ends(&rt, words, &mut files, ALL_WRITES, 2, "error: usage\n")?;
-    }
-    Ok(())
-}
-
-// Whether words ask for such a run by whole turns.
-fn asks_turns(words: &[String], script: &str, workers: u32, slots: u32, order: &str) -> bool {
-    match read_words(words) {
-        Some(Command::Turns(run)) => is_run(run, script, workers, slots, order),
-        _ => false,
-    }
-}
-
-fn is_run(run: RunWords<'_>, script: &str, workers: u32, slots: u32, order: &str) -> bool {
-    run.script == script
-        && run.workers == workers
-        && run.slots == slots
-        && run.order.unwrap_or("") == order
-}
-
-#[test]
-fn reads_words_of_runs(rt: HostRuntime) -> Result<(), Fail> {
-    let cases: [(&[&str], &str, u32, u32, &str); 8] = [
-        (
-            &["turns", "--workers=1", "--", "s.json"],
-            "s.json",
-            1,
-            128,
-            "",
-        ),
-        (&["turns", "-", "--workers", "1"], "-", 1, 128, ""),
-        (&["turns", "s", "--workers", "000000001"], "s", 1, 128, ""),
-        (
-            &["turns", "s", "--workers", "1", "--slots=128"],
-            "s",
-            1,
-            128,
-            "",
-        ),
-        (
-            &["turns", "s", "--order", "1", "--workers", "2"],
-            "s",
-            2,
-            128,
-            "1",
-        ),
-        (
-            &["turns", "--slots", "5", "--order=0", "--workers=64", "s"],
-            "s",
-            64,
-            5,
-            "0",
-        ),
-        (
-            &["turns", "s", "--workers", "2", "--order=0,000000001"],
-            "s",
-            2,
-            128,
-            "0,000000001",
-        ),
-        (
-            &["turns", "--slots=1", "--workers", "64", "--", "--order"],
-            "--order",
-            64,
-            1,
-            "",
-        ),
-    ];
-    for (words, script, workers, slots, order) in cases {
-        let words = texts(rt.alloc(), words)?;
-        assert!(rt;
-            asks_turns(words.as_slice(), script, workers, slots, order),
-            "{words:?}"
-        );
-    }
-    Ok(())
-}
-
-#[test]
-fn refuses_words_of_runs(rt: HostRuntime) -> Result<(), Fail> {
-    let cases: [&[&str]; 43] = [
-        &["turns"],
-        &["turns", "s"],
-        &["turns", "", "--workers", "1"],
-        &["turns", "s", "t", "--workers", "1"],
-        &["turns", "s", "--workers"],
-        &["turns", "s", "--workers", "--"],
-        &["turns", "--workers", "--", "s"],
-        &["turns", "--workers", "s", "1"],
-        &["turns", "s", "--workers", "-1"],
-        &["turns", "s", "--workers", ""],
-        &["turns", "s", "--workers=-1"],
-        &["turns", "s", "--workers="],
-        &["turns", "s", "--workers==1"],
-        &["turns", "s", "--workers=1=1"],
-        &["turns", "s", "--workers1"],
-        &["turns", "s", "--worker", "1"],
-        &["turns", "s", "--workers", "0"],
-        &["turns", "s", "--workers", "65"],
-        &["turns", "s", "--workers", "0000000001"],
-        &["turns", "s", "--workers", "+1"],
-        &["turns", "s", "--workers", " 1"],
-        &["turns", "s", "--workers", "1 "],
-        &["turns", "s", "--workers", "1.0"],
-        &["turns", "s", "--workers", "0x1"],
-        &["turns", "s", "--workers", "\u{661}"],
-        &["turns", "s", "--workers", "2", "--workers", "2"],
-        &["turns", "s", "--workers=2", "--workers", "2"],
-        &["turns", "s", "--workers", "2", "--", "--workers", "2"],
-        &["turns", "s", "--workers", "1", "--slots", "0"],
-        &["turns", "s", "--workers", "1", "--slots", "129"],
-        &["turns", "s", "--slots", "1"],
-        &["turns", "s", "--workers", "2", "--order", "2"],
-        &["turns", "s", "--workers", "2", "--order", "-"],
-        &["turns", "s", "--workers", "2", "--order="],
-        &["turns", "s", "--workers", "2", "--order=,"],
-        &["turns", "s", "--workers", "2", "--order=0,"],
-        &["turns", "s", "--workers", "2", "--order=,0"],
-        &["turns", "s", "--workers", "2", "--order=0,,1"],
-        &["turns", "s", "--workers", "2", "--order=0, 1"],
-        &["turns", "s", "--workers", "2", "--order=0;1"],
-        &["turns", "s", "--workers", "2", "--order=0,1,2"],
-        &["run", "s", "--workers", "1", "--order", "0"],
-        &["run", "s", "--workers", "1", "--order="],
-    ];
-    for words in cases {
-        let words = texts(rt.alloc(), words)?;
-        assert!(rt; read_words(words.as_slice()).is_none(), "{words:?}");
-    }
-    Ok(())
-}
-
-// An order has at most 4,096 numbers.
-#[test]
-fn limits_orders(rt: HostRuntime) -> Result<(), Fail> {
-    let alloc = rt.alloc();
-    for (others, fits) in [(0, true), (4095, true), (4096, false)] {
-        let order = repeated(alloc, "0", ",0", others)?;
-        let mut words = texts(alloc, &["turns", "s", "--workers", "1", "--order"])?;
-        words.push(order.clone()?)?;
-        let asks = asks_turns(words.as_slice(), "s", 1, 128, order.as_str());
-        assert_eq!(rt; asks, fits, "{others}");
     }
     Ok(())
 }
@@ -703,8 +561,13 @@ fn refuses_a_table_past_the_limit(rt: HostRuntime) -> Result<(), Fail> {
     check_ends(&rt, SCRIPT.as_bytes(), table.as_slice(), 6, text)
 }
 
-// The first text, and so many times the second.
-fn repeated(alloc: Global, first: &str, then: &str, count: usize) -> Result<String, AllocError> {
+/// The first text, and so many times the second.
+pub(super) fn repeated(
+    alloc: Global,
+    first: &str,
+    then: &str,
+    count: usize,
+) -> Result<String, AllocError> {
     let mut text = String::from_str(alloc, first)?;
     for _ in 0..count {
         text.push_str(then)?;

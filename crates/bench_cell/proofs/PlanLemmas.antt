@@ -1,0 +1,41 @@
+-- The totals of a plan's task sets.
+use Rattle.std.proofs.Common.{◌≡◌, ◌+◌, ◌*◌, ◌/◌, ◌%◌, ◌<◌, ◌≤◌, ℕ, Some, None, arith, cond, ap, sym, ◌∙◌, slice_get}
+use Rattle.std.proofs.Math.Nat.{mul_comm}
+use Rattle.std.proofs.lemmas.Bool.{lt-ltb}
+use Rattle.std.proofs.lemmas.Nat.{div-mul-add, mod-mul-add}
+use Rattle.std.specs.Option.{option_and_then}
+use Rattle.plan_ast.specs.Bounds.{IsInBounds}
+use Rattle.plan_ast.specs.Checks.{query_of}
+use Rattle.plan_ast.specs.Stages.{merges_of, stage_at, stages_of, tuples_of}
+use Rattle.plan_ast.specs.declared.checks.Checked.{Checked}
+use Rattle.plan_ast.specs.declared.queries.Output.{Output}
+use Rattle.plan_ast.specs.declared.queries.Output.TheVariants.{Rows, Totals, Groups}
+use Rattle.plan_ast.specs.declared.queries.Query.{Query}
+use Rattle.bench_cell.specs.Plans.{checked_of, stages_in, tables_of, total_by, total_in_query, total_of}
+use Rattle.bench_cell.specs.declared.plan.Plan.{Plan}
+
+merges_few : (output : Output) → merges_of output ≤ 1
+merges_few (Rows columns) = omega arith
+merges_few (Totals aggs) = omega arith
+merges_few (Groups by aggs) = omega arith
+
+pub stages_few : (query : Query) → IsInBounds query → stages_of query ≤ 4
+stages_few query bounds = omega (arith, bounds.joins, merges_few query.output)
+
+-- the total of a stage that the query of this number has
+pub total_by-is : (plan : Plan) (q stage : ℕ) (checked : Checked) → slice_get (checked_of plan) q ≡ Some checked → stage < stages_in checked
+    → total_by plan q stage ≡ Some (tuples_of (tables_of plan) (query_of checked) (stage_at (query_of checked) stage))
+total_by-is plan q stage checked at below =
+    ap (option_and_then (total_in_query (tables_of plan) stage)) at
+    ∙ ap (λ b. cond b (Some (tuples_of (tables_of plan) (query_of checked) (stage_at (query_of checked) stage))) None) (lt-ltb stage (stages_in checked) below)
+
+-- the same by the task set's id
+pub total_of-is : (plan : Plan) (q stage total : ℕ) (checked : Checked) → slice_get (checked_of plan) q ≡ Some checked → stage < stages_in checked
+    → IsInBounds (query_of checked) → total ≡ tuples_of (tables_of plan) (query_of checked) (stage_at (query_of checked) stage)
+    → total_of plan (8 * q + stage) ≡ Some total
+total_of-is plan q stage total checked at below bounds is =
+    let small : stage < 8 = omega (arith, below, stages_few (query_of checked) bounds) in
+    let turned : 8 * q + stage ≡ q * 8 + stage = ap (λ n. n + stage) (mul_comm 8 q) in
+    let query : (8 * q + stage) / 8 ≡ q = ap (λ n. n / 8) turned ∙ div-mul-add q 8 stage small in
+    let number : (8 * q + stage) % 8 ≡ stage = ap (λ n. n % 8) turned ∙ mod-mul-add q 8 stage small in
+    ap (λ n. total_by plan n ((8 * q + stage) % 8)) query ∙ ap (total_by plan q) number ∙ total_by-is plan q stage checked at below ∙ ap Some (sym is)

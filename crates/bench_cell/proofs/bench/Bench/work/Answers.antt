@@ -1,0 +1,41 @@
+use Rattle.std.proofs.Common.{◌≡◌, IfSome, Some, subst, List, [], ◌∷◌, ◌++◌, ℕ, ap, cond, sym, refl, ◌∙◌, inr}
+use Rattle.std.proofs.lemmas.Option.{none-some}
+use Rattle.std.specs.Arc.{arc_value}
+use Rattle.plan_ast.specs.Folds.{AreDisjoint, Tuples, range_of, union}
+use Rattle.pipe_ops.specs.Inputs.{IsAccOf}
+use Rattle.pipe_ops.specs.declared.inputs.Inputs.{Inputs}
+use Rattle.bench_cell.specs.Benches.{ranges_in}
+use Rattle.bench_cell.proofs.BenchLemmas.{fits_more, holds_more}
+use Rattle.bench_cell.proofs.bench.Bench.work.Goals as goal
+
+took : (c : goal.Joined-self-taken) → IfSome c.taken.result (λ a. (done : Tuples) → AreDisjoint done (range_of c.args.from c.args.to)
+    → IsAccOf (arc_value c.args.self.now.inputs) done c.in-Some.acc
+    → IsAccOf (arc_value c.args.self.now.inputs) (union done (range_of c.args.from c.args.to)) a)
+took c =
+    let from = c.args.from in
+    let to = c.args.to in
+    subst (λ (i : Inputs). IfSome c.taken.result (λ a. (done : Tuples) → AreDisjoint done (range_of from to)
+    → IsAccOf i done c.in-Some.acc → IsAccOf i (union done (range_of from to)) a)) c.deref.ensures c.taken.ensures
+
+pub returns-then-is_ok-clause-worked : goal.returns-then-is_ok-clause-worked
+returns-then-is_ok-clause-worked c =
+    let old = c.args.self.now in
+    let is : old.acc ≡ Some c.in-Some.acc = sym c.in-Some.ensures.value in
+    let more : List (ℕ × ℕ) = ranges_in old ++ (c.args.from, c.args.to) ∷ [] in
+    let noted : c.push-noted.new.self.items ≡ more =
+    c.push-noted.ensures.items ∙ ap (λ b. cond b more (ranges_in old)) (sym c.is_ok.ensures.value ∙ c.if-is_ok.true) in
+    record {
+      worker = refl;
+      id = refl;
+      inputs = refl;
+      bench_is = record {
+        inputs = c.requires.bench.inputs;
+        holds = holds_more (arc_value old.inputs) (ranges_in old) c.push-noted.new.self.items c.args.from c.args.to old.acc c.in-Some.acc
+            c.taken.result c.requires.bench.holds is c.requires.apart noted (took c);
+      };
+      stays = λ short. absurd (none-some c.in-Some.acc (sym short ∙ is));
+      noted = inr noted;
+    }
+
+pub returns-then-is_ok-clause-fits : goal.returns-then-is_ok-clause-fits
+returns-then-is_ok-clause-fits c = fits_more c.args.from c.args.to c.args.self.now _ (returns-then-is_ok-clause-worked c)

@@ -1,0 +1,64 @@
+//! Laws of a worker's moves. A function here does nothing; its contract is the law.
+ghost use Rattle.turn_model.specs.Laws.{MovesTell};
+ghost use Rattle.turn_model.specs.Examples.{OnePlays, Pair0Plays, Pair1Plays, NonePlays};
+ghost use Rattle.turn_model.specs.MoreExamples.{EmptyPlays, TwoPlays, ThreePlays};
+ghost use Rattle.turn_model.specs.LongExample.{LongPlays};
+ghost use Rattle.turn_model.specs.Fitting.{StridesAreCalls, SizeFits, RangeFits};
+ghost use Rattle.turn_model.specs.Activity.{ActiveByRecords};
+ghost use Rattle.turn_model.specs.Keeping.{LooksKeep, RangesKeep};
+ghost use Rattle.turn_model.specs.Measure.{FallsAsOne};
+ghost use Rattle.turn_model.specs.OneSlot.{LooksFit, ClaimsAreLetIn, OneSlotLetsIn};
+
+/// A worker's place and its notice records are those that its moves tell, whatever the others do.
+pub fn moves_tell()
+    ensures { MovesTell }
+{}
+
+/// The passes of a worker's slots are those after one list of calls of a stride set.
+pub fn strides_are_calls()
+    ensures { StridesAreCalls }
+{}
+
+/// The slots that are active among a worker's passes are those whose notice records are active.
+pub fn active_by_records()
+    ensures { ActiveByRecords }
+{}
+
+/// A sizer that has a worker's ranges of a task set gives the size of the next claim, and a range
+/// keeps passes, decay and sizer with the moves.
+pub fn ranges_fit()
+    ensures size { SizeFits }
+    ensures range { RangeFits }
+{}
+
+/// One decay and one sizer for each slot are enough: a worker is let in to task sets of a query in
+/// one slot only, and all that it did for a query or a task set came after a look at that slot.
+pub fn one_slot_is_enough()
+    ensures looks { LooksFit }
+    ensures claims { ClaimsAreLetIn }
+    ensures one { OneSlotLetsIn }
+{}
+
+/// What a worker keeps of its slots (groups, decays, sizers) is right again after a look that let
+/// it in, and after a range.
+pub fn slots_are_kept()
+    ensures looks { LooksKeep }
+    ensures ranges { RangesKeep }
+{}
+
+/// The numbers that whole turns lower, in the order of a dictionary, are lowered as one number.
+pub fn numbers_are_one()
+    ensures { FallsAsOne }
+{}
+
+/// Worked examples: moves that the definitions allow, and what they give.
+pub fn examples()
+    ensures one { OnePlays }
+    ensures pair_first { Pair0Plays }
+    ensures pair_second { Pair1Plays }
+    ensures two { TwoPlays }
+    ensures empty { EmptyPlays }
+    ensures none { NonePlays }
+    ensures three { ThreePlays }
+    ensures long { LongPlays }
+{}

@@ -8,12 +8,9 @@
 #
 #   bench/run.sh [ROUNDS]        15 rounds by default
 
-set -eu
-export LC_ALL=C
 rounds=${1:-15}
 here=$(CDPATH='' cd -- "$(dirname -- "$0")" && pwd)
-work=$(mktemp -d)
-trap 'rm -rf "$work"' EXIT
+. "$here/common.sh"
 
 # ROWS COLUMNS BOUND: a table of numbers below BOUND, each drawn from the one before it; the first
 # draw is fixed.
@@ -49,15 +46,8 @@ timed() {
 # WORD..: runs a command 50 times, as one command of `timed`.
 fifty='n=0; while [ "$n" -lt 50 ]; do "$@"; n=$((n + 1)); done'
 
-# FILE COLUMN: the median of a column.
-median() {
-    sort -n -k "$2,$2" "$1" | awk -v column="$2" '{ all[NR] = $column }
-        END { print NR % 2 ? all[(NR + 1) / 2] : (all[NR / 2] + all[NR / 2 + 1]) / 2 }'
-}
-
-for name in load make; do
-    "${CXX:-c++}" -O2 -std=c++17 -o "$work/$name" "$here/$name.cpp"
-done
+compile load
+compile make
 
 # The launcher proves and builds the program if that is not done yet. Without words the program
 # ends with 2.

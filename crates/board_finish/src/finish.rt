@@ -7,9 +7,9 @@ ghost use Rattle.slot_station.specs.Replies.{shut_act, mark_act, sweep_act};
 ghost use Rattle.slot_station.specs.Replies.{pay_act, marked_coordinator};
 ghost use Rattle.slot_station.specs.Tokens.{IsCoordinator, IsDebt, IsHolder, IsSpent};
 ghost use Rattle.slot_station.specs.Tokens.{PayGives, ShutGives, SweepGives};
-ghost use Rattle.board_rule.specs.Passes.{IsPassOf, seen_of};
+ghost use Rattle.board_rule.specs.Passes.{HasExchanged, IsPassOf, seen_of};
 
-use board_rule::atomic::{WordOperation, step};
+use board_rule::atomic::{WordOperation, make_step};
 use board_rule::board::{Board, Pass};
 use board_rule::exchange::exchange_cell;
 use slot_proto::reading::{mark_read, marked_at, next_to_ask, pay_read, shut_read, sweep_read};
@@ -39,7 +39,7 @@ pub fn shut<B: Fits, L: Ledger>(
     ensures ticks { steps.new ≡ steps.old + 1 }
 {
     let state = Address::StateOf(slot_at(&pass.place));
-    let found = step::<Brand, B, L>(board, pass, state, WordOperation::SetBits(1), steps);
+    let found = make_step::<Brand, B, L>(board, pass, state, WordOperation::SetBits(1), steps);
     let shut = shut_read(found, pass.worker, &pass.place, &board.shape);
     pass.place = place_after(&board.shape, &shut.act(), pass.place);
     drop(spent);
@@ -56,8 +56,8 @@ pub fn mark_next<B: Fits, L: Ledger>(
 ) -> Mark
     requires pass { IsPassOf board.now pass.old }
     requires coordinator { Owns IsCoordinator (seen_of board.now pass.old) coordinator.old }
-    requires unasked { let x = seen_of board.now pass.old in
-        coordinator.old.asked + 1 < x.desk.shape.workers }
+    requires unasked { let seen = seen_of board.now pass.old in
+        coordinator.old.asked + 1 < seen.desk.shape.workers }
     ensures pass { IsPassOf board.now pass.new }
     ensures made { Makes B.total (mark_act result)
         (seen_of board.now pass.old) (seen_of board.now pass.new) }
@@ -72,7 +72,7 @@ pub fn mark_next<B: Fits, L: Ledger>(
         old: there,
         new: marked(there, id_at(&pass.place)),
     };
-    let found = step::<Brand, B, L>(board, pass, other, asks, steps);
+    let found = make_step::<Brand, B, L>(board, pass, other, asks, steps);
     let mark = mark_read(found, slot);
     pass.place = place_after(&board.shape, &mark.act(), pass.place);
     coordinator.count(mark);
@@ -97,7 +97,7 @@ pub fn sweep<B: Fits, L: Ledger>(
 {
     let counter = Address::CounterOf(slot_at(&pass.place));
     let marks = marked_at(&pass.place);
-    let found = step::<Brand, B, L>(
+    let found = make_step::<Brand, B, L>(
         board,
         pass,
         counter,
@@ -126,14 +126,14 @@ pub fn pay<B: Fits, L: Ledger>(
     ensures ticks { steps.new ≡ steps.old + 1 }
 {
     let counter = Address::CounterOf(slot_at(&pass.place));
-    let found = step::<Brand, B, L>(board, pass, counter, WordOperation::Decrement, steps);
+    let found = make_step::<Brand, B, L>(board, pass, counter, WordOperation::Decrement, steps);
     let pay = pay_read(found, pass.worker, &pass.place);
     pass.place = place_after(&board.shape, &pay.act(), pass.place);
     drop(debt);
     pay
 }
 
-/// `Station::cell`: the cell of a worker is taken, exchanged and given back.
+/// `Station::cell`: the cell of a worker is taken, exchanged and given back, once.
 pub fn cell<B: Fits, L: Ledger>(
     board: &Board<B>,
     pass: &mut Pass<B>,
@@ -150,6 +150,7 @@ pub fn cell<B: Fits, L: Ledger>(
     ensures says { CellSays B.fits (seen_of board.now pass.old) worker result }
     ensures put { Exchanges worker (fresh_note new)
         (seen_of board.now pass.old) (seen_of board.now pass.new) }
+    ensures exchanged { HasExchanged worker (fresh_note new) pass.old pass.new }
     ensures same { holder.new ≡ holder.old }
     ensures ticks { steps.new ≡ steps.old + 1 }
 {

@@ -16,7 +16,7 @@ ghost use Rattle.slot_station.specs.Replies.{reserve_act, admit_act, admitted_ho
 ghost use Rattle.slot_station.specs.Tokens.{IsAnnouncer, IsHolder, ReserveGives};
 ghost use Rattle.board_rule.specs.Passes.{IsPassOf, seen_of};
 
-use board_rule::atomic::{WordOperation, step};
+use board_rule::atomic::{WordOperation, make_step};
 use board_rule::board::{Board, Pass};
 use slot_history::act::Act;
 use slot_proto::reading::{admit_read, reserve_read};
@@ -48,7 +48,7 @@ pub fn reserve<B: Fits, L: Ledger>(
     ensures ticks { steps.new ≡ steps.old + 1 }
 {
     let takes = WordOperation::CompareExchange { old: 0, new: 1 };
-    let found = step::<Brand, B, L>(board, pass, Address::StateOf(s), takes, steps);
+    let found = make_step::<Brand, B, L>(board, pass, Address::StateOf(s), takes, steps);
     let reserve = reserve_read(found, pass.worker, s);
     pass.place = place_after(&board.shape, &reserve.act(s), pass.place);
     reserve
@@ -73,12 +73,12 @@ pub fn admit<B: Fits, L: Ledger>(
     ensures holder { Owns IsHolder (seen_of board.now pass.new) holder.new }
     ensures ticks { steps.new ≡ steps.old + 1 }
 {
-    let due = u64::from(q);
+    let expected = u64::from(q);
     let admits = WordOperation::CompareExchange {
-        old: due,
-        new: due + 1,
+        old: expected,
+        new: expected + 1,
     };
-    let found = step::<Brand, B, L>(board, pass, Address::ArrivalsAt, admits, steps);
+    let found = make_step::<Brand, B, L>(board, pass, Address::ArrivalsAt, admits, steps);
     let admit = admit_read(found, q);
     pass.place = place_after(&board.shape, &admit.act(q), pass.place);
     holder.admit(q, admit);
@@ -106,7 +106,7 @@ pub fn note_done<B: Fits, L: Ledger>(
     ensures ticks { steps.new ≡ steps.old + 1 }
 {
     let adds = WordOperation::Add(u64::from(k));
-    step::<Brand, B, L>(board, pass, Address::FinishedAt, adds, steps);
+    make_step::<Brand, B, L>(board, pass, Address::FinishedAt, adds, steps);
     pass.place = place_after(&board.shape, &Act::NoteDone(k), pass.place);
 }
 
@@ -130,7 +130,7 @@ pub fn set_total<B: Fits, L: Ledger>(
     ensures ticks { steps.new ≡ steps.old + 1 }
 {
     let cursor = Address::CursorOf(slot_at(&pass.place));
-    step::<Brand, B, L>(
+    make_step::<Brand, B, L>(
         board,
         pass,
         cursor,
@@ -152,8 +152,8 @@ pub fn install<B: Fits, L: Ledger>(
     requires holder { Owns IsHolder (seen_of board.now pass.old) holder }
     requires ready { IsReady (own_holding (seen_of board.now pass.old)) }
     requires id { id ≡ next_id (own_holding (seen_of board.now pass.old)) }
-    requires total { let x = seen_of board.now pass.old in
-        InstallsOf (totals_of B.total x) (Install id) (own_holding x).total }
+    requires total { let seen = seen_of board.now pass.old in
+        InstallsOf (totals_of B.total seen) (Install id) (own_holding seen).total }
     requires cells { HasNoted Fresh (caller_of (seen_of board.now pass.old)) }
     ensures pass { IsPassOf board.now pass.new }
     ensures made { Makes B.total (Install id)
@@ -163,7 +163,7 @@ pub fn install<B: Fits, L: Ledger>(
 {
     let announcer = announcer(pass.worker, &pass.place, &board.shape);
     let state = Address::StateOf(slot_at(&pass.place));
-    step::<Brand, B, L>(
+    make_step::<Brand, B, L>(
         board,
         pass,
         state,
@@ -193,7 +193,7 @@ pub fn release<B: Fits, L: Ledger>(
     ensures ticks { steps.new ≡ steps.old + 1 }
 {
     let state = Address::StateOf(slot_at(&pass.place));
-    step::<Brand, B, L>(board, pass, state, WordOperation::Store(0), steps);
+    make_step::<Brand, B, L>(board, pass, state, WordOperation::Store(0), steps);
     pass.place = place_after(&board.shape, &Act::Release, pass.place);
     drop(holder);
 }

@@ -1,4 +1,4 @@
-//! The calls that fill a slot and tell of it on the shared board, and the seat of a worker at it.
+//! The calls that fill a slot and announce it on the shared board, and the seat of a worker at it.
 //!
 //! It stands on `board_rule`, on `slot_proto`, which reads a call's answer in the word that its
 //! step finds, and on `board_visit` and `board_finish`, which have the other calls.
@@ -8,9 +8,9 @@
 #![tactic(auto)]
 
 pub mod fill;
+pub mod notices;
 pub mod seat;
-pub mod tell;
 
 pub use fill::{admit, install, note_done, release, reserve, set_total};
+pub use notices::{announce, arrivals, finished, take_change, take_return};
 pub use seat::BoardSeat;
-pub use tell::{announce, arrivals, finished, take_change, take_return};

@@ -6,9 +6,9 @@ ghost use Rattle.slot_station.specs.Cells.{has_cell, kept_note, fresh_note};
 ghost use Rattle.slot_station.specs.Desks.{own_place, Owns, Exchanges, ExchangesOwn, OwnFits};
 ghost use Rattle.slot_station.specs.Desks.{NextFits, OwnCellSays, CellSays};
 ghost use Rattle.slot_station.specs.Tokens.{IsHolder};
-ghost use Rattle.board_rule.specs.Passes.{IsPassOf, seen_of, shape_of, subject_of};
+ghost use Rattle.board_rule.specs.Passes.{IsPassOf, seen_of, board_shape, board_subject};
 
-use crate::{fill, tell};
+use crate::{fill, notices};
 use board_finish::finish;
 use board_rule::board::{Board, Pass};
 use board_visit::visit;
@@ -37,8 +37,8 @@ pub struct BoardSeat<'a, B: Fits> {
     pub pass: Pass<B>,
     serves: Served<B>,
     ghost ours: { IsPassOf board.now pass } by { Prim.hlevel (props, Coded-set (coded_option B.Subject.code)) },
-    ghost shape: { serves.shape.value ≡ shape_of board.now },
-    ghost subject: { serves.subject.value ≡ subject_of board.now } by { Prim.hlevel (props, Coded-set B.Subject.code) },
+    ghost shape: { serves.shape.value ≡ board_shape board.now },
+    ghost subject: { serves.subject.value ≡ board_subject board.now } by { Prim.hlevel (props, Coded-set B.Subject.code) },
 }
 
 impl<'a, B: Fits> BoardSeat<'a, B> {
@@ -50,8 +50,8 @@ impl<'a, B: Fits> BoardSeat<'a, B> {
         subject: Snapshot<B::Subject>,
     ) -> BoardSeat<'a, B>
         requires pass { IsPassOf board.now pass }
-        requires subject { subject.value ≡ subject_of board.now }
-        requires queries { (shape_of board.now).queries ≡ B.queries subject.value }
+        requires subject { subject.value ≡ board_subject board.now }
+        requires queries { (board_shape board.now).queries ≡ B.queries subject.value }
         ensures board { result.board.now ≡ board.now }
         ensures pass { result.pass ≡ pass }
     {
@@ -64,7 +64,7 @@ impl<'a, B: Fits> BoardSeat<'a, B> {
         }
     }
 
-    /// Where the worker is. It tells which calls are allowed.
+    /// Where the worker is. It says which calls are allowed.
     pub fn place(&self) -> Place
         ensures { result ≡ own_place (seen_of self.now.board.now self.now.pass) }
     {
@@ -152,11 +152,11 @@ impl<'a, B: Fits> Station<B> for BoardSeat<'a, B> {
     }
 
     fn arrivals<L: Ledger>(&mut self, steps: &mut Steps<L>) -> u32 {
-        tell::arrivals(self.board, &mut self.pass, steps)
+        notices::arrivals(self.board, &mut self.pass, steps)
     }
 
     fn finished<L: Ledger>(&mut self, steps: &mut Steps<L>) -> u32 {
-        tell::finished(self.board, &mut self.pass, steps)
+        notices::finished(self.board, &mut self.pass, steps)
     }
 
     fn note_done<L: Ledger>(&mut self, holder: &mut Holder, k: u32, steps: &mut Steps<L>) {
@@ -176,17 +176,17 @@ impl<'a, B: Fits> Station<B> for BoardSeat<'a, B> {
     }
 
     fn announce<L: Ledger>(&mut self, announcer: &mut Announcer, steps: &mut Steps<L>) {
-        tell::announce(self.board, &mut self.pass, announcer, steps);
+        notices::announce(self.board, &mut self.pass, announcer, steps);
     }
 
     fn told_all(&mut self, _announcer: Announcer) {}
 
     fn take_return<L: Ledger>(&mut self, part: u32, steps: &mut Steps<L>) -> u64 {
-        tell::take_return(self.board, &mut self.pass, part, steps)
+        notices::take_return(self.board, &mut self.pass, part, steps)
     }
 
     fn take_change<L: Ledger>(&mut self, part: u32, steps: &mut Steps<L>) -> u64 {
-        tell::take_change(self.board, &mut self.pass, part, steps)
+        notices::take_change(self.board, &mut self.pass, part, steps)
     }
 
     fn cell<L: Ledger>(

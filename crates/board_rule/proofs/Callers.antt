@@ -20,7 +20,7 @@ use Rattle.slot_station.proofs.PlaceCounts.{place-counted}
 use Rattle.slot_station.proofs.TokensKept.{announcer-opened}
 use Rattle.board_rule.specs.declared.board.Board.{Board}
 use Rattle.board_rule.specs.declared.board.Pass.{Pass}
-use Rattle.board_rule.specs.Passes.{shape_of, seen_of, IsPassOf, HasStepped}
+use Rattle.board_rule.specs.Passes.{board_shape, seen_of, IsPassOf, HasStepped}
 use Rattle.board_rule.proofs.Stepping.{shape}
 
 counted-prop : (q : Place) → IsProp (IsCounted q)
@@ -31,7 +31,7 @@ counted-prop _ = hlevel (props)
 -- the counts of a pass's place
 pub pass-counted : {B Sub : Type 0} → (board : Board B Sub) (p : Pass B Sub) → IsPassOf board p → IsCounted p.place
 pass-counted board p ours = ∥∥₁_elim ours.10 (counted-prop p.place) (λ legal. subst IsCounted ours.6
-    (place-counted (shape_of board) p.seat.me.0.trail p.worker (shape board p.worker p.place p.seat ours) legal ours.1))
+    (place-counted (board_shape board) p.seat.me.0.trail p.worker (shape board p.worker p.place p.seat ours) legal ours.1))
 
 -- the same call
 pub made-as : {O Sub : Type 0} {total : Sub → ℕ → Option ℕ} {a b : Act} {x y : Seen O Sub} → b ≡ a → Makes total a x y → Makes total b x y
@@ -39,7 +39,7 @@ made-as {total = total} {x = x} {y = y} is m = subst (λ c. Makes total c x y) (
 
 module _ {B Sub : Type 0} {board : Board B Sub} {old mid : Pass B Sub} {a : Act} (st : HasStepped board a old mid) where
   abbrev d : Shape
-  d = shape_of board
+  d = board_shape board
 
   -- what a reply brings, by the place to which the call moves its worker
   pub brings : {b : Act} → b ≡ a → {X : Type 0} → (Is : Shape → ℕ → Place → X → Type 0) (x : X) → Is d mid.worker (moved d b mid.place) x

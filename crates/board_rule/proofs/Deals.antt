@@ -8,7 +8,7 @@ use Rattle.board_rule.specs.declared.board.Board.{Board}
 use Rattle.board_rule.specs.declared.board.Pass.{Pass}
 use Rattle.board_rule.specs.declared.view.View.{View}
 use Rattle.board_rule.specs.Lives.{IsUnused, AreAll, AreFree, AreUnused, IsUndealt}
-use Rattle.board_rule.specs.Passes.{shape_of, subject_of, IsSeatOf}
+use Rattle.board_rule.specs.Passes.{board_shape, board_subject, IsSeatOf}
 use Rattle.board_rule.specs.Rule.{RunningRule, terms_of}
 use Rattle.board_rule.specs.Views.{numbers_from, fresh_view, kept_part, dealt_part}
 use Rattle.board_rule.proofs.Seats.{splits}
@@ -21,10 +21,10 @@ get-snoc (z ∷ zs) x (suc k) y e = ⊎_elim (λ h. inl h) (λ h. inr (ap suc h.
 
 module _ {B Sub : Type 0} (b : Board B Sub) (k n m : ℕ) (s : Seat (Option B) (View Sub)) (more : m ≡ suc n) (h : IsUndealt b k m s) where
   abbrev all : View Sub
-  all = fresh_view (shape_of b) (subject_of b) k (suc n)
+  all = fresh_view (board_shape b) (board_subject b) k (suc n)
 
   at-suc : s.me ≡ (all, [])
-  at-suc = h.knows ∙ ap (λ j. (fresh_view (shape_of b) (subject_of b) k j, [])) more
+  at-suc = h.knows ∙ ap (λ j. (fresh_view (board_shape b) (board_subject b) k j, [])) more
 
   view : s.me.0 ≡ all
   view = ap (λ (l : Me (Option B) (View Sub)). l.0) at-suc
@@ -43,7 +43,7 @@ module _ {B Sub : Type 0} (b : Board B Sub) (k n m : ℕ) (s : Seat (Option B) (
   pub deal-rest : (rest : Seat (Option B) (View Sub)) → rest.table_id ≡ s.table_id → rest.me ≡ (dealt_part s.me.0, []) → IsUndealt b (suc k) n rest
   deal-rest rest id e = record { table = id ∙ h.table; knows = e ∙ ap (λ (v : View Sub). (dealt_part v, [])) view }
 
-  pub deal-own : (own : Seat (Option B) (View Sub)) → own.table_id ≡ s.table_id → own.me ≡ (kept_part s.me.0, s.me.1) → k < (shape_of b).workers
+  pub deal-own : (own : Seat (Option B) (View Sub)) → own.table_id ≡ s.table_id → own.me ≡ (kept_part s.me.0, s.me.1) → k < (board_shape b).workers
       → IsSeatOf b k Free own × (own.me.0.trail ≡ [])
   deal-own own id e low =
       let P : Me (Option B) (View Sub) → Type 0 = λ l. IsSeatOf b k Free (record own { me = l }) × (l.0.trail ≡ []) in
@@ -68,5 +68,5 @@ there (x ∷ xs) (suc k) low = there xs k (omega arith)
 pub fresh-done : {B Sub : Type 0} → (b : Board B Sub) (ps : List (Pass B Sub)) → AreUnused b ps → AreFree b ps
 fresh-done b ps fresh k p at = let f = fresh k p at in record { of_board = f.of_board; place = f.place }
 
-pub fresh-all : {B Sub : Type 0} → (b : Board B Sub) (ps : List (Pass B Sub)) → length ps ≡ (shape_of b).workers → AreUnused b ps → AreAll b ps
+pub fresh-all : {B Sub : Type 0} → (b : Board B Sub) (ps : List (Pass B Sub)) → length ps ≡ (board_shape b).workers → AreUnused b ps → AreAll b ps
 fresh-all b ps long fresh w low = let r = there ps w (omega arith) in (w, r.0, r.1, (fresh w r.0 r.1).worker)

@@ -16,7 +16,7 @@ use Rattle.board_rule.specs.declared.view.View.{View}
 use Rattle.board_rule.specs.declared.board.Board.{Board}
 use Rattle.board_rule.specs.declared.board.Pass.{Pass}
 use Rattle.board_rule.specs.Cells.{Takes, Gives, index_in, note_put, taking, giving}
-use Rattle.board_rule.specs.Passes.{shape_of, subject_of, seen_at, seen_of, IsSeatOf, IsPassOf}
+use Rattle.board_rule.specs.Passes.{board_shape, board_subject, seen_at, seen_of, IsSeatOf, IsPassOf}
 use Rattle.board_rule.specs.Rule.{RunningRule, Terms, terms_of}
 use Rattle.board_rule.specs.Views.{number, view_place, seen_by_view, with_out, view_exchanged}
 use Rattle.board_rule.proofs.Moves.{take-allowed, give-allowed}
@@ -31,7 +31,7 @@ pair-heads {X} a c x y r q e =
 module _ {B Sub : Type 0} (total : Sub → ℕ → Option ℕ) (fits : Sub → ℕ → ℕ → List (ℕ × ℕ) → B → Type 0) (b : Board B Sub) (p : Pass B Sub)
     (ours : IsPassOf b p) (u : ℕ) (has : MayExchange (caller_of (seen_of b p)) u) where
   abbrev d : Shape
-  d = shape_of b
+  d = board_shape b
 
   abbrev v : View Sub
   v = p.seat.me.0
@@ -52,7 +52,7 @@ module _ {B Sub : Type 0} (total : Sub → ℕ → Option ℕ) (fits : Sub → �
   count : b.table.shared.table_id.slots ≡ d.slots * d.workers
   count = subst (λ (e : Shape). b.table.shared.table_id.slots ≡ e.slots * e.workers) (sym b.shape_is) b.cells_are
 
-  has-v : MayExchange (caller_of (seen_by_view v (subject_of b))) u
+  has-v : MayExchange (caller_of (seen_by_view v (board_subject b))) u
   has-v = by-view b p.worker p.place p.seat ours (λ x. MayExchange (caller_of x) u) has
 
   low : number v < d.workers
@@ -74,7 +74,7 @@ module _ {B Sub : Type 0} (total : Sub → ℕ → Option ℕ) (fits : Sub → �
     says spot old found =
         let heads = pair-heads spot (index_in v u) old t.value (rest l.1) p.seat.me.1 (sym found ∙ t.holds) in
         subst (HoldsNoted (seen_of b p) u fits) (sym heads.1)
-        (by-board b p.worker p.place p.seat ours (λ x. HoldsNoted x u fits t.value) (t.says (subject_of b) ours.5))
+        (by-board b p.worker p.place p.seat ours (λ x. HoldsNoted x u fits t.value) (t.says (board_subject b) ours.5))
 
     -- ---- and after the exchange it has `new` in place of `old`
 
@@ -90,7 +90,7 @@ module _ {B Sub : Type 0} (total : Sub → ℕ → Option ℕ) (fits : Sub → �
       give-step i fit = subst (λ x. Owes i x (giving load_step x)) (sym holds)
           (give-allowed terms b.table.shared.table_id.slots i (with_out v u) u ((index_in v u, new) ∷ rest l.1) ours.2 low has-v count load_step new
           (rest l.1) refl refl
-          (λ x is. let e : subject_of b ≡ x = (let r : Some (subject_of b) ≡ Some x = sym ours.5 ∙ is in cc) in
+          (λ x is. let e : board_subject b ≡ x = (let r : Some (board_subject b) ≡ Some x = sym ours.5 ∙ is in cc) in
           subst (λ s. IfSome new (MayPut (seen_by_view v s) u fits)) e
           (by-view b p.worker p.place p.seat ours (λ y. IfSome new (MayPut y u fits)) fit)))
 
@@ -105,7 +105,7 @@ module _ {B Sub : Type 0} (total : Sub → ℕ → Option ℕ) (fits : Sub → �
             ∙ ap (λ q. view_exchanged v u (put_note q new)) here
 
         module _ (s : Seat (Option B) (View Sub)) (me : s.me ≡ n) where
-          knows : s.me.0 ≡ view_exchanged v u noted
+          pub knows : s.me.0 ≡ view_exchanged v u noted
           knows = ap (λ (x : Me (Option B) (View Sub)). x.0) me ∙ view
 
           trail : s.me.0.trail ≡ v.trail

@@ -16,7 +16,7 @@ use Rattle.board_rule.specs.declared.board.Pass.{Pass}
 use Rattle.board_rule.specs.declared.view.View.{View}
 use Rattle.board_rule.specs.Ends.{HasJoined, IsGathered}
 use Rattle.board_rule.specs.Lives.{AreAll, AreFree, IsFreePass, IsJoined, Ended}
-use Rattle.board_rule.specs.Passes.{shape_of, subject_of}
+use Rattle.board_rule.specs.Passes.{board_shape, board_subject}
 use Rattle.board_rule.specs.Rule.{Knowledge, IsViewOf, RunningRule, Terms, terms_of}
 use Rattle.board_rule.specs.Views.{times, number, joined, spent}
 use Rattle.board_rule.proofs.Lists.{headed, no-items, times-head, times-append}
@@ -93,7 +93,7 @@ module _ {B Sub : Type 0} (b : Board B Sub) where
       in_ (suc k) q at = absurd (cc)
 
   -- there is a first pass, since there is a worker
-  some-worker : 0 < (shape_of b).workers
+  some-worker : 0 < (board_shape b).workers
   some-worker = subst (λ (d : Shape). 0 < d.workers) (sym b.shape_is) b.bounded.workers.0
 
   pub any-pass : (ps : List (Pass B Sub)) → AreAll b ps → 0 < length ps
@@ -121,15 +121,15 @@ module _ {B Sub : Type 0} (b : Board B Sub) where
     finished ps s end ws xs all g (st, ((known, ok), at), words, count, values) copied shows =
         let is = ok.views s.id s.me.0 at in
         let v : View Sub = s.me.0 in
-        let own : (w : ℕ) → w < (shape_of b).workers → own_calls w known.trail ≡ own_calls w v.trail =
+        let own : (w : ℕ) → w < (board_shape b).workers → own_calls w known.trail ≡ own_calls w v.trail =
         λ w low. let (k, p, there, named) = all w low in is.own w (subst (λ m. 0 < times m v.numbers) named (g.each k p there).there) in
         let whole : known.trail ≡ end.history =
-        whole-by-own-calls (shape_of b) known.trail v.trail ok.words_are.legal is.begins own ∙ sym shows in
+        whole-by-own-calls (board_shape b) known.trail v.trail ok.words_are.legal is.begins own ∙ sym shows in
         let each : (k : ℕ) (p : Pass B Sub) → slice_get ps k ≡ Some p
         → Begins known.trail p.seat.me.0.trail × (own_calls p.worker known.trail ≡ own_calls p.worker p.seat.me.0.trail) =
         λ k p there. known-of known v p.worker p.seat.me.0.trail g.some_number is (g.each k p there).knows in record {
-          words_are = subst (λ h. AreWordsOf (shape_of b) h end.words) whole (subst (AreWordsOf (shape_of b) known.trail) (words ∙ sym copied) ok.words_are);
-          of_subject = subst (IsOfTotals (total (subject_of b)) (shape_of b)) whole ok.of_subject;
+          words_are = subst (λ h. AreWordsOf (board_shape b) h end.words) whole (subst (AreWordsOf (board_shape b) known.trail) (words ∙ sym copied) ok.words_are);
+          of_subject = subst (IsOfTotals (total (board_subject b)) (board_shape b)) whole ok.of_subject;
           begins = λ k p there. subst (λ h. Begins h p.seat.me.0.trail) whole (each k p there).0;
           own = λ k p there. subst (λ h. own_calls p.worker h ≡ own_calls p.worker p.seat.me.0.trail) whole (each k p there).1;
         }

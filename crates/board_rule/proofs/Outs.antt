@@ -60,6 +60,10 @@ module _ {B Sub : Type 0} (terms : Terms B Sub) (known : Knowledge) (st : table.
       let has = has-first v any in
       ltb-true (number v) d.workers (only-true (ltb (number v) d.workers) (omega arith))
 
+  -- its view has the board's shape
+  shape-is : (i : ℕ) (v : View Sub) → get_elem? st.views i ≡ some v → 0 < length v.numbers → v.shape ≡ d
+  shape-is i v at any = let l = headed v.numbers (number v) any refl in (ok.views i v at).shape (number v) l.0 l.1
+
   -- a worker that has a cell is the first of a seat's numbers
   seat-of : (w s u : ℕ) → w < d.workers → HasCell S s u w
       → (i : ℕ) × (v : View Sub) × (ws : List ℕ) × (get_elem? st.views i ≡ some v) × (v.numbers ≡ w ∷ ws)
@@ -74,24 +78,26 @@ module _ {B Sub : Type 0} (terms : Terms B Sub) (known : Knowledge) (st : table.
       (first-or-further w (number v) l.0 (subst (λ n. 0 < times w n) l.1 there))
 
   pub out-with-one : (s u : ℕ) → s < d.slots → u < d.workers → get_elem? st.homes (cell_index d s u) ≡ some std_option.none
-      → (i : ℕ) × HasOut terms known st s u i × ((j : ℕ) → HasOut terms known st s u j → j ≡ i)
+      → (i : ℕ) × (v : View Sub) × (get_elem? st.views i ≡ some v) × HasOut known v s u
+      × ((j : ℕ) (x : View Sub) → get_elem? st.views j ≡ some x → HasOut known x s u → j ≡ i)
   out-with-one s u in_s in_u away =
       let (w, low, out, has) = ok.cells s u in_s in_u std_option.none away in
       let (i, v, ws, at, nums) = seat-of w s u low has in
       let own : number v ≡ w = ap (λ l. slice_index l 0) nums in
       let any : 0 < length v.numbers = subst (λ l. 0 < length l) (sym nums) (omega arith) in (
         i,
+        v,
+        at,
         record {
-          view = v;
-          at = at;
           some_number = any;
           out = sym ((ok.views i v at).out w ws nums) ∙ out;
-          has = subst (HasCell S s u) (sym own) has;
+          has = subst (λ e. HasCell (state_after e known.trail) s u (number v)) (sym (shape-is i v at any)) (subst (HasCell S s u) (sym own) has);
         },
-        λ j h.
-            let same : number h.view ≡ w =
-            one-owner d S (places.table d known.trail ok.words_are.legal) s u (number h.view) w (below j h.view h.at h.some_number) low h.has has in
-            let there : 0 < times w h.view.numbers = subst (λ m. 0 < times m h.view.numbers) same (has-first h.view h.some_number) in
+        λ j x at_j h.
+            let cell : HasCell S s u (number x) = subst (λ e. HasCell (state_after e known.trail) s u (number x)) (shape-is j x at_j h.some_number) h.has in
+            let same : number x ≡ w =
+            one-owner d S (places.table d known.trail ok.words_are.legal) s u (number x) w (below j x at_j h.some_number) low cell has in
+            let there : 0 < times w x.numbers = subst (λ m. 0 < times m x.numbers) same (has-first x h.some_number) in
             let here : 0 < times w v.numbers = subst (λ m. 0 < times m v.numbers) own (has-first v any) in
-            dite (ℕ_discrete j i) (λ e. e) (λ ne. absurd (lone terms known st ok i j v h.view w at h.at ne here there)),
+            dite (ℕ_discrete j i) (λ e. e) (λ ne. absurd (lone terms known st ok i j v x w at at_j ne here there)),
       )

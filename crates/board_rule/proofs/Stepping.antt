@@ -28,7 +28,7 @@ use Rattle.slot_words.proofs.Law.{step-of}
 use Rattle.slot_words.proofs.Numbers as numbers
 use Rattle.board_rule.specs.declared.board.Board.{Board}
 use Rattle.board_rule.specs.declared.view.View.{View}
-use Rattle.board_rule.specs.Passes.{shape_of, subject_of, seen_at, IsSeatOf}
+use Rattle.board_rule.specs.Passes.{board_shape, board_subject, seen_at, IsSeatOf}
 use Rattle.board_rule.specs.Rule.{Terms, RunningRule, terms_of}
 use Rattle.board_rule.specs.Steps.{AllowsCall, MayStep, HasCalled}
 use Rattle.board_rule.specs.Views.{number, view_place, seen_with, seen_by_view, view_called}
@@ -42,7 +42,7 @@ none-of (Some x) h = absurd (true≢false h)
 -- a seat of the worker w, at the place p, of a board
 module _ {B Sub : Type 0} (board : Board B Sub) (w : ℕ) (p : Place) (seat : Seat (Option B) (View Sub)) (ours : IsSeatOf board w p seat) where
   abbrev d : Shape
-  d = shape_of board
+  d = board_shape board
 
   abbrev v : View Sub
   v = seat.me.0
@@ -62,12 +62,12 @@ module _ {B Sub : Type 0} (board : Board B Sub) (w : ℕ) (p : Place) (seat : Se
 
   -- what the worker shows, but for the station's origin: by the board, and by the view
   abbrev pub shown : ℕ → Shape → Seen (Unit {0}) Sub
-  shown m e = seen_with (record { worker = m; shape = e; subject = subject_of board }) v.trail (note_in v.own m)
+  shown m e = seen_with (record { worker = m; shape = e; subject = board_subject board }) v.trail (note_in v.own m)
 
-  pub by-view : (P : Seen (Unit {0}) Sub → Type 0) → P (shown w d) → P (seen_by_view v (subject_of board))
+  pub by-view : (P : Seen (Unit {0}) Sub → Type 0) → P (shown w d) → P (seen_by_view v (board_subject board))
   by-view P h = subst (λ m. P (shown m v.shape)) (sym ours.3) (subst (λ e. P (shown w e)) (sym ours.4) h)
 
-  pub by-board : (P : Seen (Unit {0}) Sub → Type 0) → P (seen_by_view v (subject_of board)) → P (shown w d)
+  pub by-board : (P : Seen (Unit {0}) Sub → Type 0) → P (seen_by_view v (board_subject board)) → P (shown w d)
   by-board P h = subst (λ e. P (shown w e)) ours.4 (subst (λ m. P (shown m v.shape)) ours.3 h)
 
   pub below : number v < d.workers
@@ -98,7 +98,7 @@ module _ {B Sub : Type 0} (board : Board B Sub) (w : ℕ) (p : Place) (seat : Se
     terms = terms_of total fits board.table.shared.key
 
     -- what the worker may ask for, by the view alone
-    may-in : AllowsCall total (seen_by_view v (subject_of board)) c
+    may-in : AllowsCall total (seen_by_view v (board_subject board)) c
     may-in = record {
       place = by-view (λ x. MayAt x.desk.shape (own_place x) c) may.place;
       cells = by-view (λ x. CellsAllow (totals_of total x) (caller_of x) c) may.cells;
@@ -171,8 +171,8 @@ module _ {B Sub : Type 0} (board : Board B Sub) (w : ℕ) (p : Place) (seat : Se
           origin = refl;
           desk = refl;
           called = subst (Called d (entry w a) v.trail) (sym trail) called;
-          of_subject = subst (IsOfTotals (total (subject_of board)) d) (sym trail)
-              (subst (λ e. IsOfTotals (total (subject_of board)) e new.0.trail) ours.4 (told.of_subject (subject_of board) ours.5));
+          of_subject = subst (IsOfTotals (total (board_subject board)) d) (sym trail)
+              (subst (λ e. IsOfTotals (total (board_subject board)) e new.0.trail) ours.4 (told.of_subject (board_subject board) ours.5));
           notes = λ u low. ap (λ (z : View Sub). note_in z.own w u) (view ∙ grows)
               ∙ ap (λ b. cond b (noted a w u (note_in v.own w u)) (note_in v.own w u)) (eq-eqb w w refl);
         }

@@ -14,10 +14,11 @@ use Rattle.board_rule.specs.Views.{view_place, seen_by_view, with_out, view_exch
 abbrev pub index_in : {Sub : Type 0} → View Sub → ℕ → ℕ
 index_in v u = cell_index v.shape (slot_of (view_place v)) u
 
--- the note of the cell that was taken last, by what it has now
+-- the note of the cell that was taken last, which is the first of those that the seat holds, by what
+-- it has now
 abbrev pub note_put : {B : Type 0} → Place → List (ℕ × Option B) → Note
 note_put p [] = Loose
-note_put p (x ∷ xs) = put_note p x.1
+note_put p (held ∷ more) = put_note p held.1
 
 -- a load takes the cell of u, which holds what its note says
 pub record Takes {B Sub : Type 0} (fits : Sub → ℕ → ℕ → List (ℕ × ℕ) → B → Type 0) (u : ℕ)
@@ -25,7 +26,8 @@ pub record Takes {B Sub : Type 0} (fits : Sub → ℕ → ℕ → List (ℕ × �
   pub value : Option B
   pub holds : new.1 ≡ (index_in old.0 u, value) ∷ old.1
   pub view : new.0 ≡ with_out old.0 u
-  pub says : (x : Sub) → old.0.subject ≡ Some x → HoldsNoted (seen_by_view old.0 x) u fits value
+  pub says : (subject : Sub) → old.0.subject ≡ Some subject
+      → HoldsNoted (seen_by_view old.0 subject) u fits value
 
 -- a load gives back the cell that is out, with a note of what was put into it
 pub record Gives {B Sub : Type 0} (old new : Me (Option B) (View Sub)) : Type 0 where

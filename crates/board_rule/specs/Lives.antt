@@ -8,7 +8,7 @@ use Rattle.slot_words.specs.Laws.{AreWordsOf}
 use Rattle.board_rule.specs.declared.board.Board.{Board}
 use Rattle.board_rule.specs.declared.board.Pass.{Pass}
 use Rattle.board_rule.specs.declared.view.View.{View}
-use Rattle.board_rule.specs.Passes.{IsPassOf, shape_of, subject_of}
+use Rattle.board_rule.specs.Passes.{IsPassOf, board_shape, board_subject}
 use Rattle.board_rule.specs.Views.{fresh_view}
 
 -- what contracts see of a board that has ended: its words, in the order of their indices, and its
@@ -40,7 +40,7 @@ module _ {B Sub : Type 0} (board : Board B Sub) where
 
   -- each worker's pass is among these
   abbrev pub AreAll : List (Pass B Sub) → Type 0
-  AreAll passes = (w : ℕ) → w < (shape_of board).workers
+  AreAll passes = (w : ℕ) → w < (board_shape board).workers
       → (k : ℕ) × (pass : Pass B Sub) × (slice_get passes k ≡ Some pass) × (pass.worker ≡ w)
 
   -- The joined history is legal and of the subject, and the final words stand for the state that
@@ -48,8 +48,8 @@ module _ {B Sub : Type 0} (board : Board B Sub) where
   -- calls.
   pub record IsJoined (total : Sub → ℕ → Option ℕ) (passes : List (Pass B Sub)) (end : Ended)
       : Type 0 where
-    pub words_are : AreWordsOf (shape_of board) end.history end.words
-    pub of_subject : IsOfTotals (total (subject_of board)) (shape_of board) end.history
+    pub words_are : AreWordsOf (board_shape board) end.history end.words
+    pub of_subject : IsOfTotals (total (board_subject board)) (board_shape board) end.history
     pub begins : (k : ℕ) (pass : Pass B Sub) → slice_get passes k ≡ Some pass
         → Begins end.history pass.seat.me.0.trail
     pub own : (k : ℕ) (pass : Pass B Sub) → slice_get passes k ≡ Some pass
@@ -60,4 +60,4 @@ module _ {B Sub : Type 0} (board : Board B Sub) where
   -- the seat of so many workers from `first` on, none of whom has done anything
   pub record IsUndealt (first n : ℕ) (seat : Seat (Option B) (View Sub)) : Type 0 where
     pub table : seat.table_id ≡ board.table.shared.table_id
-    pub knows : seat.me ≡ (fresh_view (shape_of board) (subject_of board) first n, [])
+    pub knows : seat.me ≡ (fresh_view (board_shape board) (board_subject board) first n, [])

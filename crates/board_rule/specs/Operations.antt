@@ -17,6 +17,6 @@ changed (SetBits bits) n = bit_or n bits
 changed (CompareExchange old new) n = compare_exchanged old new n
 
 -- what it answers at the word n: the word as it was, but for a store, which reads nothing
-abbrev pub answered : WordOperation → ℕ → ℕ
-answered (Store new) n = new
-answered _ n = n
+abbrev pub read_by : WordOperation → ℕ → ℕ
+read_by (Store new) n = new
+read_by _ n = n

@@ -67,15 +67,15 @@ module _ {B Sub : Type 0} (terms : Terms B Sub) (known : Knowledge) where
   abbrev pub CellIs : ℕ → ℕ → std_option.Option (Option B) → Type 0
   CellIs s u std_option.none = (w : ℕ) × (w < terms.shape.workers) × (known.outs w ≡ Some u)
       × HasCell (state_after terms.shape known.trail) s u w
-  CellIs s u (some x) = CellOf (terms.fits terms.subject u) (moment_known terms known)
-      (record { slot = s; worker = u; value = x })
+  CellIs s u (some value) = CellOf (terms.fits terms.subject u) (moment_known terms known)
+      (record { slot = s; worker = u; value = value })
 
   -- what a seat was joined with is a beginning of the longest trail that has all of its worker's
   -- calls
-  pub record IsHeard (v : View Sub) (x : Heard) : Type 0 where
-    pub begins : Begins known.trail x.trail
-    pub own : own_calls x.worker known.trail ≡ own_calls x.worker x.trail
-    pub there : 0 < times x.worker v.numbers
+  pub record IsHeard (v : View Sub) (heard : Heard) : Type 0 where
+    pub begins : Begins known.trail heard.trail
+    pub own : own_calls heard.worker known.trail ≡ own_calls heard.worker heard.trail
+    pub there : 0 < times heard.worker v.numbers
 
   -- What a view says is so. Its trail begins the longest one, and has all calls of each worker
   -- whose number the view has. Workers with further numbers are free. A view without a number has
@@ -88,10 +88,10 @@ module _ {B Sub : Type 0} (terms : Terms B Sub) (known : Knowledge) where
     pub notes : (w : ℕ) (ws : List ℕ) → v.numbers ≡ w ∷ ws → (u : ℕ)
         → known.notes w u ≡ note_in v.own w u
     pub out : (w : ℕ) (ws : List ℕ) → v.numbers ≡ w ∷ ws → known.outs w ≡ v.out
-    pub further : (w x : ℕ) (ws : List ℕ) → v.numbers ≡ x ∷ ws → 0 < times w ws
-        → place_of terms.shape known.trail w ≡ Free
+    pub further : (u w : ℕ) (ws : List ℕ) → v.numbers ≡ w ∷ ws → 0 < times u ws
+        → place_of terms.shape known.trail u ≡ Free
     pub none : v.numbers ≡ [] → v.trail ≡ []
-    pub heard : (k : ℕ) (x : Heard) → get_elem? v.heard k ≡ some x → IsHeard v x
+    pub heard : (k : ℕ) (one : Heard) → get_elem? v.heard k ≡ some one → IsHeard v one
 
   -- What is known is so of the table. The longest trail is a legal history of the subject, and the
   -- words stand for the state that it leaves. Each number below the workers is in one view, once,
@@ -104,9 +104,9 @@ module _ {B Sub : Type 0} (terms : Terms B Sub) (known : Knowledge) where
         ≡ cond (ltb w terms.shape.workers) 1 0
     pub views : (i : ℕ) (v : View Sub) → get_elem? table.views i ≡ some v → IsViewOf v
     pub cells : (s u : ℕ) → s < terms.shape.slots → u < terms.shape.workers
-        → (x : std_option.Option (Option B))
-        → get_elem? table.homes (cell_index terms.shape s u) ≡ some x
-        → CellIs s u x
+        → (home : std_option.Option (Option B))
+        → get_elem? table.homes (cell_index terms.shape s u) ≡ some home
+        → CellIs s u home
     pub idle : (w : ℕ) → own_calls w known.trail ≡ []
         → (known.outs w ≡ None) × ((u : ℕ) → known.notes w u ≡ Loose)
 

@@ -1,4 +1,4 @@
--- What a step that is a call tells the seat that makes it.
+-- When a seat may make a step that is a call, and what its view is after it.
 use Rattle.std.specs.Prelude.{◌≡◌, ℕ, ◌<◌, Some, None, Option, [], ◌∷◌, List}
 use Rattle.atomic_table.specs.Table.{Step, Me}
 use Rattle.slot_history.specs.declared.act.Act.{Act}
@@ -12,10 +12,10 @@ use Rattle.board_rule.specs.Rule.{Terms}
 use Rattle.board_rule.specs.Views.{number, view_place, seen_by_view, view_called}
 
 -- the station's worker may make the call, by its place, its notes and the subject
-pub record AllowsCall {O Sub : Type 0} (total : Sub → ℕ → Option ℕ) (x : Seen O Sub)
+pub record AllowsCall {O Sub : Type 0} (total : Sub → ℕ → Option ℕ) (seen : Seen O Sub)
     (c : Call) : Type 0 where
-  pub place : MayAt x.desk.shape (own_place x) c
-  pub cells : CellsAllow (totals_of total x) (caller_of x) c
+  pub place : MayAt seen.desk.shape (own_place seen) c
+  pub cells : CellsAllow (totals_of total seen) (caller_of seen) c
 
 -- The seat with this view may make a step that is this call: its worker may make the call, by its
 -- own trail and notes; the seat has no cell out, and no other seat was joined into it.
@@ -35,8 +35,8 @@ module _ {S Sub : Type 0} (totals : Sub → ℕ → Option ℕ) where
     pub called : Called old.0.shape (entry (number old.0) a) old.0.trail new.0.trail
     pub view : new.0 ≡ view_called old.0 (number old.0) new.0.trail a
     pub holds : new.1 ≡ old.1
-    pub of_subject : (x : Sub) → old.0.subject ≡ Some x
-        → IsOfTotals (totals x) old.0.shape new.0.trail
+    pub of_subject : (subject : Sub) → old.0.subject ≡ Some subject
+        → IsOfTotals (totals subject) old.0.shape new.0.trail
 
   -- the step is this call, with the answer that the call reads in the word found
   abbrev pub IsCall : Call → Step S → Me S (View Sub) → ℕ → Me S (View Sub) → Type 0

@@ -16,7 +16,7 @@ use Rattle.board_rule.specs.declared.view.Heard.{Heard}
 -- how often a number is in a list
 abbrev pub times : ℕ → List ℕ → ℕ
 times w [] = 0
-times w (x ∷ xs) = cond (eqb x w) 1 0 + times w xs
+times w (u ∷ us) = cond (eqb u w) 1 0 + times w us
 
 -- the numbers from `first` on, so many of them
 abbrev pub numbers_from : ℕ → ℕ → List ℕ
@@ -25,7 +25,7 @@ numbers_from first (suc n) = first ∷ numbers_from (suc first) n
 
 abbrev pub only_first : List ℕ → List ℕ
 only_first [] = []
-only_first (x ∷ xs) = x ∷ []
+only_first (w ∷ ws) = w ∷ []
 
 -- the longer of two trails, of which one begins the other
 abbrev pub longer : List Entry → List Entry → List Entry
@@ -56,9 +56,9 @@ module _ {Sub : Type 0} where
 
   -- ---- after steps
 
-  -- the view after the call `a` of its worker w, with this trail
+  -- the view after the call a of its worker w, with these entries as its trail
   abbrev pub view_called : View Sub → ℕ → List Entry → Act → View Sub
-  view_called v w trail a = record v { trail = trail; own = call w a ∷ v.own }
+  view_called v w es a = record v { trail = es; own = call w a ∷ v.own }
 
   -- with the cell of this worker out
   abbrev pub with_out : View Sub → ℕ → View Sub

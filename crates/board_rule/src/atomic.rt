@@ -8,7 +8,7 @@ ghost use Rattle.slot_station.specs.Desks.{Makes};
 ghost use Rattle.slot_station.specs.Places.{IsCounted};
 ghost use Rattle.slot_words.specs.Numbers.{IsSmall};
 ghost use Rattle.slot_words.specs.Steps.{address_of, change_of, answer_of};
-ghost use Rattle.board_rule.specs.Operations.{changed, answered};
+ghost use Rattle.board_rule.specs.Operations.{changed, read_by};
 ghost use Rattle.board_rule.specs.Passes.{IsPassOf, HasStepped, seen_of};
 ghost use Rattle.board_rule.specs.Rule.{RunningRule, terms_of};
 ghost use Rattle.board_rule.specs.Steps.{HasCalled, AllowsCall};
@@ -52,10 +52,10 @@ fn operate<K: NamesCall, B: Fits>(
 ) -> u64
     requires table { seat.old.table_id ≡ board.now.table.shared.table_id }
     requires words { word < board.now.table.shared.table_id.words }
-    requires allowed { let t = board.now.table.shared in let me = seat.old.me in
-        Allows (RunningRule (terms_of B.total B.fits t.key)) t.table_id.slots seat.old.id me word
-        (changed operation)
-        (λ n. HasCalled B.total (answer_of K.call (view_place me.0) (answered operation n)) me) }
+    requires allowed { let shared = board.now.table.shared in let me = seat.old.me in
+        Allows (RunningRule (terms_of B.total B.fits shared.key))
+        shared.table_id.slots seat.old.id me word (changed operation)
+        (λ n. HasCalled B.total (answer_of K.call (view_place me.0) (read_by operation n)) me) }
     ensures table { seat.new.table_id ≡ seat.old.table_id }
     ensures called { let me = seat.old.me in
         HasCalled B.total (answer_of K.call (view_place me.0) result) me seat.new.me }
@@ -80,7 +80,7 @@ fn operate<K: NamesCall, B: Fits>(
 /// Makes the step of a call on the word at this address. It answers what the word was, and a store
 /// what it wrote.
 #[inline(always)]
-pub fn step<K: NamesCall, B: Fits, L: Ledger>(
+pub fn make_step<K: NamesCall, B: Fits, L: Ledger>(
     board: &Board<B>,
     pass: &mut Pass<B>,
     address: Address,
@@ -91,7 +91,7 @@ pub fn step<K: NamesCall, B: Fits, L: Ledger>(
     requires call { AllowsCall B.total (seen_of board.now pass.old) K.call }
     requires on { address ≡ address_of pass.old.worker K.call pass.old.place }
     requires change { (n : ℕ) → changed operation n ≡ change_of K.call pass.old.place n }
-    requires answer { (n : ℕ) → answer_of K.call pass.old.place (answered operation n)
+    requires answer { (n : ℕ) → answer_of K.call pass.old.place (read_by operation n)
         ≡ answer_of K.call pass.old.place n }
     ensures small { IsSmall (answer_of K.call pass.old.place result) }
     ensures counted { IsCounted pass.new.place }

@@ -6,7 +6,7 @@ ghost use Rattle.atomic_table.specs.Table.{Allows, step};
 ghost use Rattle.slot_station.specs.Desks.{Exchanges, caller_of, own_place};
 ghost use Rattle.slot_station.specs.Exchanges.{HoldsNoted, MayExchange, MayPut, put_note};
 ghost use Rattle.board_rule.specs.Cells.{Takes, taking};
-ghost use Rattle.board_rule.specs.Passes.{IsPassOf, seen_of};
+ghost use Rattle.board_rule.specs.Passes.{HasExchanged, IsPassOf, seen_of};
 ghost use Rattle.board_rule.specs.Rule.{RunningRule, terms_of};
 
 use crate::board::{Board, Pass};
@@ -29,11 +29,11 @@ fn take_cell<K: NamesCell, B: Fits>(
     requires named { cell ≡ K.cell }
     requires table { seat.old.table_id ≡ board.now.table.shared.table_id }
     requires words { 0 < board.now.table.shared.table_id.words }
-    requires step { let t = board.now.table.shared in
-        let s = step t.table_id.slots 0 0 0 none in
-        let rule = RunningRule (terms_of B.total B.fits t.key) in
-        Allows rule t.table_id.slots seat.old.id seat.old.me 0 (λ n. n)
-        (taking B.fits cell s seat.old.me) }
+    requires step { let shared = board.now.table.shared in
+        let load = step shared.table_id.slots 0 0 0 none in
+        let rule = RunningRule (terms_of B.total B.fits shared.key) in
+        Allows rule shared.table_id.slots seat.old.id seat.old.me 0 (λ n. n)
+        (taking B.fits cell load seat.old.me) }
     ensures same { (seat.new.table_id ≡ seat.old.table_id) × (seat.new.id ≡ seat.old.id) }
     ensures takes { Takes B.fits cell seat.old.me seat.new.me }
 {
@@ -41,8 +41,8 @@ fn take_cell<K: NamesCell, B: Fits>(
 }
 
 /// Exchanges the cell of a worker that this pass's worker has: its own while it is inside, or any
-/// of the slot that it holds. It answers the old value, which is as the cell's note says. It counts
-/// as one step.
+/// of the slot that it holds. It answers the old value, which is as the cell's note says. It is
+/// exactly one exchange, of exactly this cell, and counts as one step.
 pub fn exchange_cell<B: Fits, L: Ledger>(
     board: &Board<B>,
     pass: &mut Pass<B>,
@@ -55,8 +55,10 @@ pub fn exchange_cell<B: Fits, L: Ledger>(
     requires fits { IfSome new (MayPut (seen_of board.now pass.old) cell B.fits) }
     ensures pass { IsPassOf board.now pass.new }
     ensures says { HoldsNoted (seen_of board.now pass.old) cell B.fits result }
-    ensures put { let x = seen_of board.now pass.old in
-        Exchanges cell (put_note (own_place x) new) x (seen_of board.now pass.new) }
+    ensures put { let seen = seen_of board.now pass.old in
+        Exchanges cell (put_note (own_place seen) new) seen (seen_of board.now pass.new) }
+    ensures exchanged { let seen = seen_of board.now pass.old in
+        HasExchanged cell (put_note (own_place seen) new) pass.old pass.new }
     ensures ticks { steps.new ≡ steps.old + 1 }
 {
     steps.tick();

@@ -8,7 +8,8 @@ use slot_station::station::Fits;
 /// the seat's trail is the longest trail with this call.
 ///
 /// It rests on the law of the call's step on words (`slot_words::laws`), on the laws of histories,
-/// and on nothing else that is said of marks or of cells.
+/// and on the law that such a call keeps what is known of cells
+/// (`slot_station::laws::cells_go_on`). Nothing else is said of marks or of cells.
 pub fn extends<B: Fits>()
     ensures { Extends B.total B.fits }
 {}

@@ -6,7 +6,7 @@ ghost use Rattle.slot_station.specs.Shapes.{IsRefusedBy, refusal_of, shape_with}
 ghost use Rattle.slot_station.specs.declared.reply.MakeRefusal.TheVariants.{OutOfMemory};
 ghost use Rattle.board_rule.specs.Ends.{IsGathered};
 ghost use Rattle.board_rule.specs.Lives.{AreAll, AreFree, AreUnused, IsJoined, IsUndealt};
-ghost use Rattle.board_rule.specs.Passes as passes;
+ghost use Rattle.board_rule.specs.Passes.{board_shape, board_subject};
 
 use crate::board::{Board, Pass};
 use crate::joined::{Joined, LastSeat};
@@ -40,8 +40,8 @@ impl<B: Fits> Board<B> {
         ensures refused { IsRefusedBy (refusal_of slots workers queries)
             (IsOkUnless result OutOfMemory) result }
         ensures shape { IfOk result (λ made.
-            passes.shape_of made.0 ≡ shape_with slots workers queries) }
-        ensures subject { IfOk result (λ made. passes.subject_of made.0 ≡ subject.value) }
+            board_shape made.0 ≡ shape_with slots workers queries) }
+        ensures subject { IfOk result (λ made. board_subject made.0 ≡ subject.value) }
         ensures passes { IfOk result (λ made. (vec_len made.1 ≡ workers)
             × AreUnused made.0 made.1.items) }
     {
@@ -83,8 +83,8 @@ fn make_with<B: Fits>(
     subject: Snapshot<B::Subject>,
 ) -> Result<(Board<B>, Vec<Pass<B>>), AllocError>
     requires { IsShape shape }
-    ensures shape { IfOk result (λ made. passes.shape_of made.0 ≡ shape) }
-    ensures subject { IfOk result (λ made. passes.subject_of made.0 ≡ subject.value) }
+    ensures shape { IfOk result (λ made. board_shape made.0 ≡ shape) }
+    ensures subject { IfOk result (λ made. board_subject made.0 ≡ subject.value) }
     ensures passes { IfOk result (λ made. (vec_len made.1 ≡ shape.workers)
         × AreUnused made.0 made.1.items) }
 {

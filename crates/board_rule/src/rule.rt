@@ -1,4 +1,4 @@
-//! The rule over the words, the cells and the views, and what each kind of step tells.
+//! The rule over the words, the cells and the views, and what a seat learns at each kind of step.
 ghost use Rattle.std.specs.Prelude.{ℕ};
 ghost use Rattle.slot_history.specs.Calls.{Call, Looking};
 ghost use Rattle.board_rule.specs.Cells.{taking, giving};
@@ -13,7 +13,7 @@ use slot_station::station::Fits;
 use std::marker::{Brand, PhantomData};
 use std::snapshot::Snapshot;
 
-/// What the table is told once.
+/// What the table is given at its start, for good: how large it is, and what it serves.
 #[derive(Drop)]
 pub struct About<T> {
     pub shape: Shape,

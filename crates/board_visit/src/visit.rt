@@ -12,9 +12,9 @@ ghost use Rattle.slot_station.specs.Desks.{caller_of, own_place, own_ranges, own
 ghost use Rattle.slot_station.specs.Replies.{look_act, claim_act, leave_act, SeesTaskSet};
 ghost use Rattle.slot_station.specs.Replies.{IsCutRange, LiesPast, OwesTaskSet};
 ghost use Rattle.slot_station.specs.Tokens.{ClaimGives, LeaveGives};
-ghost use Rattle.board_rule.specs.Passes.{IsPassOf, seen_of};
+ghost use Rattle.board_rule.specs.Passes.{HasExchanged, IsPassOf, seen_of};
 
-use board_rule::atomic::{WordOperation, step};
+use board_rule::atomic::{WordOperation, make_step};
 use board_rule::board::{Board, Pass};
 use board_rule::exchange::exchange_cell;
 use slot_history::act::Act;
@@ -39,7 +39,7 @@ pub fn enter<B: Fits, L: Ledger>(board: &Board<B>, pass: &mut Pass<B>, s: u32, s
     ensures ticks { steps.new ≡ steps.old + 1 }
 {
     let own = Address::WorkerOf(pass.worker);
-    step::<Brand, B, L>(board, pass, own, WordOperation::Store(at_word(s)), steps);
+    make_step::<Brand, B, L>(board, pass, own, WordOperation::Store(at_word(s)), steps);
     pass.place = place_after(&board.shape, &Act::Enter(s), pass.place);
 }
 
@@ -54,7 +54,7 @@ pub fn look<B: Fits, L: Ledger>(board: &Board<B>, pass: &mut Pass<B>, steps: &mu
     ensures ticks { steps.new ≡ steps.old + 1 }
 {
     let state = Address::StateOf(slot_at(&pass.place));
-    let found = step::<Brand, B, L>(board, pass, state, WordOperation::Load, steps);
+    let found = make_step::<Brand, B, L>(board, pass, state, WordOperation::Load, steps);
     let look = look_read(found);
     pass.place = place_after(&board.shape, &look.act(), pass.place);
     look
@@ -79,7 +79,13 @@ pub fn claim<B: Fits, L: Ledger>(
     ensures ticks { steps.new ≡ steps.old + 1 }
 {
     let cursor = Address::CursorOf(slot_at(&pass.place));
-    let found = step::<Brand, B, L>(board, pass, cursor, WordOperation::Add(u64::from(n)), steps);
+    let found = make_step::<Brand, B, L>(
+        board,
+        pass,
+        cursor,
+        WordOperation::Add(u64::from(n)),
+        steps,
+    );
     let claim = claim_read(found, n, pass.worker, &pass.place);
     pass.place = place_after(&board.shape, &claim.act(n), pass.place);
     claim
@@ -103,13 +109,13 @@ pub fn leave<B: Fits, L: Ledger>(
     ensures ticks { steps.new ≡ steps.old + 1 }
 {
     let own = Address::WorkerOf(pass.worker);
-    let found = step::<Brand, B, L>(board, pass, own, WordOperation::Swap(0), steps);
+    let found = make_step::<Brand, B, L>(board, pass, own, WordOperation::Swap(0), steps);
     let leave = leave_read(found, pass.worker, &pass.place);
     pass.place = place_after(&board.shape, &leave.act(), pass.place);
     leave
 }
 
-/// `Station::own_cell`: the own cell is taken, exchanged and given back.
+/// `Station::own_cell`: the own cell is taken, exchanged and given back, once.
 pub fn own_cell<B: Fits, L: Ledger>(
     board: &Board<B>,
     pass: &mut Pass<B>,
@@ -123,6 +129,7 @@ pub fn own_cell<B: Fits, L: Ledger>(
     ensures says { OwnCellSays B.fits (seen_of board.now pass.old) result }
     ensures put { ExchangesOwn (kept_note new)
         (seen_of board.now pass.old) (seen_of board.now pass.new) }
+    ensures exchanged { HasExchanged pass.old.worker (kept_note new) pass.old pass.new }
     ensures ticks { steps.new ≡ steps.old + 1 }
 {
     let worker = pass.worker;

@@ -6,7 +6,7 @@ use Rattle.std.specs.Prelude.{All, IfSome, Option, get_or}
 use Rattle.std.proofs.lemmas.List.Elements.{All-head, All-push, All-rest}
 use Rattle.std.proofs.lemmas.Option.{slice_get-get_or}
 use Rattle.board_rule.specs.Lives.{IsFreePass, AreAll, AreFree, AreUnused}
-use Rattle.board_rule.specs.Passes.{IsPassOf, shape_of}
+use Rattle.board_rule.specs.Passes.{IsPassOf, board_shape}
 
 module _ {B Sub : Type 0} (board : Board B Sub) where
   -- the passes of the workers from n on, each of whom is free
@@ -34,7 +34,7 @@ module _ {B Sub : Type 0} (board : Board B Sub) where
   free-done n (q ∷ ps) free (suc k) p at = free-done (suc n) ps free.2 k p at
 
   -- all of them
-  pub free-all : (ps : List (Pass B Sub)) → length ps ≡ (shape_of board).workers → FreeFrom 0 ps → AreAll board ps × AreFree board ps
+  pub free-all : (ps : List (Pass B Sub)) → length ps ≡ (board_shape board).workers → FreeFrom 0 ps → AreAll board ps × AreFree board ps
   free-all ps count free =
       ((λ w low. let r = free-there 0 ps free w (omega (arith, count, low)) in (w, r.0, r.1, omega (arith, r.2))), free-done 0 ps free)
 

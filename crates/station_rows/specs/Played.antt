@@ -12,14 +12,14 @@ use Rattle.station_rows.specs.declared.worker.Worker.{Worker}
 
 module _ (d : Shape) (w : ℕ) (p : Place) where
   -- what the worker w has in hand is the token of its place p
-  abbrev pub IsDue : Hand → Type 0
-  IsDue hand.Nothing = Unit {0}
-  IsDue (hand.Spent token) = IsSpent d w p token
-  IsDue (hand.Debt token) = IsDebt d w p token
-  IsDue (hand.Coordinator token) = (s id asked marked : ℕ) → p ≡ Asking s id asked marked
+  abbrev pub IsHandAt : Hand → Type 0
+  IsHandAt hand.Nothing = Unit {0}
+  IsHandAt (hand.Spent token) = IsSpent d w p token
+  IsHandAt (hand.Debt token) = IsDebt d w p token
+  IsHandAt (hand.Coordinator token) = (s id asked marked : ℕ) → p ≡ Asking s id asked marked
       → IsCoordinator d w p token
-  IsDue (hand.Holder token) = IsHolder d w p token
-  IsDue (hand.Announcer token) = IsAnnouncer d w p token
+  IsHandAt (hand.Holder token) = IsHolder d w p token
+  IsHandAt (hand.Announcer token) = IsAnnouncer d w p token
 
 module _ {O S : Type 0} (seen : S → Seen O Sets) where
   -- the worker is at its place, and its station serves its sets
@@ -28,8 +28,8 @@ module _ {O S : Type 0} (seen : S → Seen O Sets) where
       (worker.place ≡ own_place x) × (worker.sets.now ≡ x.desk.subject)
 
   -- and it has in hand the token of its place
-  abbrev pub IsReady : Worker S → Type 0
-  IsReady worker = IsAt worker × Owns IsDue (seen worker.station.now) worker.hand
+  abbrev pub HasToken : Worker S → Type 0
+  HasToken worker = IsAt worker × Owns IsHandAt (seen worker.station.now) worker.hand
 
   -- it borrows the same station, which is at the same table
   abbrev pub KeepsOrigin : Worker S → Worker S → Type 0

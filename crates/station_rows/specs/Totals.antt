@@ -2,5 +2,5 @@
 use Rattle.std.specs.Prelude.{ℕ, eqb, List, Option, option_map, find}
 
 -- the total of a task set, by a list of ids and totals
-abbrev pub total_in : List (ℕ × ℕ) → ℕ → Option ℕ
-total_in totals id = option_map (λ set. set.1) (find (λ set. eqb set.0 id) totals)
+abbrev pub listed_total : List (ℕ × ℕ) → ℕ → Option ℕ
+listed_total totals id = option_map (λ set. set.1) (find (λ set. eqb set.0 id) totals)

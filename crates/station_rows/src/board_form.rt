@@ -1,7 +1,7 @@
 //! The shared board as a form. All passes are here, and one thread makes the calls with them.
 ghost use Rattle.std.specs.Prelude.{◌≡◌, ◌<◌, All, IfOk, vec_len};
 ghost use Rattle.board_rule.specs.Lives.{AreAll, AreFree};
-ghost use Rattle.board_rule.specs.Passes.{IsPassOf, shape_of, subject_of};
+ghost use Rattle.board_rule.specs.Passes.{IsPassOf, board_shape, board_subject};
 ghost use Rattle.station_rows.specs.Boards.{AreOf};
 
 use crate::board_table::BoardTable;
@@ -22,37 +22,37 @@ use std::sync::ledger::Ledger;
 use std::test::Fail;
 
 /// The passes, each in a place from which it may be taken.
-fn seats(
+fn keep_passes(
     alloc: Global,
     board: &Board<Piece>,
     passes: Vec<Pass<Piece>>,
 ) -> Result<Vec<Option<Pass<Piece>>>, AllocError>
     requires { All (IsPassOf board.now) passes.items }
-    ensures { IfOk result (λ seats. AreOf board.now seats.items) }
+    ensures { IfOk result (λ kept. AreOf board.now kept.items) }
 {
-    let mut seats = Vec::new(alloc);
+    let mut kept = Vec::new(alloc);
     for pass in passes {
-        seats.push(Some(pass))?;
+        kept.push(Some(pass))?;
     }
-    Ok(seats)
+    Ok(kept)
 }
 
 /// Takes the worker's pass out of its place.
 fn take_pass(
     rt: &impl Abort,
     board: &Board<Piece>,
-    seats: &mut Vec<Option<Pass<Piece>>>,
+    kept: &mut Vec<Option<Pass<Piece>>>,
     worker: u32,
 ) -> Pass<Piece>
-    requires { AreOf board.now seats.old.items }
-    ensures left { AreOf board.now seats.new.items }
-    ensures len { vec_len seats.new ≡ vec_len seats.old }
-    ensures there { worker < vec_len seats.new }
+    requires { AreOf board.now kept.old.items }
+    ensures left { AreOf board.now kept.new.items }
+    ensures len { vec_len kept.new ≡ vec_len kept.old }
+    ensures there { worker < vec_len kept.new }
     ensures pass { IsPassOf board.now result }
     ensures worker { result.worker ≡ worker }
 {
-    assert!(rt; (worker as usize) < seats.len());
-    let Some(pass) = mem::replace(&mut seats[worker as usize], None) else {
+    assert!(rt; (worker as usize) < kept.len());
+    let Some(pass) = mem::replace(&mut kept[worker as usize], None) else {
         panic!(rt; "the pass of worker {worker} is not here");
     };
     assert_eq!(rt; pass.worker, worker);
@@ -69,8 +69,8 @@ pub(crate) fn call_with<L: Ledger>(
     steps: &mut Steps<L>,
 ) -> (Pass<Piece>, (Act, Hand))
     requires pass { IsPassOf board.now pass }
-    requires subject { ask.sets.now ≡ subject_of board.now }
-    requires queries { (shape_of board.now).queries ≡ (subject_of board.now).queries }
+    requires subject { ask.sets.now ≡ board_subject board.now }
+    requires queries { (board_shape board.now).queries ≡ (board_subject board.now).queries }
     ensures { IsPassOf board.now result.0 }
 {
     let mut seat = BoardSeat::new(board, pass, Snapshot::of(ask.sets));
@@ -84,15 +84,15 @@ pub(crate) fn free_passes(
     rt: &impl Abort,
     alloc: Global,
     board: &Board<Piece>,
-    mut seats: Vec<Option<Pass<Piece>>>,
+    mut kept: Vec<Option<Pass<Piece>>>,
 ) -> Result<Vec<Pass<Piece>>, AllocError>
-    requires { AreOf board.now seats.items }
+    requires { AreOf board.now kept.items }
     ensures { IfOk result (λ passes. AreAll board.now passes.items
         × AreFree board.now passes.items) }
 {
     let mut passes = Vec::new(alloc);
     for worker in 0..board.shape.workers {
-        let pass = take_pass(rt, board, &mut seats, worker);
+        let pass = take_pass(rt, board, &mut kept, worker);
         assert!(rt; pass.place == Place::Free);
         passes.push(pass)?;
     }
@@ -100,7 +100,7 @@ pub(crate) fn free_passes(
 }
 
 impl Form for BoardTable {
-    ghost serves = { λ t. subject_of t.board };
+    ghost serves = { λ t. board_subject t.board };
 
     fn make(
         alloc: Global,
@@ -109,25 +109,28 @@ impl Form for BoardTable {
         sets: &Sets,
     ) -> Result<BoardTable, MakeRefusal> {
         let (board, passes) = Board::make(alloc, slots, workers, sets.queries, Snapshot::of(sets))?;
-        let Ok(seats) = seats(alloc, &board, passes) else {
+        let Ok(passes) = keep_passes(alloc, &board, passes) else {
             return Err(MakeRefusal::OutOfMemory);
         };
-        Ok(BoardTable { board, seats })
+        Ok(BoardTable { board, passes })
     }
 
     fn call<L: Ledger>(&mut self, rt: &impl Abort, ask: Ask, steps: &mut Steps<L>) -> (Act, Hand) {
         let worker = ask.worker;
-        let pass = take_pass(rt, &self.board, &mut self.seats, worker);
+        let pass = take_pass(rt, &self.board, &mut self.passes, worker);
         let (pass, answer) = call_with(rt, &self.board, pass, ask, steps);
-        self.seats[worker as usize] = Some(pass);
+        self.passes[worker as usize] = Some(pass);
         answer
     }
 
     fn expect_counter(&self, _rt: &impl Abort, _slot: u32, _word: u64) {}
 
     fn expect_words(self, rt: &impl Abort, alloc: Global, words: &[u64]) -> Result<(), Fail> {
-        let BoardTable { board, seats } = self;
-        let passes = free_passes(rt, alloc, &board, seats)?;
+        let BoardTable {
+            board,
+            passes: kept,
+        } = self;
+        let passes = free_passes(rt, alloc, &board, kept)?;
         assert_eq!(rt; board.finish(passes).words(), words);
         Ok(())
     }

@@ -1,7 +1,7 @@
 //! A board with the passes of its workers.
 ghost use Rattle.std.specs.Prelude.{◌≡◌};
 ghost use Rattle.std.proofs.Props.{props};
-ghost use Rattle.board_rule.specs.Passes.{shape_of, subject_of};
+ghost use Rattle.board_rule.specs.Passes.{board_shape, board_subject};
 ghost use Rattle.station_rows.specs.Boards.{AreOf};
 
 use crate::subject::Piece;
@@ -11,7 +11,7 @@ use board_rule::board::{Board, Pass};
 #[derive(Drop)]
 pub(crate) struct BoardTable {
     pub(crate) board: Board<Piece>,
-    pub(crate) seats: Vec<Option<Pass<Piece>>>,
-    ghost ours: { AreOf board seats.items } by { Prim.hlevel props },
-    ghost queries: { (shape_of board).queries ≡ (subject_of board).queries },
+    pub(crate) passes: Vec<Option<Pass<Piece>>>,
+    ghost ours: { AreOf board passes.items } by { Prim.hlevel props },
+    ghost queries: { (board_shape board).queries ≡ (board_subject board).queries },
 }

@@ -1,7 +1,7 @@
 //! What a worker has in hand between its calls.
 ghost use Rattle.std.specs.Prelude.{◌≡◌};
 ghost use Rattle.slot_history.specs.declared.shape.Shape.{Shape};
-ghost use Rattle.station_rows.specs.Played.{IsDue};
+ghost use Rattle.station_rows.specs.Played.{IsHandAt};
 
 use slot_history::place::Place;
 use slot_station::token::{Announcer, Coordinator, Debt, Holder, Spent};
@@ -19,7 +19,7 @@ pub enum Hand {
 
 /// What the worker of this number has in hand at this place of an object with so many workers.
 pub fn hand_at(place: &Place, worker: u32, workers: u32) -> Hand
-    ensures { (d : Shape) → d.workers ≡ workers → IsDue d worker place.now result }
+    ensures { (d : Shape) → d.workers ≡ workers → IsHandAt d worker place.now result }
 {
     match *place {
         Place::Used(slot, id) => Hand::Spent(Spent { worker, slot, id }),

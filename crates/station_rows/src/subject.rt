@@ -1,6 +1,6 @@
 //! What the tests' tables serve: task sets that are given by their totals, and cells of pieces.
 ghost use Rattle.std.specs.Prelude.{◌≡◌};
-ghost use Rattle.station_rows.specs.Totals.{total_in};
+ghost use Rattle.station_rows.specs.Totals.{listed_total};
 
 use slot_station::station::Fits;
 
@@ -23,7 +23,7 @@ impl Fits for Piece {
 
     ghost queries = { λ s. s.queries };
 
-    ghost total = { λ s. total_in s.totals.items };
+    ghost total = { λ s. listed_total s.totals.items };
 
     ghost fits = { λ s w id ranges p. (p.worker ≡ w) × (p.id ≡ id) };
 }
@@ -31,7 +31,7 @@ impl Fits for Piece {
 impl Sets {
     /// The total of a task set.
     pub fn total(&self, id: u32) -> Option<u32>
-        ensures { result ≡ total_in self.now.totals.items id }
+        ensures { result ≡ listed_total self.now.totals.items id }
     {
         let set = self.totals.iter().find(|set| set.0 == id)?;
         Some(set.1)

@@ -1,7 +1,7 @@
 //! Four threads at one board. Whatever their schedule, each tuple is in exactly one claim, and the
 //! final words are the same.
 ghost use Rattle.std.specs.Prelude.{◌≡◌, ◌<◌, All, IfOk};
-ghost use Rattle.board_rule.specs.Passes.{IsPassOf, shape_of, subject_of};
+ghost use Rattle.board_rule.specs.Passes.{IsPassOf, board_shape, board_subject};
 ghost use Rattle.station_rows.specs.Boards.{AreOf};
 
 use crate::board_form::{call_with, free_passes};
@@ -36,8 +36,8 @@ const MORSEL: u32 = 8;
 struct Site<'a> {
     board: &'a Board<Piece>,
     sets: &'a Sets,
-    ghost subject: { sets.now ≡ subject_of board.now },
-    ghost queries: { (shape_of board.now).queries ≡ (subject_of board.now).queries },
+    ghost subject: { sets.now ≡ board_subject board.now },
+    ghost queries: { (board_shape board.now).queries ≡ (board_subject board.now).queries },
 }
 
 /// A pass, and the ranges that its worker claimed.
@@ -128,14 +128,14 @@ fn gather(
     requires { All (λ one. IfOk one (λ r. IsPassOf board.now r.0)) visited.items }
     ensures { IfOk result (λ r. AreOf board.now r.0.items) }
 {
-    let mut seats = Vec::new(alloc);
+    let mut kept = Vec::new(alloc);
     let mut ranges = Vec::new(alloc);
     for one in visited {
         let (pass, claimed) = one?;
-        seats.push(Some(pass))?;
+        kept.push(Some(pass))?;
         ranges.extend_from_slice(claimed.as_slice())?;
     }
-    Ok((seats, ranges))
+    Ok((kept, ranges))
 }
 
 /// Each worker, whose pass is here and who is free, visits the slot in a thread of its own. The
@@ -146,11 +146,14 @@ fn visit_in_threads<R: Threads + Abort + Sync>(
     table: BoardTable,
     sets: &Sets,
 ) -> Result<(BoardTable, Vec<(u32, u32)>), AllocError>
-    requires { sets.now ≡ subject_of table.board }
-    ensures { IfOk result (λ r. subject_of r.0.board ≡ subject_of table.board) }
+    requires { sets.now ≡ board_subject table.board }
+    ensures { IfOk result (λ r. board_subject r.0.board ≡ board_subject table.board) }
 {
-    let BoardTable { board, seats } = table;
-    let passes = free_passes(rt, alloc, &board, seats)?;
+    let BoardTable {
+        board,
+        passes: kept,
+    } = table;
+    let passes = free_passes(rt, alloc, &board, kept)?;
     let site = Site {
         board: &board,
         sets,
@@ -163,8 +166,12 @@ fn visit_in_threads<R: Threads + Abort + Sync>(
             ensures { IfOk result (λ r. IsPassOf site.entry.board.now r.0) }
         { visits_alone(rt, alloc, &site, pass) },
     )?;
-    let (seats, ranges) = gather(alloc, &board, visited)?;
-    Ok((BoardTable { board, seats }, ranges))
+    let (kept, ranges) = gather(alloc, &board, visited)?;
+    let table = BoardTable {
+        board,
+        passes: kept,
+    };
+    Ok((table, ranges))
 }
 
 /// Asserts that the ranges, in order, are the morsels of the task set, so that each tuple is in

@@ -1,4 +1,4 @@
-// A worker at its station, whose calls `worker_calls` makes.
+//! A worker at its station, whose calls `worker_calls` makes.
 use crate::hand::Hand;
 use crate::subject::Sets;
 use slot_history::place::Place;

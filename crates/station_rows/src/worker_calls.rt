@@ -9,7 +9,7 @@ ghost use Rattle.slot_station.specs.declared.note.Note.TheVariants.{Kept};
 ghost use Rattle.slot_station.specs.Cells.{has_cell, fresh_note};
 ghost use Rattle.slot_station.specs.Desks.{own_place, own_holding, Owns, KeepsTrail};
 ghost use Rattle.slot_station.specs.Tokens.{IsHolder};
-ghost use Rattle.station_rows.specs.Played.{IsAt, IsReady, KeepsOrigin};
+ghost use Rattle.station_rows.specs.Played.{IsAt, HasToken, KeepsOrigin};
 
 use crate::hand::{Hand, hand_at};
 use crate::subject::Piece;
@@ -44,14 +44,14 @@ impl<'s, S: Station<Piece>> Worker<'s, S> {
             Act::SetTotal(total) => self.set_total(rt, total, steps),
             Act::Install(id) => self.install(rt, id, steps),
             Act::Release => self.release(rt, steps),
-            Act::Announce => self.tell(rt, steps),
+            Act::Announce => self.announce(rt, steps),
             _ => self.call_at_slot(rt, act, steps),
         }
     }
 
     /// The call of this entry, which is one of working on a task set or of its end.
     fn call_at_slot<L: Ledger>(&mut self, rt: &impl Abort, act: Act, steps: &mut Steps<L>) -> Act
-        requires { IsReady S.seen self.old }
+        requires { HasToken S.seen self.old }
         ensures { KeepsOrigin S.seen self.old self.new }
     {
         match act {
@@ -68,7 +68,7 @@ impl<'s, S: Station<Piece>> Worker<'s, S> {
     }
 
     fn enter<L: Ledger>(&mut self, rt: &impl Abort, s: u32, steps: &mut Steps<L>) -> Act
-        requires { IsReady S.seen self.old }
+        requires { HasToken S.seen self.old }
         ensures { KeepsOrigin S.seen self.old self.new }
     {
         assert!(rt; self.place == Place::Free);
@@ -78,7 +78,7 @@ impl<'s, S: Station<Piece>> Worker<'s, S> {
     }
 
     fn look<L: Ledger>(&mut self, rt: &impl Abort, steps: &mut Steps<L>) -> Act
-        requires { IsReady S.seen self.old }
+        requires { HasToken S.seen self.old }
         ensures { KeepsOrigin S.seen self.old self.new }
     {
         let Place::Entered(_) = self.place else {
@@ -88,7 +88,7 @@ impl<'s, S: Station<Piece>> Worker<'s, S> {
     }
 
     fn claim<L: Ledger>(&mut self, rt: &impl Abort, n: u32, steps: &mut Steps<L>) -> Act
-        requires { IsReady S.seen self.old }
+        requires { HasToken S.seen self.old }
         ensures { KeepsOrigin S.seen self.old self.new }
     {
         let Place::Inside(..) = self.place else {
@@ -104,7 +104,7 @@ impl<'s, S: Station<Piece>> Worker<'s, S> {
     }
 
     fn shut<L: Ledger>(&mut self, rt: &impl Abort, steps: &mut Steps<L>) -> Act
-        requires { IsReady S.seen self.old }
+        requires { HasToken S.seen self.old }
         ensures { KeepsOrigin S.seen self.old self.new }
     {
         let Hand::Spent(spent) = self.take_hand() else {
@@ -121,7 +121,7 @@ impl<'s, S: Station<Piece>> Worker<'s, S> {
     /// Leaves the slot. The worker's own cell has a piece of the task set before, where it is
     /// inside.
     fn leave<L: Ledger>(&mut self, rt: &impl Abort, steps: &mut Steps<L>) -> Act
-        requires { IsReady S.seen self.old }
+        requires { HasToken S.seen self.old }
         ensures { KeepsOrigin S.seen self.old self.new }
     {
         assert!(rt; may_leave(&self.place));
@@ -135,7 +135,7 @@ impl<'s, S: Station<Piece>> Worker<'s, S> {
     }
 
     fn pay<L: Ledger>(&mut self, rt: &impl Abort, steps: &mut Steps<L>) -> Act
-        requires { IsReady S.seen self.old }
+        requires { HasToken S.seen self.old }
         ensures { KeepsOrigin S.seen self.old self.new }
     {
         let Hand::Debt(debt) = self.take_hand() else {
@@ -150,7 +150,7 @@ impl<'s, S: Station<Piece>> Worker<'s, S> {
     }
 
     fn mark<L: Ledger>(&mut self, rt: &impl Abort, steps: &mut Steps<L>) -> Act
-        requires { IsReady S.seen self.old }
+        requires { HasToken S.seen self.old }
         ensures { KeepsOrigin S.seen self.old self.new }
     {
         let (Place::Asking(..), Hand::Coordinator(mut coordinator)) = (self.place, self.take_hand())
@@ -164,7 +164,7 @@ impl<'s, S: Station<Piece>> Worker<'s, S> {
     }
 
     fn sweep<L: Ledger>(&mut self, rt: &impl Abort, steps: &mut Steps<L>) -> Act
-        requires { IsReady S.seen self.old }
+        requires { HasToken S.seen self.old }
         ensures { KeepsOrigin S.seen self.old self.new }
     {
         let (Place::Asking(..), Hand::Coordinator(coordinator)) = (self.place, self.take_hand())
@@ -181,7 +181,7 @@ impl<'s, S: Station<Piece>> Worker<'s, S> {
     }
 
     fn reserve<L: Ledger>(&mut self, rt: &impl Abort, s: u32, steps: &mut Steps<L>) -> Act
-        requires { IsReady S.seen self.old }
+        requires { HasToken S.seen self.old }
         ensures { KeepsOrigin S.seen self.old self.new }
     {
         assert!(rt; self.place == Place::Free);
@@ -196,7 +196,7 @@ impl<'s, S: Station<Piece>> Worker<'s, S> {
 
     /// What the worker holds, with the token in its hand. It has nothing in hand then.
     fn holding(&mut self, rt: &impl Abort) -> (Held, Holder)
-        requires { IsReady S.seen self.old }
+        requires { HasToken S.seen self.old }
         ensures station { self.new.station ≡ self.old.station }
         ensures sets { self.new.sets.now ≡ self.old.sets.now }
         ensures held { result.0 ≡ own_holding (S.seen self.old.station.now) }
@@ -211,7 +211,7 @@ impl<'s, S: Station<Piece>> Worker<'s, S> {
     }
 
     fn admit<L: Ledger>(&mut self, rt: &impl Abort, q: u32, steps: &mut Steps<L>) -> Act
-        requires { IsReady S.seen self.old }
+        requires { HasToken S.seen self.old }
         ensures { KeepsOrigin S.seen self.old self.new }
     {
         let (_, mut holder) = self.holding(rt);
@@ -225,7 +225,7 @@ impl<'s, S: Station<Piece>> Worker<'s, S> {
     }
 
     fn note_done<L: Ledger>(&mut self, rt: &impl Abort, k: u32, steps: &mut Steps<L>) -> Act
-        requires { IsReady S.seen self.old }
+        requires { HasToken S.seen self.old }
         ensures { KeepsOrigin S.seen self.old self.new }
     {
         let (held, mut holder) = self.holding(rt);
@@ -237,7 +237,7 @@ impl<'s, S: Station<Piece>> Worker<'s, S> {
     }
 
     fn set_total<L: Ledger>(&mut self, rt: &impl Abort, total: u32, steps: &mut Steps<L>) -> Act
-        requires { IsReady S.seen self.old }
+        requires { HasToken S.seen self.old }
         ensures { KeepsOrigin S.seen self.old self.new }
     {
         let (held, mut holder) = self.holding(rt);
@@ -249,7 +249,7 @@ impl<'s, S: Station<Piece>> Worker<'s, S> {
 
     /// Opens the slot with a task set of the subject. Every cell has a piece of it before.
     fn install<L: Ledger>(&mut self, rt: &impl Abort, id: u32, steps: &mut Steps<L>) -> Act
-        requires { IsReady S.seen self.old }
+        requires { HasToken S.seen self.old }
         ensures { KeepsOrigin S.seen self.old self.new }
     {
         let (held, mut holder) = self.holding(rt);
@@ -268,7 +268,7 @@ impl<'s, S: Station<Piece>> Worker<'s, S> {
 
     /// Leaves the slot empty. Every value is taken out of its cells before.
     fn release<L: Ledger>(&mut self, rt: &impl Abort, steps: &mut Steps<L>) -> Act
-        requires { IsReady S.seen self.old }
+        requires { HasToken S.seen self.old }
         ensures { KeepsOrigin S.seen self.old self.new }
     {
         let (held, mut holder) = self.holding(rt);
@@ -278,9 +278,9 @@ impl<'s, S: Station<Piece>> Worker<'s, S> {
         Act::Release
     }
 
-    /// Tells the next worker, and ends the telling with the last.
-    fn tell<L: Ledger>(&mut self, rt: &impl Abort, steps: &mut Steps<L>) -> Act
-        requires { IsReady S.seen self.old }
+    /// Announces the slot to the next worker. With the last, the announcing ends.
+    fn announce<L: Ledger>(&mut self, rt: &impl Abort, steps: &mut Steps<L>) -> Act
+        requires { HasToken S.seen self.old }
         ensures { KeepsOrigin S.seen self.old self.new }
     {
         let Hand::Announcer(mut announcer) = self.take_hand() else {
@@ -325,12 +325,12 @@ impl<'s, S: Station<Piece>> Worker<'s, S> {
 /// Asserts that the worker has in hand the token of its place.
 fn expect_hand<S: Station<Piece>>(rt: &impl Abort, worker: &Worker<'_, S>)
     requires { IsAt S.seen worker.now }
-    ensures { IsReady S.seen worker.now }
+    ensures { HasToken S.seen worker.now }
 {
     let number = worker.station.worker();
     let workers = worker.station.workers();
-    let due = hand_at(&worker.place, number, workers);
-    assert_eq!(rt; worker.hand, due);
+    let expected = hand_at(&worker.place, number, workers);
+    assert_eq!(rt; worker.hand, expected);
 }
 
 /// Whether a worker at this place has its own cell of the slot.

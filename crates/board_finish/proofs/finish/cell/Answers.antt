@@ -1,7 +1,7 @@
 use Rattle.std.proofs.Common.{inr, subst}
 use Rattle.slot_station.specs.Desks.{Exchanges}
 use Rattle.slot_station.proofs.ExchangesSeen.{exchanges-say}
-use Rattle.board_rule.specs.Passes.{seen_of}
+use Rattle.board_rule.specs.Passes.{HasExchanged, seen_of}
 use Rattle.board_finish.proofs.finish.cell.Goals as goal
 
 pub exchange_cell-requires-clause-has : goal.exchange_cell-requires-clause-has
@@ -21,3 +21,9 @@ returns-clause-put g c =
     let x = seen_of c.args.board.now c.args.pass.now in
     subst (λ n. Exchanges c.args.worker n x (seen_of c.args.board.now c.exchange_cell.new.pass))
     ((exchanges-say g.B.Fits.fits _).held x _ _ c.requires.holder.place c.args.worker c.args.new).2 c.exchange_cell.ensures.put
+
+pub returns-clause-exchanged : goal.returns-clause-exchanged
+returns-clause-exchanged g c =
+    let x = seen_of c.args.board.now c.args.pass.now in
+    subst (λ n. HasExchanged c.args.worker n c.args.pass.now c.exchange_cell.new.pass)
+    ((exchanges-say g.B.Fits.fits _).held x _ _ c.requires.holder.place c.args.worker c.args.new).2 c.exchange_cell.ensures.exchanged

@@ -1,5 +1,5 @@
 use Rattle.slot_history.specs.Calls.{Releasing}
 use Rattle.board_masks.proofs.fill.release.Given as goal
 
-abbrev pub ghosts-step : goal.ghosts-step
-ghosts-step g a = record { call = Releasing }
+abbrev pub ghosts-make_step : goal.ghosts-make_step
+ghosts-make_step g a = record { call = Releasing }

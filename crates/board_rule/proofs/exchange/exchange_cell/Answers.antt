@@ -1,5 +1,5 @@
 use Rattle.std.proofs.Common.{refl, ◌∙◌}
-use Rattle.board_rule.proofs.Exchanges.{some-words, take-step, says, give-step, pass-after, put-after}
+use Rattle.board_rule.proofs.Exchanges.{some-words, take-step, says, give-step, knows, pass-after, put-after}
 use Rattle.board_rule.proofs.exchange.exchange_cell.Goals as goal
 
 pub take_cell-requires-clause-words : goal.take_cell-requires-clause-words
@@ -39,3 +39,13 @@ returns-clause-put g c =
     put-after g.B.Fits.total g.B.Fits.fits c.args.board.now c.args.pass.now c.requires.pass c.args.cell c.requires.has c.take_cell.new.seat.me
     c.take_cell.ensures.takes c.exchange-old.new.seat.me c.cell_index-at.result c.exchange-old.result c.args.new x.2 x.3 c.load.new.seat.me c.load.ensures.2
     c.load.new.seat refl
+
+pub returns-clause-exchanged : goal.returns-clause-exchanged
+returns-clause-exchanged g c =
+    let x = c.exchange-old.ensures in record {
+      worker = refl;
+      place = refl;
+      view = knows g.B.Fits.total g.B.Fits.fits c.args.board.now c.args.pass.now c.requires.pass c.args.cell c.requires.has c.take_cell.new.seat.me
+          c.take_cell.ensures.takes c.exchange-old.new.seat.me c.cell_index-at.result c.exchange-old.result c.args.new x.2 x.3 c.load.new.seat.me
+          c.load.ensures.2 c.load.new.seat refl;
+    }

@@ -3,4 +3,5 @@ use Rattle.board_rule.proofs.Extends.{extended}
 use Rattle.board_rule.proofs.laws.extends.Goals as goal
 
 pub returns : goal.returns
-returns g c about known table i v k ok at step = extended (terms_of g.B.Fits.total g.B.Fits.fits about) known table ok i v at k step
+returns g c about known table step ok at may =
+    extended (terms_of g.B.Fits.total g.B.Fits.fits about) known table ok step.seat step.view at step.call may

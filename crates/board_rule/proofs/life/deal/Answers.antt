@@ -1,6 +1,6 @@
 use Rattle.std.proofs.Common.{◌≡◌, ℕ, suc, ◌+◌, ◌-◌, ◌<◌, refl, subst, sym, length, arith}
 use Rattle.board_rule.specs.Lives.{IsUndealt}
-use Rattle.board_rule.specs.Passes.{shape_of}
+use Rattle.board_rule.specs.Passes.{board_shape}
 use Rattle.board_rule.proofs.Deals.{deal-step, deal-rest, deal-own, deal-more}
 use Rattle.board_rule.proofs.life.deal.Goals as goal
 
@@ -20,7 +20,7 @@ loop-worker-preserved g c =
     let i = c.loop-worker.invariant in
     let x = c.split_seat-others.ensures in
     let low : k < w = omega arith in
-    let below : k < (shape_of b).workers = subst (λ d. k < d.workers) (sym b.shape_is) low in
+    let below : k < (board_shape b).workers = subst (λ d. k < d.workers) (sym b.shape_is) low in
     let own = deal-own b k (w - (k + 1)) (w - k) c.loop-worker.seat n i.seat c.split_seat-others.new.seat x.0 x.2 below in
     let left = deal-rest b k (w - (k + 1)) (w - k) c.loop-worker.seat n i.seat c.split_seat-others.result x.3 x.4 in
     let one : suc k ≡ k + 1 = omega arith in

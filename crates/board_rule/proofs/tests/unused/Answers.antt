@@ -1,5 +1,5 @@
 use Rattle.std.proofs.Common.{◌≡◌, length, ap, arith}
-use Rattle.board_rule.specs.Passes.{shape_of}
+use Rattle.board_rule.specs.Passes.{board_shape}
 use Rattle.board_rule.proofs.Deals.{fresh-all, fresh-done}
 use Rattle.board_rule.proofs.tests.unused.Goals as goal
 
@@ -9,7 +9,7 @@ finish-requires-clause-all c =
     let ps = c.in_ok-board.passes in
     let made = c.in_ok-board.ensures.passes in
     let shape = ap (λ d. d.workers) c.in_ok-board.ensures.shape in
-    let long : length ps.items ≡ (shape_of b).workers = omega (arith, ps.ok.0, made.0, shape) in
+    let long : length ps.items ≡ (board_shape b).workers = omega (arith, ps.ok.0, made.0, shape) in
     fresh-all b ps.items long made.1
 
 pub finish-requires-clause-done : goal.finish-requires-clause-done

@@ -1,11 +1,11 @@
 use Rattle.slot_station.specs.Tokens.{LeaveGives}
 use Rattle.slot_station.proofs.Follows.{owes-task_set, coordinator-left}
-use Rattle.board_rule.specs.Passes.{shape_of}
+use Rattle.board_rule.specs.Passes.{board_shape}
 use Rattle.board_rule.proofs.Callers.{made-as, brings}
 use Rattle.board_visit.proofs.visit.leave.Goals as goal
 
 pub returns-clause-made : goal.returns-clause-made
-returns-clause-made g c = made-as c.leave_read-leave.ensures.act c.step-found.ensures.made
+returns-clause-made g c = made-as c.leave_read-leave.ensures.act c.make_step-found.ensures.made
 
 pub returns-clause-task_set : goal.returns-clause-task_set
 returns-clause-task_set g c = owes-task_set c.leave_read-leave.result (returns-clause-made g c)
@@ -15,5 +15,5 @@ returns-clause-coordinator g c = coordinator-left c.leave_read-leave.result (ret
 
 pub returns-clause-debt : goal.returns-clause-debt
 returns-clause-debt g c =
-    brings c.step-found.ensures.stepped c.leave_read-leave.ensures.act LeaveGives c.leave_read-leave.result
-    (c.leave_read-leave.ensures.gives (shape_of c.args.board.now))
+    brings c.make_step-found.ensures.stepped c.leave_read-leave.ensures.act LeaveGives c.leave_read-leave.result
+    (c.leave_read-leave.ensures.gives (board_shape c.args.board.now))

@@ -1,7 +1,7 @@
 use Rattle.std.proofs.Common.{inl, refl, subst}
 use Rattle.slot_station.specs.Desks.{Exchanges}
 use Rattle.slot_station.proofs.ExchangesSeen.{exchanges-say}
-use Rattle.board_rule.specs.Passes.{seen_of}
+use Rattle.board_rule.specs.Passes.{HasExchanged, seen_of}
 use Rattle.board_visit.proofs.visit.own_cell.Goals as goal
 
 pub exchange_cell-requires-clause-has : goal.exchange_cell-requires-clause-has
@@ -20,3 +20,9 @@ returns-clause-put g c =
     let x = seen_of c.args.board.now c.args.pass.now in
     subst (λ n. Exchanges c.args.pass.now.worker n x (seen_of c.args.board.now c.exchange_cell.new.pass))
     ((exchanges-say g.B.Fits.fits _).own x c.requires.place c.args.new).2 c.exchange_cell.ensures.put
+
+pub returns-clause-exchanged : goal.returns-clause-exchanged
+returns-clause-exchanged g c =
+    let x = seen_of c.args.board.now c.args.pass.now in
+    subst (λ n. HasExchanged c.args.pass.now.worker n c.args.pass.now c.exchange_cell.new.pass)
+    ((exchanges-say g.B.Fits.fits _).own x c.requires.place c.args.new).2 c.exchange_cell.ensures.exchanged

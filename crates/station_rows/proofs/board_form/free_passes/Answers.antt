@@ -1,6 +1,6 @@
 use Rattle.std.proofs.Common.{◌≡◌, ◌+◌, length, rules, refl, sym, subst}
 use Rattle.board_rule.specs.Lives.{IsFreePass}
-use Rattle.board_rule.specs.Passes.{shape_of}
+use Rattle.board_rule.specs.Passes.{board_shape}
 use Rattle.station_rows.proofs.Passes.{FreeFrom, free-more, free-all}
 use Rattle.station_rows.proofs.board_form.free_passes.Goals as goal
 
@@ -23,5 +23,5 @@ loop-worker-preserved g c =
 pub returns : goal.returns
 returns g c =
     let b = c.args.board.now in
-    let full : length c.loop-worker.passes.items ≡ (shape_of b).workers = search rules in
+    let full : length c.loop-worker.passes.items ≡ (board_shape b).workers = search rules in
     free-all b c.loop-worker.passes.items full c.loop-worker.invariant.4

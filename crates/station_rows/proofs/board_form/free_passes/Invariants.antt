@@ -8,6 +8,6 @@ abbrev pub invariant-loop-worker : goal.invariant-loop-worker
 invariant-loop-worker g l =
     (l.board ≡ l.fn.board)
     × (l.worker-end ≡ l.fn.board.shape.workers)
-    × AreOf l.fn.board l.seats.items
+    × AreOf l.fn.board l.kept.items
     × (length l.passes.items ≡ l.worker)
     × FreeFrom l.fn.board 0 l.passes.items

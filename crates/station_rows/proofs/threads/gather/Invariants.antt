@@ -8,4 +8,4 @@ abbrev pub invariant-loop-one : goal.invariant-loop-one
 invariant-loop-one l =
     (l.board ≡ l.fn.board)
     × All (λ one. IfOk one (λ r. IsPassOf l.fn.board r.0)) l.one-iterator.rest.items
-    × AreOf l.fn.board l.seats.items
+    × AreOf l.fn.board l.kept.items

@@ -1,7 +1,7 @@
 use Rattle.std.proofs.Common.{◌≡◌, ◌∷◌, rules, refl}
 use Rattle.board_rule.specs.Passes.{IsPassOf}
 use Rattle.station_rows.proofs.Passes.{keep-more}
-use Rattle.station_rows.proofs.board_form.seats.Goals as goal
+use Rattle.station_rows.proofs.board_form.keep_passes.Goals as goal
 
 pub loop-pass-preserved : goal.loop-pass-preserved
 loop-pass-preserved c =

@@ -1,5 +1,6 @@
-//! The calls of a worker that tells of a slot, takes its notices, or asks for the two numbers. Each
-//! makes one atomic step, takes no memory and never waits.
+//! The calls on notices, and on the two counts: a worker announces a slot, takes its notices, and
+//! asks how many queries were admitted and how many task sets are done. Each makes one atomic step,
+//! takes no memory and never waits.
 ghost use Rattle.std.specs.Prelude.{◌≡◌, ◌+◌, ◌<◌};
 ghost use Rattle.slot_history.specs.declared.act.Act.TheVariants.{Arrivals, Finished, Announce};
 ghost use Rattle.slot_history.specs.declared.act.Act.TheVariants.{TakeReturn, TakeChange};
@@ -9,7 +10,7 @@ ghost use Rattle.slot_station.specs.Replies.{NamesSlots};
 ghost use Rattle.slot_station.specs.Tokens.{IsAnnouncer, IsDone};
 ghost use Rattle.board_rule.specs.Passes.{IsPassOf, seen_of};
 
-use board_rule::atomic::{WordOperation, step};
+use board_rule::atomic::{WordOperation, make_step};
 use board_rule::board::{Board, Pass};
 use slot_history::act::Act;
 use slot_proto::reading::mask_told;
@@ -43,7 +44,7 @@ pub fn announce<B: Fits, L: Ledger>(
 {
     let mask = mask_told(&pass.place);
     let bit = 1 << (slot_at(&pass.place) % 64);
-    step::<Brand, B, L>(board, pass, mask, WordOperation::SetBits(bit), steps);
+    make_step::<Brand, B, L>(board, pass, mask, WordOperation::SetBits(bit), steps);
     pass.place = place_after(&board.shape, &Act::Announce, pass.place);
     announcer.told += 1;
 }
@@ -64,7 +65,7 @@ pub fn take_return<B: Fits, L: Ledger>(
     ensures ticks { steps.new ≡ steps.old + 1 }
 {
     let mask = Address::ReturnOf(pass.worker, part);
-    step::<Brand, B, L>(board, pass, mask, WordOperation::Swap(0), steps)
+    make_step::<Brand, B, L>(board, pass, mask, WordOperation::Swap(0), steps)
 }
 
 /// `Station::take_change`: a swap of an own change mask with 0.
@@ -83,7 +84,7 @@ pub fn take_change<B: Fits, L: Ledger>(
     ensures ticks { steps.new ≡ steps.old + 1 }
 {
     let mask = Address::ChangeOf(pass.worker, part);
-    step::<Brand, B, L>(board, pass, mask, WordOperation::Swap(0), steps)
+    make_step::<Brand, B, L>(board, pass, mask, WordOperation::Swap(0), steps)
 }
 
 /// `Station::arrivals`: a load of the arrivals.
@@ -98,7 +99,7 @@ pub fn arrivals<B: Fits, L: Ledger>(
         (seen_of board.now pass.old) (seen_of board.now pass.new) }
     ensures ticks { steps.new ≡ steps.old + 1 }
 {
-    step::<Brand, B, L>(board, pass, Address::ArrivalsAt, WordOperation::Load, steps) as u32
+    make_step::<Brand, B, L>(board, pass, Address::ArrivalsAt, WordOperation::Load, steps) as u32
 }
 
 /// `Station::finished`: a load of the number of task sets noted as done.
@@ -113,5 +114,5 @@ pub fn finished<B: Fits, L: Ledger>(
         (seen_of board.now pass.old) (seen_of board.now pass.new) }
     ensures ticks { steps.new ≡ steps.old + 1 }
 {
-    step::<Brand, B, L>(board, pass, Address::FinishedAt, WordOperation::Load, steps) as u32
+    make_step::<Brand, B, L>(board, pass, Address::FinishedAt, WordOperation::Load, steps) as u32
 }

@@ -1,0 +1,5 @@
+use Rattle.slot_history.specs.Calls.{AnnouncingNext}
+use Rattle.board_masks.proofs.notices.announce.Given as goal
+
+abbrev pub ghosts-make_step : goal.ghosts-make_step
+ghosts-make_step g a = record { call = AnnouncingNext }

@@ -1,0 +1,6 @@
+use Rattle.slot_history.specs.Calls.{TakingReturn}
+use Rattle.board_rule.proofs.Operands.{part_named}
+use Rattle.board_masks.proofs.notices.take_return.Given as goal
+
+abbrev pub ghosts-make_step : goal.ghosts-make_step
+ghosts-make_step g a = record { call = TakingReturn (part_named a.address) }

@@ -1,5 +1,0 @@
-use Rattle.slot_station.proofs.Follows.{returns-named}
-use Rattle.board_masks.proofs.tell.take_return.Goals as goal
-
-pub returns-clause-slots : goal.returns-clause-slots
-returns-clause-slots g c = returns-named c.step.ensures.made

@@ -3,6 +3,7 @@ mod CommandLemmas
 mod CompletenessLemmas
 mod FaultLemmas
 mod GrammarLemmas
+mod ItemLemmas
 mod MakeLemmas
 mod OutsideLemmas
 mod PromiseLemmas

@@ -2,6 +2,7 @@ pub mod Behaviours
 pub mod Commands
 pub mod ErrorLines
 pub mod Grammar
+pub mod Items
 pub mod Lines
 pub mod Outsides
 pub mod Programs

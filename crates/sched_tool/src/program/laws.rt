@@ -1,4 +1,5 @@
-//! Laws of what commands accept, answer and refuse, over definitions alone.
+//! Laws over definitions alone: what commands accept, answer and refuse, and how words are read.
+ghost use Rattle.sched_tool.specs.Items.{PlacesAreFree, ReadsLines};
 ghost use Rattle.sched_tool.specs.Verdicts.{OneAnswer, OneVerdict};
 
 use outside_io::Meter;
@@ -12,4 +13,15 @@ pub fn one_answer()
 /// are refused are so for one reason. It holds of every command, and of words outside the grammar.
 pub fn one_verdict<M: Meter>()
     ensures { OneVerdict M.may_take }
+{}
+
+/// Words are read as they are written: options, each with its value behind `=` or as the next word,
+/// and positional words. All other words, and an option given twice, are refused.
+pub fn reads_lines()
+    ensures { ReadsLines }
+{}
+
+/// Options may stand at any place before `--`, and in either form: what the words mean is the same.
+pub fn places_are_free()
+    ensures { PlacesAreFree }
 {}

@@ -61,10 +61,11 @@ held_by plan id inputs of (bench ∷ benches) (acc ∷ accs) each same =
     let this : IsBenchOf plan id bench = All-head (IsBenchOf plan id) bench benches each in
     let is : acc_in bench ≡ Some acc = heads (acc_in bench) (Some acc) (map acc_in benches) (map Some accs) same in
     let own : IsAccOf (arc_value bench.inputs) (bench_tuples bench) acc =
-        subst (λ o. MatchOption o (Unit {0}) (IsAccOf (arc_value bench.inputs) (bench_tuples bench))) is this.bench_is.holds in
-    (same_task plan id (arc_value bench.inputs) inputs this.inputs of (λ t c n. Holds t (query_of c) (stage_at (query_of c) n) (bench_tuples bench) acc) own,
-    held_by plan id inputs of benches accs (All-tail (IsBenchOf plan id) bench benches each)
-    (tails (acc_in bench) (Some acc) (map acc_in benches) (map Some accs) same))
+    subst (λ o. MatchOption o (Unit {0}) (IsAccOf (arc_value bench.inputs) (bench_tuples bench))) is this.bench_is.holds in (
+      same_task plan id (arc_value bench.inputs) inputs this.inputs of (λ t c n. Holds t (query_of c) (stage_at (query_of c) n) (bench_tuples bench) acc) own,
+      held_by plan id inputs of benches accs (All-tail (IsBenchOf plan id) bench benches each)
+          (tails (acc_in bench) (Some acc) (map acc_in benches) (map Some accs) same),
+    )
 
 some_whole : (o : Option Acc) (acc : Acc) → o ≡ Some acc → IsSome o
 some_whole (Some acc') acc is = search rules

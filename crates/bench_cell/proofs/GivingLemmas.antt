@@ -22,7 +22,9 @@ pub tiles_give : (plan : Plan) (ended : Ended) (claims : List Morsel) (benches :
     → GivesClaims plan ended claims gathered
 tiles_give plan ended claims benches is tiles fit (Whole result kept) gives =
     let whole = gives.1.none_short in
-    let each : All (IsBenchOf plan ended.id) benches = All-each (IsBenchOf plan ended.id) benches (λ i bench at. (fit.each i bench at).of_set) in
-    (gives.0, tiles_kept plan ended.id ended.total claims benches tiles fit whole kept.claims gives.1.claims_are,
-    gives.1.result_is plan ended.id ended.total each (tiles_cover plan ended.id ended.total claims benches is tiles fit whole))
+    let each : All (IsBenchOf plan ended.id) benches = All-each (IsBenchOf plan ended.id) benches (λ i bench at. (fit.each i bench at).of_set) in (
+      gives.0,
+      tiles_kept plan ended.id ended.total claims benches tiles fit whole kept.claims gives.1.claims_are,
+      gives.1.result_is plan ended.id ended.total each (tiles_cover plan ended.id ended.total claims benches is tiles fit whole),
+    )
 tiles_give plan ended claims benches is tiles fit (Short kept) gives = gives

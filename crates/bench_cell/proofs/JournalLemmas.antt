@@ -122,16 +122,16 @@ first_same : (c d : ClaimOf) (claims others : List ClaimOf) → AscendsApart (c 
 first_same c d claims others up above same =
     ⊎_elim
     (λ less. let none = times_none c d.from (d ∷ others) less (omega arith, above.0) in
-        let some = times_first c claims in
-        let both = same c in
-        absurd (omega (arith, none, some, both)))
+    let some = times_first c claims in
+    let both = same c in
+    absurd (omega (arith, none, some, both)))
     (λ upto. ⊎_elim
-        (λ less. let none = times_none d c.from (c ∷ claims) less (omega arith, weaker c.from claims up.0) in
-            let some = times_first d others in
-            let both = same d in
-            absurd (omega (arith, none, some, both)))
-        (λ back. sym (first_claim c d claims others up above same (omega (arith, upto, back))))
-        (cases_lt d.from c.from))
+    (λ less. let none = times_none d c.from (c ∷ claims) less (omega arith, weaker c.from claims up.0) in
+    let some = times_first d others in
+    let both = same d in
+    absurd (omega (arith, none, some, both)))
+    (λ back. sym (first_claim c d claims others up above same (omega (arith, upto, back))))
+    (cases_lt d.from c.from))
     (cases_lt c.from d.from)
 
 -- lists with the same claims that ascend are equal
@@ -193,10 +193,11 @@ journal_more claim claims = ap (map claim_in) (reverse-append (claim ∷ []) cla
 journal_ascends : (claims : List Morsel) (total : ℕ) → Tiles claims total → AscendsApart (journal_of claims) × IsBelow total (journal_of claims)
 journal_ascends [] total tiles = (tt, tt)
 journal_ascends (claim ∷ claims) total tiles =
-    let early = journal_ascends claims claim.from tiles.2 in
-    (subst AscendsApart (sym (journal_more claim claims)) (ascends_more (journal_of claims) (claim_in claim) early.0 early.1),
-    subst (IsBelow total) (sym (journal_more claim claims))
-    (below_more claim.from total (journal_of claims) (claim_in claim) early.1 (omega (arith, tiles.0, tiles.1)) (omega (arith, tiles.0, tiles.1))))
+    let early = journal_ascends claims claim.from tiles.2 in (
+      subst AscendsApart (sym (journal_more claim claims)) (ascends_more (journal_of claims) (claim_in claim) early.0 early.1),
+      subst (IsBelow total) (sym (journal_more claim claims))
+          (below_more claim.from total (journal_of claims) (claim_in claim) early.1 (omega (arith, tiles.0, tiles.1)) (omega (arith, tiles.0, tiles.1))),
+    )
 
 -- ---- how often a claim is among the claims of benches
 
@@ -221,11 +222,11 @@ times_own c (claim ∷ claims) =
     let all = sum_by-cons (weight c) (claim_in claim) (map claim_in claims) in
     ⊎_elim
     (λ same. let this = sum_by-cons (weight c) (claim_by c.worker (claim.from, claim.to)) (map (claim_by c.worker) own) in
-        let alike : weight c (claim_by c.worker (claim.from, claim.to)) ≡ weight c (claim_in claim) =
-            ap (λ n. weight c (record { from = claim.from; to = claim.to; worker = n })) same.1 in
-        ap (λ b. times c (map (claim_by c.worker) (cond b ((claim.from, claim.to) ∷ own) own))) same.0 ∙ omega (arith, this, rest, all, alike))
+    let alike : weight c (claim_by c.worker (claim.from, claim.to)) ≡ weight c (claim_in claim) =
+    ap (λ n. weight c (record { from = claim.from; to = claim.to; worker = n })) same.1 in
+    ap (λ b. times c (map (claim_by c.worker) (cond b ((claim.from, claim.to) ∷ own) own))) same.0 ∙ omega (arith, this, rest, all, alike))
     (λ other. let none : weight c (claim_in claim) ≡ 0 = weight_other c (claim_in claim) (λ is. other.1 (worker_same c (claim_in claim) is)) in
-        ap (λ b. times c (map (claim_by c.worker) (cond b ((claim.from, claim.to) ∷ own) own))) other.0 ∙ omega (arith, rest, all, none))
+    ap (λ b. times c (map (claim_by c.worker) (cond b ((claim.from, claim.to) ∷ own) own))) other.0 ∙ omega (arith, rest, all, none))
     (eqb_tells c.worker claim.worker)
 
 -- no claim of a worker that is none of these
@@ -272,12 +273,12 @@ times_among claims k (bench ∷ benches) c note low high =
     let all = sum_by-append (weight c) (claims_in bench) (flat_map claims_in benches) in
     ⊎_elim
     (λ later. let this = note_first claims k bench benches note c ∙ times_stranger c k (ranges_by k claims) (λ same. omega (arith, same, later)) in
-        let rest = times_among claims (suc k) benches c more (omega (arith, later)) (omega (arith, high)) in
-        omega (arith, this, rest, all))
+    let rest = times_among claims (suc k) benches c more (omega (arith, later)) (omega (arith, high)) in
+    omega (arith, this, rest, all))
     (λ upto. let same : k ≡ c.worker = omega (arith, low, upto) in
-        let this = note_first claims k bench benches note c ∙ ap (λ n. times c (map (claim_by n) (ranges_by n claims))) same ∙ times_own c claims in
-        let rest = times_past claims (suc k) benches c more (inl (omega (arith, upto))) in
-        omega (arith, this, rest, all))
+    let this = note_first claims k bench benches note c ∙ ap (λ n. times c (map (claim_by n) (ranges_by n claims))) same ∙ times_own c claims in
+    let rest = times_past claims (suc k) benches c more (inl (omega (arith, upto))) in
+    omega (arith, this, rest, all))
     (cases_lt k c.worker)
 
 note_all : (plan : Plan) (id : ℕ) (claims : List Morsel) (benches : List Bench) → FitClaims plan id claims benches → All IsWhole benches
@@ -286,7 +287,6 @@ note_all plan id claims benches fit whole = λ i bench at c.
     let own : List (ℕ × ℕ) = ranges_by i claims in
     ap (λ n. times c (map (claim_by n) (ranges_in bench))) (fit.each i bench at).worker_is
     ∙ ap (λ (l : List (ℕ × ℕ)). times c (map (claim_by i) l)) (fitted_ranges plan id claims benches fit whole i bench at)
-   
     ∙ sum_by-IsPermutation (weight c) (map (claim_by i) own) (map (claim_by i) (reverse own)) (IsPermutation-map (claim_by i) own (reverse own) (IsPermutation-reverse own))
     ∙ ap (λ n. times c (map (claim_by n) (ranges_by n claims))) (omega arith)
 
@@ -303,9 +303,9 @@ pub tiles_kept : (plan : Plan) (id total : ℕ) (claims : List Morsel) (benches 
     → All IsWhole benches → (kept : List ClaimOf) → AreClaimsOf benches kept → kept ≡ journal_of claims
 tiles_kept plan id total claims benches tiles fit whole kept are =
     let turned : (c : ClaimOf) → times c (journal_of claims) ≡ times c (map claim_in claims) = λ c.
-        sum_by-IsPermutation (weight c) (map claim_in claims) (map claim_in (reverse claims))
-        (IsPermutation-map claim_in claims (reverse claims) (IsPermutation-reverse claims)) in
+    sum_by-IsPermutation (weight c) (map claim_in claims) (map claim_in (reverse claims))
+    (IsPermutation-map claim_in claims (reverse claims) (IsPermutation-reverse claims)) in
     let noted : (c : ClaimOf) → times c kept ≡ times c (map claim_in claims) = λ c.
-        sum_by-IsPermutation (weight c) (flat_map claims_in benches) kept are.same
-        ∙ times_all claims benches c (note_all plan id claims benches fit whole) fit.within in
+    sum_by-IsPermutation (weight c) (flat_map claims_in benches) kept are.same
+    ∙ times_all claims benches c (note_all plan id claims benches fit whole) fit.within in
     sym (one_order (journal_of claims) kept (journal_ascends claims total tiles).0 (ascends_sorted kept are.ascend) (λ c. turned c ∙ sym (noted c)))

@@ -77,11 +77,11 @@ one_owner (claim ∷ claims) total v w tuple tiles one other =
     let low : (u : ℕ) → taken_by claims u tuple ≡ true → tuple < claim.from = λ u is. taken_below claims claim.from u tuple tiles.2 is in
     ⊎_elim
     (λ mine. ⊎_elim (λ his. eqb-true v claim.worker mine.0 ∙ sym (eqb-true w claim.worker his.0))
-        (λ rest. let high = low w rest in absurd (omega (arith, high, mine.1)))
-        (taken_cases (eqb w claim.worker) claim claims w tuple other))
+    (λ rest. let high = low w rest in absurd (omega (arith, high, mine.1)))
+    (taken_cases (eqb w claim.worker) claim claims w tuple other))
     (λ rest. ⊎_elim (λ his. let high = low v rest in absurd (omega (arith, high, his.1)))
-        (λ more. one_owner claims claim.from v w tuple tiles.2 rest more)
-        (taken_cases (eqb w claim.worker) claim claims w tuple other))
+    (λ more. one_owner claims claim.from v w tuple tiles.2 rest more)
+    (taken_cases (eqb w claim.worker) claim claims w tuple other))
     (taken_cases (eqb v claim.worker) claim claims v tuple one)
 
 -- a worker that claimed a tuple
@@ -97,7 +97,7 @@ some_owner (claim ∷ claims) total n tuple tiles within below =
     let rest = All-tail (λ (c : Morsel). c.worker < n) claim claims within in
     ⊎_elim
     (λ early. let owner = some_owner claims claim.from n tuple tiles.2 rest early in
-        (owner.0, owner.1, taken_before (eqb owner.0 claim.worker) claim claims owner.0 tuple owner.2))
+    (owner.0, owner.1, taken_before (eqb owner.0 claim.worker) claim claims owner.0 tuple owner.2))
     (λ late. (claim.worker, his, taken_here claim claims tuple late (omega (arith, below, tiles.0))))
     (cases_lt tuple claim.from)
 
@@ -121,9 +121,9 @@ union_has claims k w tuple [] hold low high is = absurd (omega (arith, low, high
 union_has claims k w tuple (bench ∷ benches) hold low high is =
     ⊎_elim
     (λ later. or_right (bench_tuples bench tuple) (union_of (map bench_tuples benches) tuple)
-        (union_has claims (suc k) w tuple benches (hold_rest claims k bench benches hold) (omega (arith, later)) (omega (arith, high)) is))
+    (union_has claims (suc k) w tuple benches (hold_rest claims k bench benches hold) (omega (arith, later)) (omega (arith, high)) is))
     (λ upto. let same : k ≡ w = omega (arith, low, upto) in
-        ap (λ b. b || union_of (map bench_tuples benches) tuple) (hold_first claims k bench benches hold tuple ∙ ap (λ n. taken_by claims n tuple) same ∙ is))
+    ap (λ b. b || union_of (map bench_tuples benches) tuple) (hold_first claims k bench benches hold tuple ∙ ap (λ n. taken_by claims n tuple) same ∙ is))
     (cases_lt k w)
 
 union_owner : (claims : List Morsel) (k tuple : ℕ) (benches : List Bench) → HoldFrom claims k benches → union_of (map bench_tuples benches) tuple ≡ true
@@ -138,11 +138,13 @@ apart_from : (claims : List Morsel) (total k : ℕ) (benches : List Bench) → T
     → AreAllDisjoint (map bench_tuples benches)
 apart_from claims total k [] tiles hold = tt
 apart_from claims total k (bench ∷ benches) tiles hold =
-    let rest : HoldFrom claims (suc k) benches = hold_rest claims k bench benches hold in
-    (λ tuple. never_both (bench_tuples bench tuple) (union_of (map bench_tuples benches) tuple)
-    (λ here there. let owner = union_owner claims (suc k) tuple benches rest there in
-        let same = one_owner claims total k owner.0 tuple tiles (sym (hold_first claims k bench benches hold tuple) ∙ here) owner.2 in
-        omega (arith, same, owner.1)), apart_from claims total (suc k) benches tiles rest)
+    let rest : HoldFrom claims (suc k) benches = hold_rest claims k bench benches hold in (
+      λ tuple. never_both (bench_tuples bench tuple) (union_of (map bench_tuples benches) tuple)
+          (λ here there. let owner = union_owner claims (suc k) tuple benches rest there in
+          let same = one_owner claims total k owner.0 tuple tiles (sym (hold_first claims k bench benches hold tuple) ∙ here) owner.2 in
+          omega (arith, same, owner.1)),
+      apart_from claims total (suc k) benches tiles rest,
+    )
 
 -- an element of a list
 All-at : {A : Type 0} (P : A → Type 0) (xs : List A) (i : ℕ) (x : A) → All P xs → slice_get xs i ≡ Some x → P x

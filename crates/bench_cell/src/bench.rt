@@ -43,7 +43,7 @@ impl Fits for Bench {
 
 impl Bench {
     /// A bench that worked on no range, for a worker and the task set of an id, whose inputs these
-    /// are.
+    /// are. It keeps the allocator. If memory runs out, nothing is left of it.
     pub fn fresh(
         alloc: Global,
         worker: u32,
@@ -66,8 +66,8 @@ impl Bench {
         })
     }
 
-    /// Works on the tuples from `from` up to but without `to`. The bench becomes short if memory
-    /// runs out.
+    /// Works on the tuples from `from` up to but without `to`, on none of which it worked before.
+    /// The bench becomes short if memory runs out. A short bench does nothing.
     pub fn work(&mut self, from: u32, to: u32)
         requires bench { IsBench self.old }
         requires some { from < to }

@@ -18,10 +18,11 @@ use slot_history::shape::STAGES;
 use std::alloc::{AllocError, Global};
 use std::sync::Arc;
 
-/// Brings the benches of all workers on a task set together. The list is empty afterwards and keeps
-/// its room.
+/// Brings the benches of all workers on a task set together, for the worker that finalises it at a
+/// slot. The total is in tuples. The list is empty afterwards and keeps its room.
 ///
-/// The result is short exactly if a bench is, or if memory runs out here.
+/// The result is short exactly if a bench is, or if memory runs out here. It is the whole result of
+/// the task set if the benches cover the total, each tuple once.
 pub fn gather(
     alloc: Global,
     finisher: u32,
@@ -52,10 +53,7 @@ pub fn gather(
 }
 
 // The result and the claims of benches, unless one is short or memory runs out.
-fn whole(
-    alloc: Global,
-    benches: &mut Vec<Bench>,
-) -> Result<(StageResult, Vec<ClaimOf>), AllocError>
+fn whole(alloc: Global, benches: &mut Vec<Bench>) -> Result<(StageResult, Vec<ClaimOf>), AllocError>
     requires some { 0 < length benches.old.items }
     requires each { All IsBench benches.old.items }
     ensures room { vec_capacity benches.new ≡ vec_capacity benches.old }

@@ -30,7 +30,13 @@ fn plan(rt: &(impl Abort + AllocGlobal)) -> Result<Plan, Fail>
         table.push_row(&[value]).expect(rt, "a row");
     }
     let file = Text::of(String::from_str(alloc, "a file")?);
-    let tables = vec![in alloc; NamedTable { name: name(rt, "t")?, file, table }]?;
+    let tables = vec![in alloc;
+        NamedTable {
+            name: name(rt, "t")?,
+            file,
+            table
+        },
+    ]?;
     let column = NameRef {
         side: 0,
         name: name(rt, "v")?,
@@ -69,7 +75,11 @@ fn task(alloc: Global, plan: &Plan) -> Result<(Arc<Inputs>, u32), AllocError>
 {
     let checked = plan.query(0);
     let total = stage_total(checked, plan.tables.as_slice(), 0);
-    let inputs = Inputs::first(alloc, Arc::try_clone(&plan.tables)?, Arc::try_clone(checked)?)?;
+    let inputs = Inputs::first(
+        alloc,
+        Arc::try_clone(&plan.tables)?,
+        Arc::try_clone(checked)?,
+    )?;
     Ok((Arc::new(alloc, inputs)?, total))
 }
 

@@ -1,6 +1,6 @@
 -- What a bench has to do with the ranges of its worker.
 use Rattle.std.specs.Prelude.{◌≡◌, ◌⊎◌, ◌/◌, ◌%◌, ◌++◌, ℕ, List, [], ◌∷◌, map, reverse, MatchOption}
-use Rattle.std.specs.Prelude.{Some, None, slice_get}
+use Rattle.std.specs.Prelude.{IsSome, Some, None, slice_get}
 use Rattle.std.specs.Arc.{arc_value}
 use Rattle.plan_ast.specs.Folds.{Tuples, range_of}
 use Rattle.pipe_ops.specs.Inputs.{AreInputs, IsAccOf, checked_in, number_in, tables_in}
@@ -43,12 +43,13 @@ pub record IsBench (bench : Bench) : Type 0 where
   pub holds : MatchOption bench.acc (Unit {0})
       (IsAccOf (arc_value bench.inputs) (bench_tuples bench))
 
--- a bench of this worker, task set and inputs that worked on no range
+-- a bench of this worker, task set and inputs that isn't short and worked on no range
 pub record IsFresh (worker id : ℕ) (inputs : Inputs) (bench : Bench) : Type 0 where
   pub worker_is : bench.worker ≡ worker
   pub id_is : bench.id ≡ id
   pub inputs_are : arc_value bench.inputs ≡ inputs
   pub bench_is : IsBench bench
+  pub whole : IsSome bench.acc
   pub ranges_are : ranges_in bench ≡ []
 
 -- a bench of the task set of an id

@@ -1,0 +1,14 @@
+pub mod Calls
+pub mod Pushing
+pub mod Desks
+pub mod Joining
+pub mod Sizes
+pub mod Tasks
+pub mod InputsLemmas
+pub mod Holdings
+pub mod Steps
+pub mod Visits
+pub mod Turning
+pub mod Claims
+pub mod Finishing
+pub mod Outcomes

@@ -1,0 +1,74 @@
+use Rattle.std.proofs.Common.{◌≡◌, ◌/◌, ◌<◌, [], length, Some, sym, ◌∙◌, subst, arith}
+use Rattle.bench_cell.specs.declared.plan.Plan.{Plan}
+use Rattle.worker_machine.proofs.Claims.{work-within, work-apart, task-within}
+use Rattle.worker_machine.proofs.Desks.{plan-of, slots-of}
+use Rattle.worker_machine.proofs.Sizes.{cut-some}
+use Rattle.worker_machine.proofs.Tasks.{task-query}
+use Rattle.worker_machine.proofs.Visits.{claimed, used-up}
+use Rattle.std.specs.Arc.{arc_value}
+use Rattle.slot_history.specs.declared.shape.TheConstants.{STAGES}
+use Rattle.bench_cell.specs.Plans.{total_of}
+use Rattle.std.proofs.lemmas.Option.{slice_get_read}
+use Rattle.worker_machine.specs.Plans.{IsTask}
+use Rattle.worker_machine.proofs.kept.Core.claim.Goals as goal
+
+pub task_total-total-requires : goal.task_total-total-requires
+task_total-total-requires g c =
+    let f = c.requires.follows in
+    subst (λ (p : Plan). IsTask p c.args.id) (sym (c.deref.ensures ∙ plan-of c.args.self.now f.desk)) f.hand.2
+
+pub next-n-requires : goal.next-n-requires
+next-n-requires g c =
+    let f = c.requires.follows in
+    let slots = slots-of c.args.self.now f.desk in
+    let low : c.args.s < c.args.self.now.slots = omega (arith, slots, f.hand.1) in
+    let got = slice_get_read c.args.self.now.known.items c.args.self.now.slots c.args.s c.index-known.result.now
+    (sym c.args.self.now.each_known) low c.index-known.ensures in
+    (c.args.self.now.sized c.args.s _ got).within c.args.id _ (f.fits.1 _ got)
+    (subst (λ (p : Plan). total_of p c.args.id ≡ Some c.task_total-total.result) c.deref.ensures c.task_total-total.ensures.total)
+
+pub work-requires-clause-bench : goal.work-requires-clause-bench
+work-requires-clause-bench g c = c.requires.follows.hand.3.of_set.bench_is
+
+pub work-requires-clause-some : goal.work-requires-clause-some
+work-requires-clause-some g c =
+    cut-some _ c.in-Range.from c.in-Range.to c.next-n.result c.next-n.ensures.least c.in-Range.ensures.range
+
+pub work-requires-clause-within : goal.work-requires-clause-within
+work-requires-clause-within g c =
+    let old = g.S.Station.seen c.args.station.now in
+    let f = c.requires.follows in
+    work-within old c.args.bench f.hand.3 c.next-n.result c.in-Range.from c.in-Range.to c.in-Range.ensures.range
+
+pub work-requires-clause-apart : goal.work-requires-clause-apart
+work-requires-clause-apart g c =
+    let old = g.S.Station.seen c.args.station.now in
+    let f = c.requires.follows in
+    work-apart old c.args.bench f.hand.3 c.next-n.result c.in-Range.from c.in-Range.to c.in-Range.ensures.past
+
+pub query_of-requires : goal.query_of-requires
+query_of-requires g c =
+    let f = c.requires.follows in
+    subst (λ (p : Plan). c.args.id / STAGES < length p.queries.items) (sym c.deref-in-Range.ensures)
+    (task-query (arc_value c.args.self.now.plan) c.args.id (subst (λ (p : Plan). IsTask p c.args.id) (sym (plan-of c.args.self.now f.desk)) f.hand.2))
+
+pub worked-requires-clause-some : goal.worked-requires-clause-some
+worked-requires-clause-some g c =
+    cut-some _ c.in-Range.from c.in-Range.to c.next-n.result c.next-n.ensures.least c.in-Range.ensures.range
+
+pub worked-requires-clause-within : goal.worked-requires-clause-within
+worked-requires-clause-within g c =
+    let old = g.S.Station.seen c.args.station.now in
+    let f = c.requires.follows in
+    task-within old (arc_value c.args.self.now.plan) c.args.s c.args.id c.next-n.result c.in-Range.from c.in-Range.to f.hand.0
+    (plan-of c.args.self.now f.desk) c.in-Range.ensures.range
+
+pub returns-in-Range-clause-hand : goal.returns-in-Range-clause-hand
+returns-in-Range-clause-hand g c =
+    let f = c.requires.follows in
+    claimed c.in-Range.ensures.made f.hand.0 c.work.ensures.fits f.hand.3 []
+
+pub returns-in-Exhausted-clause-hand : goal.returns-in-Exhausted-clause-hand
+returns-in-Exhausted-clause-hand g c =
+    let f = c.requires.follows in
+    used-up c.in-Exhausted.ensures.made f.hand.0 f.hand.1 f.hand.2 c.in-Exhausted.ensures.spent f.hand.3 []

@@ -1,0 +1,96 @@
+use Rattle.std.proofs.Common.{◌+◌, ◌<◌, ◌≤◌, sym, ◌∙◌, subst, arith}
+use Rattle.slot_station.specs.Desks.{Desk}
+use Rattle.bench_cell.specs.declared.plan.Plan.{Plan}
+use Rattle.worker_machine.proofs.Calls.{carry-kept}
+use Rattle.worker_machine.proofs.Desks.{workers-of, plan-of, is-one}
+use Rattle.worker_machine.proofs.Steps.{fetch-on}
+use Rattle.worker_machine.proofs.Outcomes.{finishing-hand}
+use Rattle.worker_machine.proofs.Finishing.{fetched-for}
+use Rattle.std.specs.Arc.{arc_value}
+use Rattle.worker_machine.specs.Hands.{IsTaskHeld}
+use Rattle.worker_machine.proofs.kept.Core.fetch.Goals as goal
+
+pub unreachable-requires-in-Err : goal.unreachable-requires-in-Err
+unreachable-requires-in-Err g c =
+    let f = c.requires.follows in
+    let full = c.in-Err.ensures.full in
+    let room = c.args.self.now.room in
+    let len = c.args.self.now.benches.ok.0 in
+    let w = workers-of c.args.self.now f.desk in
+    omega (arith, full, room, len, f.hand.count, f.hand.low, w)
+
+pub returns-then-v-self-clause-hand : goal.returns-then-v-self-clause-hand
+returns-then-v-self-clause-hand g c =
+    let f = c.requires.follows in
+    let was = c.args.self.now.benches.items in
+    let p =
+    fetch-on c.args.v was c.push.new.self.items c.in-Some.bench f.hand c.cell.ensures.put c.cell.ensures.same c.in-Some.ensures.says c.in-Ok.ensures.items in
+    record {
+      known = p.known;
+      holds = p.holds;
+      again = p.again;
+      task = p.task;
+      low = carry-kept c.cell.ensures.put.stays (λ (D : Desk Plan). c.args.v + 1 < D.shape.workers)
+          (subst (λ (x : Desk Plan). c.args.v + 1 < x.shape.workers) f.desk c.if-v-self.true);
+      done = p.done;
+      rest = p.rest;
+      count = p.count;
+      fit = p.fit;
+    }
+
+pub returns-else-v-self-clause-hand : goal.returns-else-v-self-clause-hand
+returns-else-v-self-clause-hand g c =
+    let f = c.requires.follows in
+    let x = c.cell.ensures.put in
+    let was = c.args.self.now.benches.items in
+    let p =
+    fetch-on c.args.v was c.push.new.self.items c.in-Some.bench f.hand x c.cell.ensures.same c.in-Some.ensures.says c.in-Ok.ensures.items in
+    let most = carry-kept x.stays (λ (D : Desk Plan). D.shape.workers ≤ c.args.v + 1)
+    (subst (λ (x : Desk Plan). x.shape.workers ≤ c.args.v + 1) f.desk c.if-v-self.false) in
+    finishing-hand (g.S.Station.seen c.cell.new.self) c.gathered.new.self c.cell.new.holder c.gathered.result c.gathered.ensures.finishes
+    (c.gathered.ensures.same ∙ f.desk ∙ sym x.stays.desk)
+    (subst (λ pl. IsTaskHeld pl c.cell.new.holder) (sym (plan-of c.gathered.new.self
+    (c.gathered.ensures.same ∙ f.desk ∙ sym x.stays.desk))) p.task) p.again p.holds (λ u lt. p.done u (omega arith) (omega (arith, lt, most)))
+
+pub gathered-requires-clause-held : goal.gathered-requires-clause-held
+gathered-requires-clause-held g c =
+    let f = c.requires.follows in
+    let x = c.cell.ensures.put in
+    let was = c.args.self.now.benches.items in
+    let p =
+    fetch-on c.args.v was c.push.new.self.items c.in-Some.bench f.hand x c.cell.ensures.same c.in-Some.ensures.says c.in-Ok.ensures.items in
+    subst (λ pl. IsTaskHeld pl c.cell.new.holder) (sym (plan-of c.args.self.now (f.desk ∙ sym x.stays.desk))) p.task
+
+pub gathered-requires-clause-again : goal.gathered-requires-clause-again
+gathered-requires-clause-again g c =
+    let f = c.requires.follows in
+    let x = c.cell.ensures.put in
+    let was = c.args.self.now.benches.items in
+    let p =
+    fetch-on c.args.v was c.push.new.self.items c.in-Some.bench f.hand x c.cell.ensures.same c.in-Some.ensures.says c.in-Ok.ensures.items in
+    p.again
+
+pub gathered-requires-clause-some : goal.gathered-requires-clause-some
+gathered-requires-clause-some g c =
+    let f = c.requires.follows in
+    let x = c.cell.ensures.put in
+    let was = c.args.self.now.benches.items in
+    let p =
+    fetch-on c.args.v was c.push.new.self.items c.in-Some.bench f.hand x c.cell.ensures.same c.in-Some.ensures.says c.in-Ok.ensures.items in
+    let n = p.count in omega (arith, n)
+
+pub gathered-requires-clause-benches : goal.gathered-requires-clause-benches
+gathered-requires-clause-benches g c =
+    let f = c.requires.follows in
+    let x = c.cell.ensures.put in
+    let was = c.args.self.now.benches.items in
+    let p =
+    fetch-on c.args.v was c.push.new.self.items c.in-Some.bench f.hand x c.cell.ensures.same c.in-Some.ensures.says c.in-Ok.ensures.items in
+    let has = f.desk ∙ sym x.stays.desk in
+    let n = p.count in
+    let last = c.if-v-self.false in
+    let low = f.hand.low in
+    let before = workers-of c.args.self.now f.desk in
+    let after = workers-of c.args.self.now has in
+    fetched-for (g.S.Station.seen c.cell.new.self) c.cell.new.holder c.push.new.self.items p.holds p.again p.known (is-one c.args.self.now has)
+    (omega (arith, n, last, low, before, after)) p.fit (arc_value c.args.self.now.plan) (plan-of c.args.self.now has)

@@ -1,0 +1,9 @@
+pub mod Plans
+pub mod Benches
+pub mod Hands
+pub mod Desks
+pub mod Joins
+pub mod Sized
+pub mod Following
+pub mod Left
+pub mod Outcomes

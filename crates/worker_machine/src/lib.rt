@@ -1,0 +1,37 @@
+//! The work of one worker: which slot it visits, what it claims there, and how it opens, finishes
+//! and gives up task sets.
+//!
+//! A worker takes turns. A turn takes the notices, looks whether a query is due, and then admits
+//! it, visits one slot, or does nothing. `Worker::turn` makes a whole turn and `Worker::step` one
+//! call of it. Neither knows the slot object: a worker goes over any `Station` whose cells hold
+//! benches, so every call that it makes is one that the protocol allows.
+//!
+//! It stands on `slot_station` (what a worker may call), `bench_cell` (what the cells hold),
+//! `stride_set` (which slot is next), `prio_decay` (what time in a query costs) and `morsel_size`
+//! (how much is claimed). The one fact that the layers above may use: a worker that follows its
+//! station (`Follows`) follows it after each step, and a turn takes at most
+//! `slots + 4 * workers + 20` steps.
+#![tactic(auto)]
+
+mod benches;
+mod finish;
+mod joins;
+mod kept;
+mod known;
+mod laws;
+mod notices;
+mod opening;
+mod parts;
+mod phase;
+mod plans;
+mod shares;
+mod state;
+mod stepping;
+mod visit;
+mod worker;
+
+pub use kept::{Core, Known};
+pub use laws::new_follows;
+pub use parts::WorkerParts;
+pub use phase::{Phase, Stepped, Turn};
+pub use state::Worker;

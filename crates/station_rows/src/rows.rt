@@ -7,7 +7,7 @@ use crate::player::Player;
 use crate::subject::{Piece, Sets};
 use plain_slots::table::PlainTable;
 use slot_history::act::Act;
-use slot_history::shape::STAGES;
+use slot_history::shape::{MOST_SLOTS, MOST_WORKERS, PARTS, STAGES};
 use slot_proto::proto::Proto;
 use slot_station::steps::Steps;
 use std::alloc::Global;
@@ -201,6 +201,22 @@ fn after_a_query<T: Form, L: Ledger>(
     Ok(table)
 }
 
+/// One of three workers asks the others, who are not at the slot, and so ends the task set that it
+/// shut. It installs the next one of the query, of this id and total, and tells everybody.
+fn goes_on(worker: u32, id: u32, total: u32) -> [(u32, Act); 9] {
+    [
+        (worker, Act::MarkMissed),
+        (worker, Act::MarkMissed),
+        (worker, Act::SweepLast),
+        (worker, Act::NoteDone(1)),
+        (worker, Act::SetTotal(total)),
+        (worker, Act::Install(id)),
+        (worker, Act::Announce),
+        (worker, Act::Announce),
+        (worker, Act::Announce),
+    ]
+}
+
 /// A slot gets another query and its next task set while a worker keeps a notice of the query
 /// before.
 fn notices_outlive_a_query<T: Form, L: Ledger>(
@@ -220,16 +236,8 @@ fn notices_outlive_a_query<T: Form, L: Ledger>(
     ];
     table.play(rt, &entries, steps);
     table.play(rt, &shuts(1, 0, 8), steps);
+    table.play(rt, &goes_on(1, 9, 7), steps);
     let entries = [
-        (1, Act::MarkMissed),
-        (1, Act::MarkMissed),
-        (1, Act::SweepLast),
-        (1, Act::NoteDone(1)),
-        (1, Act::SetTotal(7)),
-        (1, Act::Install(9)),
-        (1, Act::Announce),
-        (1, Act::Announce),
-        (1, Act::Announce),
         (2, Act::TakeReturn(0, 1)),
         (2, Act::TakeChange(0, 0)),
         (2, Act::Enter(0)),
@@ -416,6 +424,84 @@ fn notices_of_the_second_part<T: Form, L: Ledger>(
     Ok(())
 }
 
+/// On the largest table the last worker opens the last slot, and then its next task set. Each call
+/// is made there.
+fn largest_table<T: Form, L: Ledger>(
+    rt: &impl Abort,
+    alloc: Global,
+    steps: &mut Steps<L>,
+) -> Result<(), Fail> {
+    let (last, s, part) = (MOST_WORKERS - 1, MOST_SLOTS - 1, PARTS - 1);
+    let mut table = table::<T>(alloc, MOST_SLOTS, MOST_WORKERS, &[(0, 5), (1, 0)])?;
+    table.play(rt, &opens(last, s, 0, 5), steps);
+    times(rt, &mut table, MOST_WORKERS, (last, Act::Announce), steps);
+    let entries = [
+        (0, Act::TakeChange(part, 1 << 63)),
+        (0, Act::Enter(s)),
+        (0, Act::LookOpen(0)),
+        (0, Act::ClaimRange(16, 0, 5)),
+        (0, Act::LeaveLeft),
+        (last, Act::Enter(s)),
+        (last, Act::LookOpen(0)),
+    ];
+    table.play(rt, &entries, steps);
+    table.play(rt, &shuts(0, s, 0), steps);
+    times(
+        rt,
+        &mut table,
+        MOST_WORKERS - 2,
+        (0, Act::MarkMissed),
+        steps,
+    );
+    let entries = [
+        (0, Act::MarkMarked),
+        (0, Act::SweepOthers(1)),
+        (last, Act::LeaveOwe(0)),
+        (last, Act::PayLast),
+        (last, Act::NoteDone(1)),
+        (last, Act::SetTotal(0)),
+        (last, Act::Install(1)),
+    ];
+    table.play(rt, &entries, steps);
+    ends_the_largest(rt, &mut table, steps);
+    Ok(())
+}
+
+/// The last worker announces the last slot to all. The first worker takes its notice, ends the task
+/// set, which has no tuples, and gives the slot back.
+fn ends_the_largest<T: Form, L: Ledger>(
+    rt: &impl Abort,
+    table: &mut Player<T>,
+    steps: &mut Steps<L>,
+) {
+    let (last, s, part) = (MOST_WORKERS - 1, MOST_SLOTS - 1, PARTS - 1);
+    times(rt, table, MOST_WORKERS, (last, Act::Announce), steps);
+    table.play(rt, &[(0, Act::TakeReturn(part, 1 << 63))], steps);
+    table.play(rt, &shuts(0, s, 1), steps);
+    times(rt, table, MOST_WORKERS - 1, (0, Act::MarkMissed), steps);
+    let entries = [
+        (0, Act::SweepLast),
+        (0, Act::NoteDone(1)),
+        (0, Act::Release),
+        (0, Act::Arrivals(1)),
+        (0, Act::Finished(2)),
+    ];
+    table.play(rt, &entries, steps);
+}
+
+/// Plays one entry so many times.
+fn times<T: Form, L: Ledger>(
+    rt: &impl Abort,
+    table: &mut Player<T>,
+    count: u32,
+    entry: (u32, Act),
+    steps: &mut Steps<L>,
+) {
+    for _ in 0..count {
+        table.play(rt, &[entry], steps);
+    }
+}
+
 /// Plays the rows, in the ledger that the caller picks.
 fn play<T: Form, L: Ledger>(rt: &impl Abort, alloc: Global, blank: Blank) -> Result<(), Fail>
     requires name { blank.name ≡ L.name }
@@ -433,7 +519,8 @@ fn play<T: Form, L: Ledger>(rt: &impl Abort, alloc: Global, blank: Blank) -> Res
     queries_take_turns::<T, L>(rt, alloc, &mut steps)?;
     ranges_follow::<T, L>(rt, alloc, &mut steps)?;
     one_of_two_shuts::<T, L>(rt, alloc, &mut steps)?;
-    notices_of_the_second_part::<T, L>(rt, alloc, &mut steps)
+    notices_of_the_second_part::<T, L>(rt, alloc, &mut steps)?;
+    largest_table::<T, L>(rt, alloc, &mut steps)
 }
 
 #[test]

@@ -20,7 +20,7 @@ pub mod RowsLemmas
 pub mod ScanInputsLemmas
 pub mod ScanLemmas
 pub mod ScanTuplesLemmas
+pub mod SharesLemmas
 pub mod SideJoinLemmas
 pub mod StageRangeLemmas
 pub mod TakesLemmas
-pub mod TwoSharesLemmas

@@ -1,13 +1,13 @@
 // What a merge makes of a range of the parts of the groups.
 ghost use Rattle.std.specs.Prelude.{◌≡◌, ◌^◌, ◌<◌, ◌≤◌, ◌++◌, All, List, OnOk, flat_map, length};
 ghost use Rattle.std.specs.List.{AllZip};
-ghost use Rattle.plan_ast.specs.Folds.{AreDisjoint, Tuples, range_of, union};
+ghost use Rattle.plan_ast.specs.Folds.{range_of};
 ghost use Rattle.plan_ast.specs.Stages.{merges};
 ghost use Rattle.build_sides.specs.FoldedRows.{FoldedRow};
 ghost use Rattle.build_sides.specs.GroupSides.{Folds, funcs_of, rows_in};
-ghost use Rattle.pipe_ops.specs.Inputs.{AreInputs, IsAccOf, stage_in, total_in};
+ghost use Rattle.pipe_ops.specs.Inputs.{AreInputs, stage_in, total_in};
 ghost use Rattle.pipe_ops.specs.Merging.{rows_among};
-ghost use Rattle.pipe_ops.specs.StageResults.{HasRoomForRange};
+ghost use Rattle.pipe_ops.specs.StageResults.{Extends, HasRoomForRange};
 ghost use Rattle.pipe_ops.specs.declared.acc.Acc.TheVariants.{Merge};
 
 use crate::inputs::Inputs;
@@ -27,9 +27,8 @@ pub(crate) fn merge_tuples(
     requires order { from ≤ to }
     requires within { to ≤ total_in inputs.now }
     requires room { HasRoomForRange inputs.now from to (Merge side.old) }
-    ensures { OnOk result ((done : Tuples) → AreDisjoint done (range_of from to)
-        → IsAccOf inputs.now done (Merge side.old)
-        → IsAccOf inputs.now (union done (range_of from to)) (Merge side.new)) }
+    ensures { OnOk result
+        (Extends inputs.now (range_of from to) (Merge side.old) (Merge side.new)) }
 {
     let tables = inputs.tables();
     let places = inputs.places();
@@ -37,7 +36,8 @@ pub(crate) fn merge_tuples(
     merge_range(inputs.parts(), from, to, side)
 }
 
-// Adds the groups of a range of parts of these sides, at most 2^60 rows in all.
+// Adds the groups of a range of parts of these sides. The sums are exact if the sides fold at most
+// 2^60 rows in all, and `side` at most as many before.
 fn merge_range(
     parts: &[GroupSide],
     from: u32,

@@ -5,12 +5,11 @@ ghost use Rattle.std.specs.Cmp.Lexicographic.{slice_cmp};
 ghost use Rattle.std.specs.Ordering.{int_cmp, is_lt};
 ghost use Rattle.plan_ast.specs.Bounds.{IsWithin};
 ghost use Rattle.build_sides.specs.Numbered.{AreDistinct};
-ghost use Rattle.pipe_ops.specs.Grouping.{group_in};
 ghost use Rattle.pipe_ops.specs.Merging.{HasDistinctGroups, group_at, groups_in, held_groups};
 ghost use Rattle.pipe_ops.specs.Merging.{key_values};
 
 use crate::acc::Acc;
-use crate::groups::{Entry, as_groups, sort_by_key};
+use crate::groups::sort_by_key;
 use build_sides::{GroupSide, Key};
 use col_table::ListOf;
 use plan_ast::Group;
@@ -30,23 +29,22 @@ pub(crate) fn merged_groups(
         IsSortedBy (λ one other. is_lt (slice_cmp int_cmp one.key other.key)) groups.items) }
     ensures distinct { IfOk result (λ _. All HasDistinctGroups accs.items) }
 {
-    let mut entries = all_groups(alloc, width, accs.as_slice())?;
-    sort_by_key(&mut entries);
-    as_groups(alloc, entries)
+    let mut groups = all_groups(alloc, width, accs.as_slice())?;
+    sort_by_key(&mut groups);
+    Ok(groups)
 }
 
 // The groups of all accumulators.
-fn all_groups(alloc: Global, width: usize, accs: &[Acc]) -> Result<Vec<Entry>, AllocError>
+fn all_groups(alloc: Global, width: usize, accs: &[Acc]) -> Result<Vec<Group>, AllocError>
     requires width { IsWithin 1 2 width }
-    ensures groups { IfOk result (λ entries.
-        map group_in entries.items ≡ flat_map (held_groups width) accs.now) }
+    ensures groups { IfOk result (λ groups. groups.items ≡ flat_map (held_groups width) accs.now) }
     ensures distinct { IfOk result (λ _. All HasDistinctGroups accs.now) }
 {
-    let mut entries = Vec::new(alloc);
+    let mut groups = Vec::new(alloc);
     for acc in accs {
-        add_groups(alloc, width, acc, &mut entries)?;
+        add_groups(alloc, width, acc, &mut groups)?;
     }
-    Ok(entries)
+    Ok(groups)
 }
 
 // Adds the groups of an accumulator.
@@ -54,48 +52,35 @@ fn add_groups(
     alloc: Global,
     width: usize,
     acc: &Acc,
-    entries: &mut Vec<Entry>,
+    groups: &mut Vec<Group>,
 ) -> Result<(), AllocError>
     requires width { IsWithin 1 2 width }
-    ensures groups { OnOk result (map group_in entries.new.items
-        ≡ map group_in entries.old.items ++ held_groups width acc.now) }
+    ensures groups { OnOk result
+        (groups.new.items ≡ groups.old.items ++ held_groups width acc.now) }
     ensures distinct { OnOk result (HasDistinctGroups acc.now) }
 {
     match acc {
-        Acc::Merge(side) => add_entries(alloc, width, side, entries),
+        Acc::Merge(side) => {
+            groups.reserve(side.len())?;
+            for number in 0..side.len() {
+                groups.push(group_of(alloc, width, side, number)?)?;
+            }
+            Ok(())
+        }
         _ => Ok(()),
     }
 }
 
-// Adds the groups of a side.
-fn add_entries(
-    alloc: Global,
-    width: usize,
-    side: &GroupSide,
-    entries: &mut Vec<Entry>,
-) -> Result<(), AllocError>
-    requires width { IsWithin 1 2 width }
-    ensures groups { OnOk result (map group_in entries.new.items
-        ≡ map group_in entries.old.items ++ groups_in width side.now) }
-    ensures distinct { OnOk result (AreDistinct side.now.keys) }
-{
-    entries.reserve(side.len())?;
-    for number in 0..side.len() {
-        entries.push(entry_of(alloc, width, side, number)?)?;
-    }
-    Ok(())
-}
-
 // The group of a side with this number.
-fn entry_of(
+fn group_of(
     alloc: Global,
     width: usize,
     side: &GroupSide,
     number: usize,
-) -> Result<Entry, AllocError>
+) -> Result<Group, AllocError>
     requires width { IsWithin 1 2 width }
     requires number { number < length side.now.keys }
-    ensures group { IfOk result (λ entry. group_in entry ≡ group_at width side.now number) }
+    ensures group { IfOk result (λ group. group ≡ group_at width side.now number) }
     ensures distinct { IfOk result (λ _. AreDistinct side.now.keys) }
 {
     let key = values_of_key(alloc, width, side.key(number))?;
@@ -103,7 +88,10 @@ fn entry_of(
     for place in 0..side.aggregates() {
         totals.push(side.total(number, place))?;
     }
-    Ok(Entry { key, totals })
+    Ok(Group {
+        key,
+        values: ListOf::of(totals),
+    })
 }
 
 // The one or two values of a key.

@@ -175,40 +175,45 @@ fn folds_totals(rt: HostRuntime) -> Result<(), Fail> {
     Ok(())
 }
 
-#[test]
-fn joins_tables(rt: HostRuntime) -> Result<(), Fail> {
+// How many rows the join of `t` and `u` on `k` has, and the sum of their `w`.
+fn joined_totals(
+    rt: &(impl Abort + AllocGlobal),
+    t: &[&[i64]],
+    u: &[&[i64]],
+) -> Result<(u64, i128), Fail> {
     let alloc = rt.alloc();
-    let t = table(&rt, "t", &["k", "v"], &[&[1, 10], &[1, 20], &[2, 5]])?;
-    let u = table(&rt, "u", &["k", "w"], &[&[1, 7], &[2, 8]])?;
+    let t = table(rt, "t", &["k", "v"], t)?;
+    let u = table(rt, "u", &["k", "w"], u)?;
     let tables = vec![in alloc; t, u]?;
-    let joins = vec![in alloc; join(&rt)?]?;
-    let aggs = vec![in alloc; agg(&rt, Func::Count)?, joined_agg(&rt, Func::Sum, "w")?]?;
+    let joins = vec![in alloc; join(rt)?]?;
+    let aggs = vec![in alloc; agg(rt, Func::Count)?, joined_agg(rt, Func::Sum, "w")?]?;
     let output = Output::Totals(ListOf::of(aggs));
-    let answer = answer_over(&rt, tables.as_slice(), Vec::new(alloc), joins, output)?;
+    let answer = answer_over(rt, tables.as_slice(), Vec::new(alloc), joins, output)?;
     let Answer::Totals(totals) = answer else {
         return Err("totals".into());
     };
-    let expected = matches!(totals.as_slice(), [AggValue::Count(3), AggValue::Sum(22)]);
-    assert!(rt; expected);
+    let [AggValue::Count(count), AggValue::Sum(sum)] = totals.as_slice() else {
+        return Err("a count and a sum".into());
+    };
+    Ok((*count, *sum))
+}
+
+#[test]
+fn joins_tables(rt: HostRuntime) -> Result<(), Fail> {
+    let t: [&[i64]; 3] = [&[1, 10], &[1, 20], &[2, 5]];
+    let (count, sum) = joined_totals(&rt, &t, &[&[1, 7], &[2, 8]])?;
+    assert_eq!(rt; count, 3);
+    assert_eq!(rt; sum, 22);
     Ok(())
 }
 
 // Each of three rows joins each of three.
 #[test]
 fn joins_rows_of_equal_keys(rt: HostRuntime) -> Result<(), Fail> {
-    let alloc = rt.alloc();
-    let t = table(&rt, "t", &["k", "v"], &[&[1, 10], &[1, 20], &[1, 30]])?;
-    let u = table(&rt, "u", &["k", "w"], &[&[1, 5], &[1, 6], &[1, 7]])?;
-    let tables = vec![in alloc; t, u]?;
-    let joins = vec![in alloc; join(&rt)?]?;
-    let aggs = vec![in alloc; agg(&rt, Func::Count)?, joined_agg(&rt, Func::Sum, "w")?]?;
-    let output = Output::Totals(ListOf::of(aggs));
-    let answer = answer_over(&rt, tables.as_slice(), Vec::new(alloc), joins, output)?;
-    let Answer::Totals(totals) = answer else {
-        return Err("totals".into());
-    };
-    let expected = matches!(totals.as_slice(), [AggValue::Count(9), AggValue::Sum(54)]);
-    assert!(rt; expected);
+    let t: [&[i64]; 3] = [&[1, 10], &[1, 20], &[1, 30]];
+    let (count, sum) = joined_totals(&rt, &t, &[&[1, 5], &[1, 6], &[1, 7]])?;
+    assert_eq!(rt; count, 9);
+    assert_eq!(rt; sum, 54);
     Ok(())
 }
 

@@ -1,5 +1,7 @@
 pub mod AnswerLemmas
 pub mod BuildLemmas
+pub mod ChunkLemmas
+pub mod ColumnsLemmas
 pub mod CoverLemmas
 pub mod EmptyLemmas
 pub mod FoldingLemmas
@@ -8,6 +10,7 @@ pub mod HoldsLemmas
 pub mod InputsLemmas
 pub mod JoinRowLemmas
 pub mod JoiningLemmas
+pub mod MatchLemmas
 pub mod MembersLemmas
 pub mod MergeGroupsLemmas
 pub mod MergeLemmas
@@ -20,6 +23,7 @@ pub mod RowsLemmas
 pub mod ScanInputsLemmas
 pub mod ScanLemmas
 pub mod ScanTuplesLemmas
+pub mod SelectionLemmas
 pub mod SharesLemmas
 pub mod SideJoinLemmas
 pub mod StageRangeLemmas

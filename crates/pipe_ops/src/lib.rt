@@ -14,10 +14,12 @@
 mod acc;
 mod aggregates;
 mod builds;
+mod columns;
 mod groups;
 mod inputs;
 mod joins;
 mod laws;
+mod matches;
 mod merge_ranges;
 mod merge_stage;
 mod merged_groups;
@@ -27,6 +29,7 @@ mod plain;
 mod results;
 mod rows;
 mod scans;
+mod selection;
 mod stages;
 mod takes;
 

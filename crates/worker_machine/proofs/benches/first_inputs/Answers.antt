@@ -14,10 +14,10 @@ returns-clause-first c =
     let low : (STAGES * c.args.q) / STAGES ≡ c.args.q = omega arith in
     let zero : (STAGES * c.args.q) % STAGES ≡ 0 = omega arith in
     subst (AreInputsOf c.args.plan.now (STAGES * c.args.q)) (sym arc) (record {
-      tables = ap (λ (v : _). v.items) (ap arc_value c.in_ok-inputs.ensures.tables ∙ c.in_ok-tables.ensures);
+      tables = c.in_ok-inputs.ensures.tables ∙ ap (λ (v : _). v.items) c.in_ok-tables.ensures;
       query = ap (slice_get (checked_of c.args.plan.now)) low ∙ slice_get-map arc_value c.args.plan.now.queries.items c.args.q ∙ ap
           (option_map arc_value) c.query.ensures.query
-          ∙ ap Some (sym (ap arc_value c.in_ok-inputs.ensures.checked ∙ c.in_ok-checked.ensures));
+          ∙ ap Some (sym (c.in_ok-inputs.ensures.checked ∙ c.in_ok-checked.ensures));
       stage = c.in_ok-inputs.ensures.first ∙ sym zero;
     })
 

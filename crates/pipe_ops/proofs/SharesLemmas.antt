@@ -1,9 +1,9 @@
 -- Three accumulators that share the tuples of a stage, cut at two of them.
-use Rattle.std.proofs.Common.{◌≡◌, ℕ, ◌<◌, ◌≤◌, List, [], ◌∷◌, ◌++◌, ◌&&◌, ◌||◌, Bool, true, false, refl, sym, ap, ◌∙◌, subst, inl, inr, arith}
+use Rattle.std.proofs.Common.{◌≡◌, ℕ, ◌<◌, ◌≤◌, List, [], ◌∷◌, ◌&&◌, ◌||◌, true, false, refl, sym, subst, inl, inr, arith}
 use Rattle.std.proofs.lemmas.Bool.{cases_lt, le-leb, le-ltb, lt-leb, lt-ltb}
 use Rattle.std.proofs.Math.Bool.{and-false}
 use Rattle.std.proofs.Math.Dec.{leb, ltb}
-use Rattle.plan_ast.specs.Folds.{AreDisjoint, Tuples, no_tuples, range_of, union}
+use Rattle.plan_ast.specs.Folds.{Tuples, no_tuples, range_of, union}
 use Rattle.plan_ast.specs.Answer.{answer_of}
 use Rattle.plan_ast.specs.Stages.{Stage, builds, merges, scans}
 use Rattle.plan_ast.specs.declared.answers.Answer.{Answer}

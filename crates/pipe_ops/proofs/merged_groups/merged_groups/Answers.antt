@@ -1,6 +1,5 @@
-use Rattle.std.proofs.Common.{flat_map, subst}
+use Rattle.std.proofs.Common.{subst}
 use Rattle.std.specs.List.Sorted.{IsPermutation}
-use Rattle.pipe_ops.specs.Merging.{held_groups}
 use Rattle.pipe_ops.proofs.merged_groups.merged_groups.Goals as goal
 
 pub returns-clause-moved : goal.returns-clause-moved

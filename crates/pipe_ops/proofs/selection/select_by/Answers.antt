@@ -1,4 +1,4 @@
-use Rattle.std.proofs.Common.{ℕ, ℤ, List, filter, ap, ◌∙◌, rules, w64}
+use Rattle.std.proofs.Common.{ℤ, List, filter, ap, ◌∙◌, rules, w64}
 use Rattle.std.proofs.lemmas.Int.{to_z-of_z}
 use mir.Val.{SFits}
 use Rattle.pipe_ops.specs.Selection.{compares_at}

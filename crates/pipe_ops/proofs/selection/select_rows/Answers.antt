@@ -1,4 +1,4 @@
-use Rattle.std.proofs.Common.{◌<◌, ◌≤◌, ℕ, Bool, List, All, filter, length, refl, sym, take, ap, ◌∙◌, subst, rules, arith}
+use Rattle.std.proofs.Common.{◌<◌, ℕ, Bool, List, All, filter, length, refl, sym, take, ap, ◌∙◌, subst, rules}
 use Rattle.std.proofs.lemmas.List.{nil_from_length}
 use Rattle.std.proofs.lemmas.List.Elements.{All-filter}
 use Rattle.plan_ast.specs.declared.places.FilterAt.{FilterAt}

@@ -1,4 +1,4 @@
-use Rattle.std.proofs.Common.{◌≡◌, ◌+◌, ◌<◌, ℕ, ℤ, Bool, [], ◌∷◌, ◌++◌, cond, filter, length, get_or, pos, refl, set, sym, take, ap, ◌∙◌, subst, rules}
+use Rattle.std.proofs.Common.{◌≡◌, ◌+◌, ◌<◌, ℕ, ℤ, Bool, [], ◌∷◌, ◌++◌, cond, filter, length, get_or, pos, set, sym, take, ap, ◌∙◌, subst, rules}
 use Rattle.std.proofs.Common.{arith, w64, to_z, of_z}
 use Rattle.std.proofs.lemmas.Grind.{drop_more_same}
 use Rattle.std.proofs.lemmas.Int.{to_z-of_z}

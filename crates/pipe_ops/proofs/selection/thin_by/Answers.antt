@@ -1,8 +1,6 @@
-use Rattle.std.proofs.Common.{◌<◌, ℕ, ℤ, List, All, filter, length, take, ap, ◌∙◌, sym, subst, rules, w64}
+use Rattle.std.proofs.Common.{ℤ, List, filter, take, ap, ◌∙◌, rules, w64}
 use Rattle.std.proofs.lemmas.Int.{to_z-of_z}
-use Rattle.std.proofs.lemmas.List.{length-map}
 use mir.Val.{SFits}
-use Rattle.col_table.specs.NamedRows.{column_of, value_in}
 use Rattle.pipe_ops.specs.Selection.{compares_at}
 use Rattle.pipe_ops.proofs.SelectionLemmas.{passes_one}
 use Rattle.pipe_ops.proofs.selection.thin_by.Goals as goal

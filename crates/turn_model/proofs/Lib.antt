@@ -2,7 +2,7 @@ pub mod OwnMoves
 pub mod Fitting
 pub mod PointsSay
 pub mod LetIn
-mod Activity
+pub mod Activity
 pub mod Keeping
-mod Measure
+pub mod Measure
 mod Deciding

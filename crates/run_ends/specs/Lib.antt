@@ -1,0 +1,2 @@
+pub mod OrdersDrive
+pub mod Ends

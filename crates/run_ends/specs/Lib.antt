@@ -1,2 +1,0 @@
-pub mod OrdersDrive
-pub mod Ends

@@ -1,0 +1,22 @@
+pub mod OrdersDrive
+mod Made
+mod PointsStand
+mod Least
+mod Serving
+mod Fits
+pub mod Account
+mod Numbers
+mod Alone
+mod Turns
+mod Releases
+pub mod EndsWell
+pub mod Completes
+pub mod RecordsStay
+pub mod Counting
+pub mod SharesTell
+mod Tallies
+mod EndingsTell
+mod Pigeons
+pub mod Amounts
+mod Lists
+pub mod SharesMerge

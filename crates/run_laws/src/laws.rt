@@ -1,0 +1,56 @@
+//! Laws of runs on one thread. A function here does nothing; its contract is the law.
+ghost use Rattle.run_laws.specs.OrdersDrive.{TurnsDrive, MovesDrive};
+ghost use Rattle.run_laws.specs.Ends.{IsAccounted, EndedAreFree, TurnsEndWell};
+ghost use Rattle.run_laws.specs.Ends.{LeftIsLow, TurnsFallAsOne};
+ghost use Rattle.run_laws.specs.Completes.{OverIsDone, StagesBefore};
+ghost use Rattle.run_laws.specs.Shares.{SharesAreOfRanges, CountsAreSmall, SharesAreMerged};
+ghost use Rattle.run_laws.specs.Endings.{RecordsStay};
+
+/// In a run by an order, by whole turns or by single moves, every worker makes the moves that are
+/// its to make.
+pub fn orders_drive()
+    ensures turns { TurnsDrive }
+    ensures moves { MovesDrive }
+{}
+
+/// After every run of moves that workers make, the number of task sets noted as done is the sum
+/// over the admitted queries of those done of each.
+pub fn accounted()
+    ensures { IsAccounted }
+{}
+
+/// A whole turn that a worker makes while all workers are free is never idle. It acts and lowers
+/// the five numbers, or it ends with `Over`. Then all workers are free again, as they are whenever
+/// no turn is under way.
+pub fn turns_end_well()
+    ensures turns { TurnsEndWell }
+    ensures free { EndedAreFree }
+{}
+
+/// The numbers are low after every legal history, so that they count as one number. A turn of a
+/// worker that is not over lowers this number.
+pub fn turns_fall()
+    ensures low { LeftIsLow }
+    ensures one { TurnsFallAsOne }
+{}
+
+/// Once every worker is over, all queries were admitted and the slot of each was released once. All
+/// task sets were noted as done, and each that was installed was finalised. If a task set was
+/// finalised, so were those of the stages before it.
+pub fn over_is_done()
+    ensures done { OverIsDone }
+    ensures stages { StagesBefore }
+{}
+
+/// Shares that are counted range by range are those that a report has to have, if their counts fit.
+/// In a run they do. The shares of all workers, worker by worker, are those of the run.
+pub fn shares_are_of_ranges()
+    ensures one { SharesAreOfRanges }
+    ensures small { CountsAreSmall }
+    ensures all { SharesAreMerged }
+{}
+
+/// The record of a task set that was finalised stays right, whatever is called after it.
+pub fn records_stay()
+    ensures { RecordsStay }
+{}

@@ -1,5 +1,5 @@
 -- What is known at each moment of a turn that a worker makes while all workers are free.
-use Rattle.std.proofs.Common.{◌≡◌, ◌≢◌, ◌⊎◌, ⊎_elim, ℕ, ◌+◌, ◌/◌, ◌<◌, ◌≤◌, Bool, true, false, ◌&&◌, ltb, leb}
+use Rattle.std.proofs.Common.{◌≡◌, ◌⊎◌, ⊎_elim, ℕ, ◌+◌, ◌/◌, ◌<◌, ◌≤◌, Bool, true, false, ◌&&◌, ltb, leb}
 use Rattle.std.proofs.Common.{List, [], ◌∷◌, ◌++◌, Some, None, refl, sym, ap, ◌∙◌, subst, arith}
 use Rattle.std.specs.Prelude.{fold}
 use Rattle.std.proofs.lemmas.Bool.{true≢false, cases_lt, and_cases, ltb-false, leb-false}
@@ -12,7 +12,6 @@ use Rattle.slot_history.specs.States.{SlotState, Empty, ObjectState, is_empty, i
 use Rattle.slot_history.specs.Steps.{site, slot_after, next, state_after}
 use Rattle.slot_history.specs.Histories.{IsLegal, entry}
 use Rattle.slot_history.specs.Notices.{IsQuiet, take_of}
-use Rattle.slot_history.specs.Lives.{query_in}
 use Rattle.slot_history.specs.Bounds.{IsShape, IsWithin}
 use Rattle.slot_history.specs.LoneTurns.{AreTakes, Took}
 use Rattle.slot_history.proofs.Sets.{upd-cases}

@@ -1,17 +1,17 @@
 -- The ranges of a worker are not many: their number, their tuples and their times fit a share.
-use Rattle.std.proofs.Common.{◌≡◌, ◌≢◌, ◌⊎◌, inl, inr, ⊎_elim, ℕ, zero, suc, ◌+◌, ◌-◌, ◌*◌, ◌/◌, ◌^◌, ◌<◌, ◌≤◌, Bool, true, false, cond, eqb}
-use Rattle.std.proofs.Common.{List, [], ◌∷◌, ◌++◌, length, length-append, Option, Some, refl, sym, ap, ◌∙◌, subst, eq-eqb, ne_eqb, arith}
+use Rattle.std.proofs.Common.{◌≡◌, ℕ, ◌+◌, ◌-◌, ◌*◌, ◌^◌, ◌<◌, ◌≤◌, Bool, true, false, cond, eqb}
+use Rattle.std.proofs.Common.{List, [], ◌∷◌, ◌++◌, length, length-append, refl, sym, ap, ◌∙◌, subst, eq-eqb, ne_eqb, arith}
 use Rattle.std.specs.Prelude.{min, sum, unwrap_or}
-use Rattle.std.proofs.lemmas.Bool.{cond_both, true≢false}
+use Rattle.std.proofs.lemmas.Bool.{cond_both}
 use Rattle.slot_history.specs.declared.shape.Shape.{Shape}
-use Rattle.slot_history.specs.declared.shape.TheConstants.{STAGES, MOST_TOTAL, MOST_QUERIES}
+use Rattle.slot_history.specs.declared.shape.TheConstants.{STAGES, MOST_TOTAL}
 use Rattle.slot_history.specs.declared.act.Act.{Act}
 use Rattle.slot_history.specs.declared.act.Act.TheVariants.{ClaimRange, ReserveGot, AdmitGot, NoteDone, SetTotal, Install, Release}
 use Rattle.slot_history.specs.declared.act.Entry.{Entry}
 use Rattle.slot_history.specs.declared.place.Place.{Place}
 use Rattle.slot_history.specs.Sets.{sum_below}
-use Rattle.slot_history.specs.States.{SlotState, Empty, Reserved, Open, Shut, Finishing, TaskSet, ObjectState, slot_of, task_of, is_empty}
-use Rattle.slot_history.specs.Steps.{site, slot_after, claimed, shut_by, finalised_by, ended, held_on, opened, next, state_after}
+use Rattle.slot_history.specs.States.{SlotState, Empty, Reserved, Open, Shut, Finishing, ObjectState, slot_of, task_of}
+use Rattle.slot_history.specs.Steps.{site, slot_after, claimed, finalised_by, held_on, opened, next, state_after}
 use Rattle.slot_history.specs.Allowed.{IsAllowed}
 use Rattle.slot_history.specs.Histories.{IsLegal, place_of, is_install, installs_of}
 use Rattle.slot_history.specs.Numbers.{named_id}
@@ -26,11 +26,10 @@ use Rattle.slot_station.specs.Desks.{Desk}
 use Rattle.turn_model.specs.Workloads.{Workload}
 use Rattle.turn_model.specs.Moves.{Move, Made, Exchanged}
 use Rattle.turn_model.specs.Learned.{query_by, time_in}
-use Rattle.turn_model.specs.Runs.{Run, desk_at}
+use Rattle.turn_model.specs.Runs.{desk_at}
 use Rattle.turn_model.specs.Measure.{unclaimed}
 use Rattle.turn_model.specs.Reports.{tuples_by}
-use Rattle.run_laws.specs.Ends.{IsPlayed}
-use Rattle.run_laws.specs.Shares.{CountsFit, AreShort, CountsAreSmall}
+use Rattle.run_laws.specs.Shares.{AreShort, CountsAreSmall}
 use Rattle.run_laws.proofs.Least.{sum-equal, sum-turns, sum-bounded, sum-member}
 use Rattle.run_laws.proofs.Numbers.{left_at, left-empty, left-shut, left-ended}
 use Rattle.run_laws.proofs.SharesTell.{sum-push}

@@ -1,8 +1,8 @@
 -- Once every worker is over, all is done.
-use Rattle.std.proofs.Common.{◌≡◌, ◌≢◌, ◌⊎◌, inl, inr, ⊎_elim, ℕ, zero, suc, ◌+◌, ◌-◌, ◌*◌, ◌/◌, ◌%◌, ◌<◌, ◌≤◌, Bool, true, false, cond, ltb}
-use Rattle.std.proofs.Common.{List, [], ◌∷◌, ◌++◌, Option, Some, None, refl, sym, ap, ◌∙◌, subst, arith}
+use Rattle.std.proofs.Common.{◌≡◌, ◌≢◌, ⊎_elim, ℕ, zero, suc, ◌+◌, ◌-◌, ◌/◌, ◌%◌, ◌<◌, ◌≤◌, Bool, true, false, cond, ltb}
+use Rattle.std.proofs.Common.{List, [], ◌∷◌, Option, Some, None, refl, sym, ap, ◌∙◌, subst, arith}
 use Rattle.std.specs.Prelude.{unwrap_or, IsSome}
-use Rattle.std.proofs.lemmas.Bool.{true≢false, cond_both, cases_lt, ltb-false}
+use Rattle.std.proofs.lemmas.Bool.{true≢false, cases_lt, ltb-false}
 use mathlib.Core.Logic.{dite}
 use native.Mathlib.Decide.{ℕ_discrete}
 use Rattle.slot_history.specs.declared.shape.Shape.{Shape}
@@ -17,10 +17,10 @@ use Rattle.slot_history.specs.declared.place.Place.{Place}
 use Rattle.slot_history.specs.declared.place.Place.TheVariants.{Asking, Announcing}
 use Rattle.slot_history.specs.Sets.{sum_below}
 use Rattle.slot_history.specs.States.{SlotState, Empty, Open, ObjectState, held_at, is_empty, is_open}
-use Rattle.slot_history.specs.Steps.{moved, next, state_after, finished_after}
+use Rattle.slot_history.specs.Steps.{moved, state_after, finished_after}
 use Rattle.slot_history.specs.Allowed.{IsAllowed}
-use Rattle.slot_history.specs.Histories.{IsLegal, entry, own_calls, installs_of, lasts_of, slot_with}
-use Rattle.slot_history.specs.Lives.{query_in, has_task, Book, book_of, IsSlotBook, Life, Never, Runs, Done, life_of, tally_of, Counts}
+use Rattle.slot_history.specs.Histories.{IsLegal, own_calls, installs_of, lasts_of, slot_with}
+use Rattle.slot_history.specs.Lives.{query_in, has_task, book_of, IsSlotBook, Life, Never, Runs, Done, life_of, tally_of, Counts}
 use Rattle.slot_history.specs.Notices.{IsQuiet}
 use Rattle.slot_history.proofs.Own.{own-mine, own-other}
 use Rattle.slot_history.proofs.Sets.{some-unwrapped}
@@ -34,7 +34,7 @@ use Rattle.slot_history.proofs.Looks.{stage-before}
 use Rattle.stride_set.specs.Strides.{choice_of}
 use Rattle.slot_station.specs.Desks.{Desk}
 use Rattle.turn_model.specs.declared.turn.Turn.{Turn}
-use Rattle.turn_model.specs.declared.turn.Turn.TheVariants.{Acted, Idle, Over}
+use Rattle.turn_model.specs.declared.turn.Turn.TheVariants.{Idle, Over}
 use Rattle.turn_model.specs.Workloads.{Workload, sets_of}
 use Rattle.turn_model.specs.Moves.{Move, Made, Exchanged, entries}
 use Rattle.turn_model.specs.Learned as learned
@@ -42,17 +42,16 @@ use Rattle.turn_model.specs.Learned.{place_by, lets_in, finished_by, strides_by}
 use Rattle.turn_model.specs.Points.{Point, Ready, Return, Change, Count, Arrive, Scan, Admit, Fill, Opens, Tells, FreeIt, Enters, Look, Early, Take, Claim}
 use Rattle.turn_model.specs.Points.{Shut as Shuts, Back, Leave, Ask, Sweep, Pay, Fetch, ended_as, picked, asked, told, is_due, goes_on, after, exchanged, point_by, has_ended}
 use Rattle.turn_model.specs.Driven.{MayCall, MayExchange, AreDriven}
-use Rattle.turn_model.specs.Runs.{Run, desk_at}
-use Rattle.turn_model.specs.Orders.{AllOver}
+use Rattle.turn_model.specs.Runs.{desk_at}
 use Rattle.turn_model.specs.Measure.{done_in, done_of, IsAccount}
-use Rattle.run_laws.specs.Ends.{IsWork, IsPlayed}
+use Rattle.run_laws.specs.Ends.{IsWork}
 use Rattle.run_laws.specs.Completes.{releases_of, OverIsDone, StagesBefore}
 use Rattle.run_laws.proofs.Least.{sum-most, sum-longer, sum-less}
 use Rattle.run_laws.proofs.Made.{AreMade, played-made}
 use Rattle.run_laws.proofs.Serving.{empty-query, served}
-use Rattle.run_laws.proofs.Fits.{Fits, fits-done}
-use Rattle.run_laws.proofs.Account.{counted, within-fits}
-use Rattle.run_laws.proofs.Alone.{all-done, all-empty, finished-low, open-low}
+use Rattle.run_laws.proofs.Fits.{Fits}
+use Rattle.run_laws.proofs.Account.{counted}
+use Rattle.run_laws.proofs.Alone.{all-empty, finished-low, open-low}
 use Rattle.run_laws.proofs.Releases.{released, serves, serves-none}
 use Rattle.run_laws.proofs.EndsWell.{ended-are-free}
 

@@ -1,9 +1,8 @@
 -- The holdings that a worker ended are those that it released, and the task sets that it gathered are those that it finalised.
-use Rattle.std.proofs.Common.{◌≡◌, ◌≢◌, ◌⊎◌, inl, inr, ⊎_elim, ℕ, suc, ◌+◌, ◌*◌, ◌/◌, ◌%◌, ◌<◌, ◌≤◌, Bool, true, false, ◌&&◌, cond, eqb, ltb}
-use Rattle.std.proofs.Common.{List, [], ◌∷◌, Option, Some, None, refl, sym, ap, ap₂, ◌∙◌, subst, lt-ltb, le-ltb, arith}
+use Rattle.std.proofs.Common.{◌≡◌, ℕ, ◌+◌, ◌/◌, ◌<◌, Bool, true, false, ◌&&◌, cond, eqb, ltb}
+use Rattle.std.proofs.Common.{List, [], ◌∷◌, Option, Some, None, refl, sym, ap, ap₂, ◌∙◌, lt-ltb, le-ltb, arith}
 use Rattle.std.specs.Prelude.{IsSome, is_some}
-use Rattle.std.proofs.lemmas.Bool.{true≢false, cond_both, eqb-true, eqb-false, ltb-true}
-use Rattle.slot_history.specs.declared.shape.Shape.{Shape}
+use Rattle.std.proofs.lemmas.Bool.{true≢false, cond_both, eqb-true, eqb-false}
 use Rattle.slot_history.specs.declared.shape.TheConstants.{STAGES, PARTS}
 use Rattle.slot_history.specs.declared.act.Act.{Act}
 use Rattle.slot_history.specs.declared.act.Act.TheVariants.{Enter, LookOpen, LookInvalid, LookVacant, ClaimRange, ClaimUsed, ShutWon, ShutLost, LeaveLeft}
@@ -14,7 +13,7 @@ use Rattle.slot_history.specs.declared.place.Held.{Held}
 use Rattle.slot_history.specs.declared.place.Place.{Place}
 use Rattle.slot_history.specs.declared.place.Place.TheVariants.{Asking, Holding, Announcing}
 use Rattle.slot_history.specs.States.{slot_of, id_at, held_at, finalised_id, finalisation}
-use Rattle.slot_history.specs.Steps.{moved, held_after, holding_after}
+use Rattle.slot_history.specs.Steps.{moved, holding_after}
 use Rattle.slot_history.specs.Histories.{is_last}
 use Rattle.stride_set.specs.Strides.{choice_of}
 use Rattle.slot_station.specs.Desks.{Desk}
@@ -25,7 +24,7 @@ use Rattle.turn_model.specs.Moves.{Move, Made, Exchanged}
 use Rattle.turn_model.specs.Learned.{place_by, lets_in, strides_by, finished_by}
 use Rattle.turn_model.specs.Points.{Point, Ready, Return, Change, Count, Arrive, Scan, Admit, Fill, Opens, Tells, FreeIt, Enters, Look, Early, Take, Claim}
 use Rattle.turn_model.specs.Points.{Shut, Back, Leave, Ask, Sweep, Pay, Fetch, ended_as, picked, pick, asked, told, is_due, goes_on, after, exchanged, point_by}
-use Rattle.turn_model.specs.Driven.{MayCall, MayExchange, AreDriven, held_by}
+use Rattle.turn_model.specs.Driven.{MayCall, MayExchange, AreDriven}
 use Rattle.turn_model.specs.Measure.{is_query}
 use Rattle.run_laws.specs.Completes.{is_release}
 use Rattle.run_laws.specs.Endings.{ended_after, ended_by, gathered_after, gathered_by}

@@ -20,3 +20,7 @@ mod Pigeons
 pub mod Amounts
 mod Lists
 pub mod SharesMerge
+pub mod Rooms
+mod HeldLast
+mod Counted
+pub mod Reported

@@ -1,8 +1,8 @@
 -- Items of lists that are joined, and numbers that ascend along them.
-use Rattle.std.proofs.Common.{◌≡◌, ℕ, zero, suc, ◌+◌, ◌<◌, ◌≤◌, List, [], ◌∷◌, ◌++◌, length, Option, Some, slice_get, refl, sym, ap, ◌∙◌, subst, arith}
+use Rattle.std.proofs.Common.{◌≡◌, ℕ, zero, suc, ◌+◌, ◌<◌, ◌≤◌, List, [], ◌∷◌, ◌++◌, Some, slice_get, refl, sym, ap, subst, arith}
 use Rattle.std.specs.Prelude.{All, flat_map, unwrap_or}
 use Rattle.std.proofs.lemmas.List.Elements.{All-nil, All-append}
-use Rattle.std.proofs.lemmas.Option.{slice_get-get_or}
+use Rattle.std.proofs.lemmas.Option.{slice_get-get_or, slice_get_within, get_or_from_slice_get}
 use Rattle.turn_model.specs.Reports.{Ascend, Has}
 
 module _ {A : Type 0} where
@@ -12,6 +12,9 @@ module _ {A : Type 0} where
   -- what holds of each item, by its place
   pub all-of : (P : A → Type 0) (xs : List A) → ((i : ℕ) (x : A) → slice_get xs i ≡ Some x → P x) → All P xs
   all-of P xs each = λ i d low. each i _ (slice_get-get_or xs i d low)
+
+  pub all-at : (P : A → Type 0) (xs : List A) → All P xs → (i : ℕ) (x : A) → slice_get xs i ≡ Some x → P x
+  all-at P xs all i x got = subst P (get_or_from_slice_get xs i x x got) (all i x (slice_get_within xs i x got))
 
   module _ (P : A → Type 0) where
     pub has-left : (xs ys : List A) → Has P xs → Has P (xs ++ ys)

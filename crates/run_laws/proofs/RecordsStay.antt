@@ -1,14 +1,10 @@
 -- The record of a task set that was finalised stays right.
-use Rattle.std.proofs.Common.{◌≡◌, ℕ, ◌<◌, cond, List, [], refl, sym, ap, ◌∙◌, subst, arith}
+use Rattle.std.proofs.Common.{◌≡◌, ℕ, ◌<◌, cond, [], sym, ap, ◌∙◌, arith}
 use Rattle.std.specs.Prelude.{map, reverse}
-use Rattle.slot_history.specs.declared.shape.Shape.{Shape}
-use Rattle.slot_history.specs.declared.act.Entry.{Entry}
-use Rattle.slot_history.specs.Histories.{IsLegal, Begins, claims_of, lasts_of}
+use Rattle.slot_history.specs.Histories.{lasts_of}
 use Rattle.slot_history.proofs.TaskSetsKept.{task-sets-stay}
 use Rattle.slot_history.proofs.Finishers.{finisher-stays}
-use Rattle.report_text.specs.declared.report.Record.{Record}
-use Rattle.turn_model.specs.Workloads.{Workload}
-use Rattle.turn_model.specs.Reports.{IsRecordIn, id_of_record, as_claim}
+use Rattle.turn_model.specs.Reports.{id_of_record, as_claim}
 use Rattle.run_laws.specs.Endings.{RecordsStay}
 
 pub record-stays : RecordsStay

@@ -1,5 +1,5 @@
 -- The slot of each admitted query is released once, unless a slot still serves the query.
-use Rattle.std.proofs.Common.{◌≡◌, ◌≢◌, ◌⊎◌, inl, inr, ⊎_elim, ℕ, ◌+◌, ◌/◌, ◌<◌, ◌≤◌, true, false, ◌&&◌, cond, ltb, List, [], ◌∷◌}
+use Rattle.std.proofs.Common.{◌≡◌, ◌≢◌, ⊎_elim, ℕ, ◌+◌, ◌/◌, ◌<◌, ◌≤◌, false, ◌&&◌, cond, ltb, List, [], ◌∷◌}
 use Rattle.std.proofs.Common.{Option, Some, None, refl, sym, ap, ◌∙◌, subst, arith, lt-ltb, le-ltb}
 use mathlib.Core.Logic.{dite}
 use native.Mathlib.Decide.{ℕ_discrete}
@@ -9,10 +9,10 @@ use Rattle.slot_history.specs.declared.act.Act.{Act}
 use Rattle.slot_history.specs.declared.act.Act.TheVariants.{ReserveGot, AdmitGot, NoteDone, SetTotal, Install, Release}
 use Rattle.slot_history.specs.declared.act.Entry.{Entry}
 use Rattle.slot_history.specs.declared.place.Held.{Held}
-use Rattle.slot_history.specs.States.{SlotState, Empty, Reserved, ObjectState, slot_of, held_at, reservation}
-use Rattle.slot_history.specs.Steps.{site, slot_after, held_on, held_after, opened, next, state_after}
+use Rattle.slot_history.specs.States.{SlotState, Empty, Reserved, ObjectState, slot_of, held_at}
+use Rattle.slot_history.specs.Steps.{site, slot_after, held_on, opened, next, state_after}
 use Rattle.slot_history.specs.Allowed.{IsAllowed}
-use Rattle.slot_history.specs.Histories.{IsLegal, place_of}
+use Rattle.slot_history.specs.Histories.{IsLegal}
 use Rattle.slot_history.specs.Lives.{query_in, Book, book_of, IsBook}
 use Rattle.slot_history.specs.Bounds.{IsFinalisation, IsSlotSound, AreSlotsSound, IsWithin}
 use Rattle.slot_history.specs.Table.{IsTable}

@@ -1,8 +1,8 @@
 -- The shares of all workers, worker by worker, are those of the run.
-use Rattle.std.proofs.Common.{◌≡◌, ◌≢◌, ℕ, zero, suc, ◌+◌, ◌-◌, ◌*◌, ◌/◌, ◌<◌, ◌≤◌, Bool, true, false, cond, eqb, List, [], ◌∷◌, ◌++◌, length, length-append}
-use Rattle.std.proofs.Common.{Option, Some, slice_get, refl, sym, ap, ◌∙◌, subst, ne_eqb, arith}
+use Rattle.std.proofs.Common.{◌≡◌, ℕ, zero, suc, ◌+◌, ◌-◌, ◌*◌, ◌/◌, ◌<◌, ◌≤◌, Bool, true, false, cond, eqb, List, [], ◌∷◌, ◌++◌, length, length-append}
+use Rattle.std.proofs.Common.{Some, slice_get, refl, sym, ap, subst, ne_eqb, arith}
 use Rattle.std.specs.Prelude.{All, flat_map, get_or}
-use Rattle.std.proofs.lemmas.Bool.{cond_both, cases_lt}
+use Rattle.std.proofs.lemmas.Bool.{cases_lt}
 use Rattle.std.proofs.lemmas.List.Elements.{All-weaker}
 use Rattle.std.proofs.lemmas.Option.{slice_get-get_or, slice_get_within}
 use Rattle.std.proofs.Common.{⊎_elim}
@@ -25,7 +25,7 @@ use Rattle.turn_model.specs.Workloads.{Workload}
 use Rattle.turn_model.specs.Moves.{Move, Made, Exchanged}
 use Rattle.turn_model.specs.Learned.{query_by}
 use Rattle.turn_model.specs.Runs.{Run, desk_at}
-use Rattle.turn_model.specs.Reports.{Ascend, Has, IsShareOf, AreShares, number_of_share, tuples_by}
+use Rattle.turn_model.specs.Reports.{Ascend, IsShareOf, number_of_share, tuples_by}
 use Rattle.run_laws.specs.Ends.{IsPlayed}
 use Rattle.run_laws.specs.Shares.{AreSharesOf, SharesAreMerged}
 use Rattle.run_laws.proofs.Least.{sum-member}

@@ -1,12 +1,11 @@
 -- The report of a complete run, from what its workers tell.
-use Rattle.std.specs.Prelude.{◌≡◌, ℕ, ◌^◌, ◌<◌, ◌≤◌, List, [], ◌∷◌, length, flat_map, slice_get}
+use Rattle.std.specs.Prelude.{◌≡◌, ℕ, ◌<◌, ◌≤◌, List, length, flat_map, slice_get}
 use Rattle.std.specs.Prelude.{Some, None, IsPermutation, IsSortedByKey}
 use Rattle.std.specs.Ordering.{nat_cmp}
 use Rattle.slot_history.specs.declared.shape.Shape.{Shape}
 use Rattle.report_text.specs.declared.replies.QueryReply.{QueryReply}
 use Rattle.report_text.specs.declared.report.Report.{Report}
 use Rattle.turn_model.specs.Workloads.{Workload}
-use Rattle.turn_model.specs.Moves.{Move, Made, Exchanged}
 use Rattle.turn_model.specs.Runs.{Run, desk_at}
 use Rattle.turn_model.specs.Orders.{AllOver}
 use Rattle.turn_model.specs.Reports.{AreGaps, IsReportOf, id_of_record}

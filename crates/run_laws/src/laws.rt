@@ -5,6 +5,7 @@ ghost use Rattle.run_laws.specs.Ends.{LeftIsLow, TurnsFallAsOne};
 ghost use Rattle.run_laws.specs.Completes.{OverIsDone, StagesBefore};
 ghost use Rattle.run_laws.specs.Shares.{SharesAreOfRanges, CountsAreSmall, SharesAreMerged};
 ghost use Rattle.run_laws.specs.Endings.{RecordsStay};
+ghost use Rattle.run_laws.specs.Merging.{RoomIsLeft, MergedIsReport};
 
 /// In a run by an order, by whole turns or by single moves, every worker makes the moves that are
 /// its to make.
@@ -53,4 +54,12 @@ pub fn shares_are_of_ranges()
 /// The record of a task set that was finalised stays right, whatever is called after it.
 pub fn records_stay()
     ensures { RecordsStay }
+{}
+
+/// The report of a complete run is what its workers told: exactly one reply to each query, one
+/// record of each task set that was finalised, one share of each worker and each query on which it
+/// worked, and one gap of each worker. Each worker had room for what it told.
+pub fn merged_is_report()
+    ensures room { RoomIsLeft }
+    ensures report { MergedIsReport }
 {}

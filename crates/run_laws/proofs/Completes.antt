@@ -40,14 +40,16 @@ use Rattle.turn_model.specs.Moves.{Move, Made, Exchanged, entries}
 use Rattle.turn_model.specs.Learned as learned
 use Rattle.turn_model.specs.Learned.{place_by, lets_in, finished_by, strides_by}
 use Rattle.turn_model.specs.Points.{Point, Ready, Return, Change, Count, Arrive, Scan, Admit, Fill, Opens, Tells, FreeIt, Enters, Look, Early, Take, Claim}
-use Rattle.turn_model.specs.Points.{Shut as Shuts, Back, Leave, Ask, Sweep, Pay, Fetch, ended_as, picked, asked, told, is_due, goes_on, after, exchanged, point_by, has_ended}
+use Rattle.turn_model.specs.Points.{Shut as Shuts, Back, Leave, Ask, Sweep, Pay, Fetch, ended_as, picked, asked, told, is_due, goes_on, after}
+use Rattle.turn_model.specs.Points.{exchanged, point_by, has_ended}
 use Rattle.turn_model.specs.Driven.{MayCall, MayExchange, AreDriven}
 use Rattle.turn_model.specs.Runs.{desk_at}
 use Rattle.turn_model.specs.Measure.{done_in, done_of, IsAccount}
 use Rattle.run_laws.specs.Ends.{IsWork}
 use Rattle.run_laws.specs.Completes.{releases_of, OverIsDone, StagesBefore}
 use Rattle.run_laws.proofs.Least.{sum-most, sum-longer, sum-less}
-use Rattle.run_laws.proofs.Made.{AreMade, played-made}
+use Rattle.run_laws.proofs.Numbers.{finished-grows}
+use Rattle.run_laws.proofs.Made.{first_of, rest_of, AreMade, played-made}
 use Rattle.run_laws.proofs.Serving.{empty-query, served}
 use Rattle.run_laws.proofs.Fits.{Fits}
 use Rattle.run_laws.proofs.Account.{counted}
@@ -142,23 +144,11 @@ module _ (D : Desk Workload) where
 
 -- ---- what it was told is no more than what is done
 
-finished-grows : (a : Act) (n : ℕ) → n ≤ finished_after a n
-finished-grows (NoteDone k) n = omega arith
-finished-grows _ n = omega arith
-
 told-less : (d : Shape) (S : ObjectState) (w : ℕ) (a : Act) (f : ℕ) → IsAllowed d S w a → f ≤ S.finished
     → learned.finished_after a f ≤ finished_after a S.finished
 told-less d S w (Finished n) f ok less = let is : n ≡ S.finished = ok in omega (arith, is)
 told-less d S w (NoteDone k) f ok less = omega (arith, less)
 told-less d S w _ f ok less = less
-
-abbrev first_of : Entry → List Entry → Entry
-first_of e [] = e
-first_of e (x ∷ xs) = x
-
-abbrev rest_of : List Entry → List Entry
-rest_of [] = []
-rest_of (x ∷ xs) = xs
 
 module _ (D : Desk Workload) where
   abbrev ToldLess : List Entry → List Move → Type 0
@@ -252,7 +242,8 @@ module _ (d : Shape) (load : Workload) (work : IsWork d load) (h : List Entry) (
   all-finished = let low = finished-low d load S account most in omega (arith, low, full)
 
   all-finalised : (id : ℕ) → 0 < installs_of id h → lasts_of d id h ≡ 1
-  all-finalised id some = finalised-by (life_of d id h) (installs_of id h) (lasts_of d id h) (tally_of d id h).total (tally_of d id h).slot (counts d h legal id)
+  all-finalised id some = finalised-by (life_of d id h) (installs_of id h) (lasts_of d id h) (tally_of d id h).total (tally_of d id h).slot
+      (counts d h legal id)
       (λ s n lives. no-task (S.slots s) (all-slots-empty s) ((book d h legal).runs id s n lives).0) some
 
   all-released : (q : ℕ) → q < d.queries → releases_of d q h ≡ 1

@@ -167,14 +167,6 @@ leads-ended n k x p from (s, held, at) = record {
       let g : 0 + r ≡ times_in id before + 0 = omega (arith, z, h) in g;
 }
 
--- a note after which the next task set is opened
-leads-opened : (n k : ℕ) (x : Point) (p r : Place) → IsPlain x → Leads n x (NoteDone k) p (Fill 0) r
-leads-opened n k x p r from = record {
-  ends = λ q j before h. let z : still_held q x p ≡ 0 = from.held q p in let g : ended_for q before ≡ 0 + j + 0 = omega (arith, z, h) in g;
-  gathers = λ id j before h. let z : still_spread n id x p ≡ 0 = from.spread n id p in
-      let g : 0 + j ≡ times_in id before + 0 = omega (arith, z, h) in g;
-}
-
 leads-released : (n : ℕ) (p : Place) (turn : Turn) (r : Place) → Leads n FreeIt Release p (Ready turn) r
 leads-released n p turn r = record {
   ends = λ q k before h.
@@ -225,22 +217,30 @@ module _ (D : Desk Workload) (some : 0 < D.shape.workers) where
       (record { held = λ q p. refl; spread = λ n id p. refl })
   call-leads ms (Return k) (TakeReturn part bits) m p =
       still ms (Return k) (TakeReturn part bits) (record { note = refl; release = refl; last = refl }) (record { held = λ q p. refl; spread = λ n id p. refl })
-      (plain-cond (ltb (k + 1) PARTS) (Return (k + 1)) (Change 0) (record { held = λ q p. refl; spread = λ n id p. refl }) (record { held = λ q p. refl; spread = λ n id p. refl }))
+      (plain-cond (ltb (k + 1) PARTS) (Return (k + 1)) (Change 0)
+      (record { held = λ q p. refl; spread = λ n id p. refl })
+      (record { held = λ q p. refl; spread = λ n id p. refl }))
   call-leads ms (Change k) (TakeChange part bits) m p =
       still ms (Change k) (TakeChange part bits) (record { note = refl; release = refl; last = refl }) (record { held = λ q p. refl; spread = λ n id p. refl })
-      (plain-cond (ltb (k + 1) PARTS) (Change (k + 1)) Count (record { held = λ q p. refl; spread = λ n id p. refl }) (record { held = λ q p. refl; spread = λ n id p. refl }))
+      (plain-cond (ltb (k + 1) PARTS) (Change (k + 1)) Count
+      (record { held = λ q p. refl; spread = λ n id p. refl })
+      (record { held = λ q p. refl; spread = λ n id p. refl }))
   call-leads ms Count (Finished k) m p =
       still ms Count (Finished k) (record { note = refl; release = refl; last = refl }) (record { held = λ q p. refl; spread = λ n id p. refl })
       (record { held = λ q p. refl; spread = λ n id p. refl })
   call-leads ms Arrive (Arrivals k) m p =
       still ms Arrive (Arrivals k) (record { note = refl; release = refl; last = refl }) (record { held = λ q p. refl; spread = λ n id p. refl })
-      (plain-cond (is_due D k (finished_by D ms)) (Scan 0) (pick D ms) (record { held = λ q p. refl; spread = λ n id p. refl }) (plain-picked (choice_of (strides_by D ms)) (ended_as (finished_by D ms) (sets_of D.shape D.subject))))
+      (plain-cond (is_due D k (finished_by D ms)) (Scan 0) (pick D ms)
+      (record { held = λ q p. refl; spread = λ n id p. refl })
+      (plain-picked (choice_of (strides_by D ms)) (ended_as (finished_by D ms) (sets_of D.shape D.subject))))
   call-leads ms (Scan s) (ReserveGot k) m p =
       still ms (Scan s) (ReserveGot k) (record { note = refl; release = refl; last = refl }) (record { held = λ q p. refl; spread = λ n id p. refl })
       (record { held = λ q p. refl; spread = λ n id p. refl })
   call-leads ms (Scan s) (ReserveTaken k word) m p =
       still ms (Scan s) (ReserveTaken k word) (record { note = refl; release = refl; last = refl }) (record { held = λ q p. refl; spread = λ n id p. refl })
-      (plain-cond (ltb (s + 1) D.shape.slots) (Scan (s + 1)) (pick D ms) (record { held = λ q p. refl; spread = λ n id p. refl }) (plain-picked (choice_of (strides_by D ms)) (ended_as (finished_by D ms) (sets_of D.shape D.subject))))
+      (plain-cond (ltb (s + 1) D.shape.slots) (Scan (s + 1)) (pick D ms)
+      (record { held = λ q p. refl; spread = λ n id p. refl })
+      (plain-picked (choice_of (strides_by D ms)) (ended_as (finished_by D ms) (sets_of D.shape D.subject))))
   call-leads ms Admit (AdmitGot q) m p =
       still ms Admit (AdmitGot q) (record { note = refl; release = refl; last = refl }) (record { held = λ q p. refl; spread = λ n id p. refl })
       (record { held = λ q p. refl; spread = λ n id p. refl })
@@ -258,7 +258,9 @@ module _ (D : Desk Workload) (some : 0 < D.shape.workers) where
       (record { held = λ q p. refl; spread = λ n id p. refl })
   call-leads ms Look (LookOpen id) m p =
       still ms Look (LookOpen id) (record { note = refl; release = refl; last = refl }) (record { held = λ q p. refl; spread = λ n id p. refl })
-      (plain-cond (lets_in D ms (id / STAGES)) Take Early (record { held = λ q p. refl; spread = λ n id p. refl }) (record { held = λ q p. refl; spread = λ n id p. refl }))
+      (plain-cond (lets_in D ms (id / STAGES)) Take Early
+      (record { held = λ q p. refl; spread = λ n id p. refl })
+      (record { held = λ q p. refl; spread = λ n id p. refl }))
   call-leads ms Look LookInvalid m p =
       still ms Look LookInvalid (record { note = refl; release = refl; last = refl }) (record { held = λ q p. refl; spread = λ n id p. refl })
       (record { held = λ q p. refl; spread = λ n id p. refl })
@@ -301,14 +303,17 @@ module _ (D : Desk Workload) (some : 0 < D.shape.workers) where
   call-leads ms Pay PayDone m p =
       still ms Pay PayDone (record { note = refl; release = refl; last = refl }) (record { held = λ q p. refl; spread = λ n id p. refl })
       (record { held = λ q p. refl; spread = λ n id p. refl })
-  call-leads ms Admit (AdmitLost q late) m p = leads-lost D.shape.workers q late (place_by D ms) (ap (λ o. (held_at o).query) p.at ∙ ap (λ (h : Held). h.query) p.has)
+  call-leads ms Admit (AdmitLost q late) m p =
+      leads-lost D.shape.workers q late (place_by D ms) (ap (λ o. (held_at o).query) p.at ∙ ap (λ (h : Held). h.query) p.has)
   call-leads ms (Fill v) (NoteDone k) m p =
       leads-ended D.shape.workers k (Fill v) (place_by D ms) (record { held = λ q p. refl; spread = λ n id p. refl }) (p.slot, p.held, p.at)
   call-leads ms FreeIt Release m p = leads-released D.shape.workers (place_by D ms) Acted (moved D.shape Release (place_by D ms))
   call-leads ms Sweep SweepLast m p =
-      leads-last D.shape.workers Sweep SweepLast (place_by D ms) (slot_of (place_by D ms)) some (record { held = λ q p. refl; spread = λ n id p. refl }) refl refl refl
+      leads-last D.shape.workers Sweep SweepLast (place_by D ms) (slot_of (place_by D ms)) some
+      (record { held = λ q p. refl; spread = λ n id p. refl }) refl refl refl
   call-leads ms Pay PayLast m p =
-      leads-last D.shape.workers Pay PayLast (place_by D ms) (slot_of (place_by D ms)) some (record { held = λ q p. refl; spread = λ n id p. refl }) refl refl refl
+      leads-last D.shape.workers Pay PayLast (place_by D ms) (slot_of (place_by D ms)) some
+      (record { held = λ q p. refl; spread = λ n id p. refl }) refl refl refl
   call-leads ms (Fetch v) (NoteDone k) m p =
       leads-noted D.shape.workers k v (goes_on D.subject (held_at (place_by D ms)) k) (place_by D ms) m.0 (p.slot, p.held, p.at)
   call-leads ms x a m p = absurd m
@@ -356,7 +361,8 @@ module _ (D : Desk Workload) (some : 0 < D.shape.workers) where
       → GathersOf D.shape.workers id (gathered_by D ms) (by_moves (last_of id) D ms) (point_by D ms) (place_by D ms)
   gathers-of id [] driven = refl
   gathers-of id (Made a t ∷ ms) driven =
-      (call-leads ms (point_by D ms) a driven.0 (points-stand D ms driven.1)).gathers id (by_moves (last_of id) D ms) (gathered_by D ms) (gathers-of id ms driven.1)
+      (call-leads ms (point_by D ms) a driven.0 (points-stand D ms driven.1)).gathers id (by_moves (last_of id) D ms) (gathered_by D ms)
+      (gathers-of id ms driven.1)
   gathers-of id (Exchanged ∷ ms) driven =
       exchange-gathers (point_by D ms) id (by_moves (last_of id) D ms) (place_by D ms) (gathered_by D ms) driven.0 (gathers-of id ms driven.1)
 

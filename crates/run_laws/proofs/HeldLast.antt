@@ -23,9 +23,6 @@ use Rattle.run_laws.proofs.PointsStand.{Stands, points-stand, admit-says}
 use Rattle.run_laws.proofs.Tallies.{by_moves}
 use Rattle.run_laws.proofs.EndingsTell.{last_of}
 
-held-same : (s t : ℕ) (h g : Held) → Holding s h ≡ Holding t g → h ≡ g
-held-same s t h g e = ap held_at e
-
 left-not : (p : Place) (s : ℕ) (h : Held) → left p ≡ Holding s h → ⊥
 left-not (Leading t id) s h e = cc
 left-not p s h e = cc
@@ -35,7 +32,8 @@ asked-not (Asking t id i m) n s h e = absurd (cc)
 asked-not p n s h e = e
 
 told-not : (d : Shape) (p : Place) (s : ℕ) (h : Held) → told_one d p ≡ Holding s h → p ≡ Holding s h
-told-not d (Announcing t again k) s h = cond_both (eqb (k + 1) d.workers) Free (Announcing t again (k + 1)) (λ q. q ≡ Holding s h → Announcing t again k ≡ Holding s h)
+told-not d (Announcing t again k) s h = cond_both (eqb (k + 1) d.workers) Free (Announcing t again (k + 1))
+    (λ q. q ≡ Holding s h → Announcing t again k ≡ Holding s h)
     (λ b e. absurd (cc)) (λ b e. absurd (cc))
 told-not d p s h = λ e. e
 
@@ -70,7 +68,8 @@ module _ (D : Desk Workload) where
       ap (λ b. cond (b && eqb id (finalised_id held)) 1 0) last ∙ ap (λ b. cond b 1 0) (eq-eqb id (finalised_id held) is) in
       omega (arith, one)
 
-  kept : (a : Act) (t : ℕ) (ms : List Move) (s : ℕ) (held : Held) → ((h : Held) → ((held_after a h).again ≡ h.again) × (finalised_id (held_after a h) ≡ finalised_id h))
+  kept : (a : Act) (t : ℕ) (ms : List Move) (s : ℕ) (held : Held)
+      → ((h : Held) → ((held_after a h).again ≡ h.again) × (finalised_id (held_after a h) ≡ finalised_id h))
       → WasHeld (place_by D ms) s held a → HoldsLast ms (place_by D ms) → HasLast (Made a t ∷ ms) held
   kept a t ms s held same was before again =
       let e = same was.before in

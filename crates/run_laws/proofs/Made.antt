@@ -31,11 +31,12 @@ AreMade d load (e ∷ es) = IsMade (desk_at d load e.worker) e.act es × AreMade
 abbrev HasMoves : Shape → Workload → List Entry → ℕ → Type 0
 HasMoves d load h w = (ms : List Move) × AreDriven (desk_at d load w) ms × (own_calls w h ≡ entries w ms)
 
-abbrev first_of : Entry → List Entry → Entry
+-- the newest entry, and those before it
+abbrev pub first_of : Entry → List Entry → Entry
 first_of e [] = e
 first_of e (x ∷ xs) = x
 
-abbrev rest_of : List Entry → List Entry
+abbrev pub rest_of : List Entry → List Entry
 rest_of [] = []
 rest_of (x ∷ xs) = xs
 

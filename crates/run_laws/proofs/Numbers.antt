@@ -56,7 +56,7 @@ admitted-grows : (a : Act) (n : ℕ) → n ≤ admitted_after a n
 admitted-grows (AdmitGot q) n = omega arith
 admitted-grows _ n = omega arith
 
-finished-grows : (a : Act) (n : ℕ) → n ≤ finished_after a n
+pub finished-grows : (a : Act) (n : ℕ) → n ≤ finished_after a n
 finished-grows (NoteDone k) n = omega arith
 finished-grows _ n = omega arith
 

@@ -88,10 +88,6 @@ abbrev pub RisesFrom : ℕ → List ℕ → Type 0
 RisesFrom k [] = Unit {0}
 RisesFrom k (x ∷ xs) = (k ≤ x) × RisesFrom x xs
 
-rises-more : (k m : ℕ) (xs : List ℕ) → m ≤ k → RisesFrom k xs → RisesFrom m xs
-rises-more k m [] less up = tt
-rises-more k m (x ∷ xs) less up = (let a : k ≤ x = up.0 in omega (arith, a, less), up.1)
-
 -- none below is among them
 pub none-below : (k q : ℕ) (xs : List ℕ) → q < k → RisesFrom k xs → times_in q xs ≡ 0
 none-below k q [] less up = refl

@@ -180,9 +180,11 @@ module _ (D : Desk Workload) where
   call-stands ms Leave (LeaveOwe id) m p = (slot_of (place_by D ms), id, refl)
   call-stands ms Ask MarkMarked m p = stands-asked D.subject D.shape.workers 1 (place_by D ms) p
   call-stands ms Ask MarkMissed m p = stands-asked D.subject D.shape.workers 0 (place_by D ms) p
-  call-stands ms Sweep SweepLast m p = record { slot = slot_of (place_by D ms); held = finalisation (id_at (place_by D ms)); at = refl; has = (refl, refl, refl) }
+  call-stands ms Sweep SweepLast m p =
+      record { slot = slot_of (place_by D ms); held = finalisation (id_at (place_by D ms)); at = refl; has = (refl, refl, refl) }
   call-stands ms Sweep (SweepOthers n) m p = refl
-  call-stands ms Pay PayLast m p = record { slot = slot_of (place_by D ms); held = finalisation (id_at (place_by D ms)); at = refl; has = (refl, refl, refl) }
+  call-stands ms Pay PayLast m p =
+      record { slot = slot_of (place_by D ms); held = finalisation (id_at (place_by D ms)); at = refl; has = (refl, refl, refl) }
   call-stands ms Pay PayDone m p = refl
   call-stands ms (Fetch v) (NoteDone n) m p = noted ms n (place_by D ms) refl m.1 p
   call-stands ms x a m p = absurd m

@@ -31,7 +31,8 @@ use Rattle.run_laws.proofs.Made.{AreMade}
 use Rattle.run_laws.proofs.PointsStand.{IsOpening}
 use Rattle.run_laws.proofs.Serving.{AreApart, query-is, query-not, serving-low, serving-is, serving-none, serving-same}
 use Rattle.run_laws.proofs.Fits.{Says, made-says, held-is}
-use Rattle.run_laws.proofs.Account.{steady-claimed, steady-shut, steady-last, steady-ended, steady-total, steady-reserved, steady-opened, some-query, held-admitted}
+use Rattle.run_laws.proofs.Account.{steady-claimed, steady-shut, steady-last, steady-ended, steady-total, steady-reserved, steady-opened}
+use Rattle.run_laws.proofs.Account.{some-query, held-admitted}
 
 -- 1 if a slot serves the query, else 0
 abbrev pub serves : Shape → ObjectState → ℕ → ℕ
@@ -166,7 +167,8 @@ module _ (d : Shape) (load : Workload) (S : ObjectState) (w : ℕ) (low : w < d.
           (λ differs. differs (book_is.apart s k q (ap query_in (sym (upd-else S.slots k Empty s differs)) ∙ now) (serving ∙ ap Some (sym e))))) in
           record {
             some = λ q_low. let r : n + serves d S q ≡ 1 = old.some q_low in omega (arith, r, one, before, after);
-            none = λ high. absurd (let low_query : r < S.admitted = held-admitted d S w B admits_are sound book_is k r h how is in omega (arith, low_query, high, e));
+            none = λ high. absurd (let low_query : r < S.admitted = held-admitted d S w B admits_are sound book_is k r h how is in
+                omega (arith, low_query, high, e));
           }
 
       other : q ≢ r → IsReleased d T q (cond (is_query (held_at (S.places w)).query q) 1 0 + n)

@@ -24,7 +24,7 @@ use Rattle.turn_model.specs.Workloads.{Workload}
 use Rattle.turn_model.specs.Moves.{Move}
 use Rattle.turn_model.specs.Learned.{place_by}
 use Rattle.turn_model.specs.Runs.{Run, desk_at}
-use Rattle.run_laws.specs.Ends.{HaveStages, IsPlayed}
+use Rattle.run_laws.specs.Ends.{HaveStages}
 use Rattle.run_laws.specs.Completes.{releases_of, IsAllDone}
 use Rattle.run_laws.specs.Endings.{ended_by, gathered_by, HasRoom}
 use Rattle.run_laws.specs.Merging.{IsWhole, RoomIsLeft}
@@ -86,12 +86,6 @@ last-installed (Done n) installs lasts total slot c some = let o : installs ≡ 
 -- ---- a whole run
 
 module _ (d : Shape) (load : Workload) (run : Run) (whole : IsWhole d load run) where
-  abbrev h : List Entry
-  h = run.history
-
-  abbrev played : IsPlayed d load run
-  played = whole.played
-
   pub done : IsAllDone d load run.history
   done = over-is-done d load run whole.work whole.played whole.over
 
@@ -155,7 +149,8 @@ module _ (d : Shape) (load : Workload) (run : Run) (whole : IsWhole d load run) 
   pub gathered-most : (w id : ℕ) → w < d.workers → times_in id (gathered_by (desk_at d load w) (run.team w)) ≤ lasts_of d id run.history
   gathered-most w id low =
       let all = gathers-total id in
-      let mine : times_in id (gathered_by (desk_at d load w) (run.team w)) ≤ sum_below d.workers (λ v. times_in id (gathered_by (desk_at d load v) (run.team v))) =
+      let mine : times_in id (gathered_by (desk_at d load w) (run.team w))
+      ≤ sum_below d.workers (λ v. times_in id (gathered_by (desk_at d load v) (run.team v))) =
       sum-member d.workers w (λ v. times_in id (gathered_by (desk_at d load v) (run.team v))) low in
       omega (arith, all, mine)
 

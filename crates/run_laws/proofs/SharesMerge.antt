@@ -135,7 +135,8 @@ shares-are-merged d load run told most played count each =
     (λ i share here. right d load run most played w share (omega (arith, low, count)) ((each w shares got).each i share here))) in
     record {
       low = All-weaker (IsRight d load run most played) (λ share. (share.worker < d.workers) × (share.query < MOST_QUERIES)) (λ share is. is.0) _ all;
-      each = All-weaker (IsRight d load run most played) (λ share. IsShareOf (desk_at d load share.worker) (run.team share.worker) share) (λ share is. is.1) _ all;
+      each = All-weaker (IsRight d load run most played) (λ share. IsShareOf (desk_at d load share.worker) (run.team share.worker) share)
+          (λ share is. is.1) _ all;
       all = λ w q low some.
           let shares : List Share = get_or told w [] in
           let got : slice_get told w ≡ Some shares = slice_get-get_or told w [] (omega (arith, low, count)) in

@@ -1,5 +1,6 @@
 -- Shares that are counted range by range are those of the ranges.
-use Rattle.std.proofs.Common.{◌≡◌, ◌≢◌, ℕ, zero, suc, ◌+◌, ◌-◌, ◌/◌, ◌^◌, ◌<◌, ◌≤◌, Bool, true, false, cond, eqb, List, [], ◌∷◌, ◌++◌, ◌⊎◌, inl, inr, Some, refl, sym, ap, ◌∙◌, subst}
+use Rattle.std.proofs.Common.{◌≡◌, ◌≢◌, ℕ, zero, suc, ◌+◌, ◌-◌, ◌/◌, ◌^◌, ◌<◌, ◌≤◌, Bool, true, false, cond, eqb}
+use Rattle.std.proofs.Common.{List, [], ◌∷◌, ◌++◌, ◌⊎◌, inl, inr, Some, refl, sym, ap, ◌∙◌, subst}
 use Rattle.std.proofs.Common.{length, slice_get, eq-eqb, ne_eqb, length-append, min, max, arith}
 use Rattle.std.specs.Prelude.{sum}
 use native.Mathlib.Decide.{ℕ_discrete}
@@ -58,7 +59,8 @@ has-or q (x ∷ xs) = at (ℕ_discrete x.query q) (has-or q xs) where
 -- ---- one range more
 
 module _ (range : Worked) where
-  module _ (P Q : Share → Type 0) (kept : (s : Share) → s.query ≢ range.query → P s → Q s) (more : (s : Share) → s.query ≡ range.query → P s → Q (with_range range s)) where
+  module _ (P Q : Share → Type 0) (kept : (s : Share) → s.query ≢ range.query → P s → Q s)
+      (more : (s : Share) → s.query ≡ range.query → P s → Q (with_range range s)) where
     counted-each : (from to : ℕ) (xs : List Share) → AscendWithin from to xs → Each P xs
         → (Each (Else range.query) xs → Q (with_range range (no_share range))) → Each Q (counted range xs)
     counted-each from to [] up was new = (new tt, tt)

@@ -18,14 +18,7 @@ use Rattle.turn_model.specs.Runs.{Run, desk_at}
 use Rattle.turn_model.proofs.OwnMoves.{moves-tell}
 use Rattle.run_laws.specs.Ends.{IsPlayed}
 use Rattle.run_laws.proofs.Least.{sum-equal, sum-turns}
-
-abbrev first_of : Entry → List Entry → Entry
-first_of e [] = e
-first_of e (x ∷ xs) = x
-
-abbrev rest_of : List Entry → List Entry
-rest_of [] = []
-rest_of (x ∷ xs) = xs
+use Rattle.run_laws.proofs.Made.{first_of, rest_of}
 
 -- c is what a call counts for, at the place where its worker is
 module _ (c : Act → Place → ℕ) where

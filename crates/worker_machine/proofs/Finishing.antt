@@ -22,6 +22,7 @@ use Rattle.bench_cell.specs.declared.bench.Bench.{Bench}
 use Rattle.bench_cell.specs.Plans.{total_of}
 use Rattle.bench_cell.specs.Benches.{AreInputsOf, BenchFits, IsBenchOf}
 use Rattle.bench_cell.proofs.TilingLemmas.{tiles_cover}
+use Rattle.bench_cell.specs.Tilings.{FitClaims}
 use Rattle.bench_cell.specs.Gathering.{CoverTotal, HasWhole, IsWhole}
 use Rattle.pipe_ops.specs.Inputs.{AreInputs}
 use Rattle.pipe_ops.specs.declared.inputs.Inputs.{Inputs}
@@ -43,11 +44,28 @@ all-from P (x ∷ xs) each = All-from_get_or P (x ∷ xs) x (λ u lt. each u _ (
 -- the claims of the task set that is finalised, and their total, by the holder's trail
 module _ {O : Type 0} (seen : Seen O Plan) (h : Holder) (held : HoldsAs seen h 0 None) (again : h.again ≡ true) (known : IsHistoryOf seen)
     (low : seen.desk.worker < seen.desk.shape.workers) where
-  tiled-by : (0 < lasts_of seen.desk.shape (finalised_by h) seen.trail) × ((total : ℕ) × (total_with seen.desk.shape (finalised_by h) seen.trail ≡ Some total)
+  pub tiled-by : (0 < lasts_of seen.desk.shape (finalised_by h) seen.trail)
+      × ((total : ℕ) × (total_with seen.desk.shape (finalised_by h) seen.trail ≡ Some total)
       × Tiles (claims_of seen.desk.shape (finalised_by h) seen.trail) total)
   tiled-by =
       let k : Held = record { query = h.query; stage = h.stage; again = h.again; noted = 0; total = None } in
       holder-tiles seen.desk.shape seen.desk.worker h.slot k seen.trail known.legal low held.place again
+
+-- what was fetched fits the claims of the task set that is finalised
+pub fetched-fit : {O : Type 0} (seen : Seen O Plan) (h : Holder) (bs : List Bench) → HoldsAs seen h 0 None → IsHistoryOf seen
+    → length bs ≡ seen.desk.shape.workers → ((u : ℕ) (c : Bench) → slice_get bs u ≡ Some c → FinalisedFits BenchFits seen u c) → (plan : Plan)
+    → plan ≡ seen.desk.subject → FitClaims plan (finalised_by h) (claims_of seen.desk.shape (finalised_by h) seen.trail) bs
+fetched-fit seen h bs held known count each plan is =
+    let d : Shape = seen.desk.shape in
+    let id : ℕ = finalised_by h in
+    let trail : List Entry = seen.trail in
+    let at : finalised_id (own_holding seen) ≡ id = ap (λ p. finalised_id (held_at p)) held.place in
+    record {
+      each = λ u c got. subst (λ p. BenchFits p u id (ranges_by u (claims_of d id trail)) c) (sym is)
+          (subst (λ rs. BenchFits seen.desk.subject u id rs c) (ranges-claims d u id trail)
+          (subst (λ i. BenchFits seen.desk.subject u i (ranges_of d u i trail) c) at (each u c got).1));
+      within = subst (λ n. All (λ (m : Morsel). m.worker < n) (claims_of d id trail)) (sym count) (claims-within d trail known.legal id);
+    }
 
 -- what was fetched are the benches of all workers on the task set that is finalised
 pub fetched-for : {O : Type 0} (seen : Seen O Plan) (h : Holder) (bs : List Bench) → HoldsAs seen h 0 None → h.again ≡ true → IsHistoryOf seen
@@ -59,18 +77,12 @@ fetched-for seen h bs held again known low count each plan is =
     let id : ℕ = finalised_by h in
     let trail : List Entry = seen.trail in
     let t = tiled-by seen h held again known low in
-    let at : finalised_id (own_holding seen) ≡ id = ap (λ p. finalised_id (held_at p)) held.place in
     record {
       claims = claims_of d id trail;
       total = t.1.0;
       total_is = subst (λ p. total_of p id ≡ Some t.1.0) (sym is) (known.totals id t.1.0 t.1.1);
       tiled = t.1.2;
-      fit = record {
-        each = λ u c got. subst (λ p. BenchFits p u id (ranges_by u (claims_of d id trail)) c) (sym is)
-            (subst (λ rs. BenchFits seen.desk.subject u id rs c) (ranges-claims d u id trail)
-            (subst (λ i. BenchFits seen.desk.subject u i (ranges_of d u i trail) c) at (each u c got).1));
-        within = subst (λ n. All (λ (m : Morsel). m.worker < n) (claims_of d id trail)) (sym count) (claims-within d trail known.legal id);
-      };
+      fit = fetched-fit seen h bs held known count each plan is;
     }
 
 -- the benches of the next task set are in hand

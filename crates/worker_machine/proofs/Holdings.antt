@@ -3,12 +3,12 @@ use Rattle.std.proofs.Common.{◌≡◌, ℕ, Option, Some, sym, ap, ap₂, ◌�
 use Rattle.slot_history.specs.declared.act.Act.TheVariants.{AdmitGot, AdmitLost, NoteDone, SetTotal}
 use Rattle.slot_history.specs.declared.place.Held.{Held}
 use Rattle.slot_history.specs.declared.place.Place.TheVariants.{Holding}
-use Rattle.slot_history.specs.States.{held_at}
+use Rattle.slot_history.specs.States.{held_at, next_id}
 use Rattle.slot_station.specs.declared.token.Holder.{Holder}
-use Rattle.slot_station.specs.Desks.{Desk, Seen, Makes, KeepsTrail, own_place, Owns}
+use Rattle.slot_station.specs.Desks.{Desk, Seen, Makes, KeepsTrail, own_place, own_holding, Owns}
 use Rattle.slot_station.specs.Tokens.{IsHolder}
 use Rattle.bench_cell.specs.declared.plan.Plan.{Plan}
-use Rattle.worker_machine.specs.Hands.{HoldsAs}
+use Rattle.worker_machine.specs.Hands.{HoldsAs, next_by}
 use Rattle.worker_machine.proofs.Calls.{place-by, place-kept}
 
 pub record IsTokenOf {O : Type 0} (seen : Seen O Plan) (h : Holder) (k : Held) : Type 0 where
@@ -33,6 +33,10 @@ token-of {O} {seen} {h} {s} {k} ok at =
       stage = sym (ap (λ (x : Held). x.stage) f);
       again = sym (ap (λ (x : Held). x.again) f);
     }
+
+-- the task set that is installed next
+pub next-held : {O : Type 0} {seen : Seen O Plan} {h : Holder} {n : ℕ} {x : Option ℕ} → HoldsAs seen h n x → next_id (own_holding seen) ≡ next_by h
+next-held held = ap (λ p. next_id (held_at p)) held.place
 
 module _ {O : Type 0} {old new : Seen O Plan} {h h' : Holder} {n : ℕ} {x : Option ℕ} (held : HoldsAs old h n x) where
   pub holds-kept : KeepsTrail old new → h' ≡ h → HoldsAs new h' n x

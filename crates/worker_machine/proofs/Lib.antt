@@ -12,3 +12,14 @@ pub mod Turning
 pub mod Claims
 pub mod Finishing
 pub mod Outcomes
+pub mod Moving
+pub mod TakenNotices
+pub mod Picking
+pub mod Giving
+pub mod Untold
+pub mod VisitMoves
+pub mod FinishMoves
+pub mod Counting
+pub mod Telling
+pub mod Recording
+pub mod Replying

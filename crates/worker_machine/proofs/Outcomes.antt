@@ -1,6 +1,7 @@
 -- What is in hand after a part of a step.
 use Rattle.std.proofs.Common.{◌≡◌, ℕ, ◌+◌, ◌<◌, true, List, Option, Some, None, sym, ◌∙◌, subst, arith}
 use Rattle.std.specs.Arc.{arc_value}
+use Rattle.plan_ast.specs.declared.answers.Answer.{Answer}
 use Rattle.slot_history.specs.declared.place.Place.TheVariants.{Free}
 use Rattle.slot_station.specs.declared.note.Note.TheVariants.{Empty}
 use Rattle.slot_station.specs.declared.token.Coordinator.{Coordinator}
@@ -15,8 +16,8 @@ use Rattle.worker_machine.specs.declared.phase.Phase.{Phase}
 use Rattle.worker_machine.specs.declared.phase.Phase.TheVariants.{Ready, Enter, Ask, Sweep, Give, Note}
 use Rattle.worker_machine.specs.Desks.{HasDesk}
 use Rattle.worker_machine.specs.Plans.{IsTask}
-use Rattle.worker_machine.specs.Outcomes.{IsAsked, IsFinishing, IsPicked, MadeWithout}
-use Rattle.worker_machine.specs.Hands.{HoldsAs, InHand, IsMade, IsTaskHeld, finalised_by}
+use Rattle.worker_machine.specs.Outcomes.{IsAsked, IsFinishing, IsPicked, MadeOf}
+use Rattle.worker_machine.specs.Hands.{EndsQuery, HoldsAs, InHand, IsMade, IsTaskHeld}
 use Rattle.worker_machine.proofs.Desks.{plan-of}
 use Rattle.worker_machine.proofs.Finishing.{next-made}
 
@@ -45,11 +46,11 @@ asked-hand seen bs c (Sweep d) ok owns task low =
     )
 asked-hand seen bs c p ok owns task low = absurd (ok)
 
-made-hand : {O A : Type 0} (seen : Seen O Plan) (core : Core) (h : Holder) (answer : Option A) → MadeWithout core (finalised_by h) answer
+made-hand : {O : Type 0} (seen : Seen O Plan) (core : Core) (h : Holder) (answer : Option Answer) → MadeOf core h answer
     → HasDesk core seen.desk → h.again ≡ true
     → IsTaskHeld (arc_value core.plan) h → IsMade seen core.benches.items h answer
 made-hand seen core h None made has again held = next-made seen core h has again held made
-made-hand seen core h (Some answer) made has again held = made
+made-hand seen core h (Some answer) made has again held = subst (λ plan. EndsQuery plan h answer) (plan-of core has) made
 
 pub finishing-hand : {O : Type 0} (seen : Seen O Plan) (core : Core) (h : Holder) (p : Phase) → IsFinishing core h p → HasDesk core seen.desk
     → IsTaskHeld (arc_value core.plan) h

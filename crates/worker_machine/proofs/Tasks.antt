@@ -110,9 +110,14 @@ next-is h again =
     let e : next_by h ≡ STAGES * unwrap_or h.query 0 + (h.stage + 1) = ap (λ (b : Bool). STAGES * unwrap_or h.query 0 + (if b then h.stage + 1 else 0)) again in
     omega (arith, e)
 
+-- what is read of a query by its number is that of the query there
+pub read-of-get : {A : Type 0} (f : Checked → A) (other : A) (plan : Plan) (q : ℕ) (c : Arc Checked Global) → slice_get plan.queries.items q ≡ Some c
+    → option_map_or f (slice_get (checked_of plan) q) other ≡ f (arc_value c)
+read-of-get f other plan q c got = ap (λ o. option_map_or f o other) (slice_get-map arc_value plan.queries.items q ∙ ap (option_map arc_value) got)
+
 -- each query has a first stage
 pub stages-of-get : (plan : Plan) (q : ℕ) (c : Arc Checked Global) → slice_get plan.queries.items q ≡ Some c → stages_at plan q ≡ stages_in (arc_value c)
-stages-of-get plan q c got = ap (λ o. option_map_or stages_in o 0) (slice_get-map arc_value plan.queries.items q ∙ ap (option_map arc_value) got)
+stages-of-get = read-of-get stages_in 0
 
 some-stage : (c : Checked) → 0 < stages_in c
 some-stage c = omega arith

@@ -32,3 +32,7 @@ pub record HasResult (plan : Plan) (id : ℕ) (whole : StageResult) (inputs : In
   pub sound : AreInputs inputs
   pub of_set : AreInputsOf plan id inputs
   pub whole_is : IsWholeResult inputs whole
+
+-- the whole result of a task set, for some inputs of it
+abbrev pub IsResultFor : Plan → ℕ → StageResult → Type 0
+IsResultFor plan id whole = (inputs : Inputs) × HasResult plan id whole inputs

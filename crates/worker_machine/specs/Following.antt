@@ -7,10 +7,11 @@ use Rattle.worker_machine.specs.declared.phase.Phase.{Phase}
 use Rattle.worker_machine.specs.declared.phase.Phase.TheVariants.{Ready}
 use Rattle.worker_machine.specs.declared.phase.Stepped.{Stepped}
 use Rattle.worker_machine.specs.declared.phase.Stepped.TheVariants.{More, End}
-use Rattle.worker_machine.specs.declared.phase.Turn.TheVariants.{Acted}
+use Rattle.turn_model.specs.declared.turn.Turn.TheVariants.{Acted}
 use Rattle.worker_machine.specs.declared.state.Worker.{Worker}
 use Rattle.worker_machine.specs.Hands.{InHand}
 use Rattle.worker_machine.specs.Desks.{HasDesk, CoreFits, desk_of}
+use Rattle.worker_machine.specs.Keeps.{IsUntold}
 
 -- At this phase: the station is this worker's, with the plan, workers and slots that it was made
 -- for, and what it keeps and has in hand is what its trail and its notes of cells say.
@@ -27,6 +28,7 @@ Follows worker seen = FollowsAt worker.core seen worker.phase
 pub record IsNewFor (desk : Desk Plan) (worker : Worker) : Type 0 where
   pub desk_is : desk_of worker.core ≡ desk
   pub ready : worker.phase ≡ Ready Acted
+  pub untold : IsUntold desk.shape worker.core
 
 abbrev pub stepped : Phase → Stepped
 stepped (Ready turn) = End turn

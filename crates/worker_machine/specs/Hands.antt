@@ -18,7 +18,9 @@ use Rattle.bench_cell.specs.declared.plan.Plan.{Plan}
 use Rattle.bench_cell.specs.declared.bench.Bench.{Bench}
 use Rattle.bench_cell.specs.Plans.{total_of}
 use Rattle.bench_cell.specs.Benches.{BenchFits}
-use Rattle.worker_machine.specs.Plans.{IsTask}
+use Rattle.plan_ast.specs.declared.answers.Answer.{Answer}
+use Rattle.worker_machine.specs.Plans.{IsTask, stages_at}
+use Rattle.worker_machine.specs.Loads.{load_of}
 use Rattle.worker_machine.specs.Benches.{AreFresh}
 use Rattle.worker_machine.specs.declared.phase.Phase.{Phase}
 use Rattle.worker_machine.specs.declared.phase.Phase.TheVariants.{Ready, Return, Change, Count}
@@ -45,6 +47,12 @@ pub record IsTaskHeld (plan : Plan) (h : Holder) : Type 0 where
   pub query : IsSome h.query
   pub low : h.stage < STAGES
   pub task : IsTask plan (finalised_by h)
+
+-- the stage that is finalised is the last of its query, whose one-thread answer this is
+pub record EndsQuery (plan : Plan) (h : Holder) (answer : Answer) : Type 0 where
+  pub last : h.stage + 1 ≡ stages_at plan (unwrap_or h.query 0)
+  pub answer_is : (load_of plan).answer (unwrap_or h.query 0) ≡ Some answer
+  pub again : h.again ≡ true
 
 -- the holder, who noted so many, may open the slot with a next task set of the plan, but for its
 -- total and its cells
@@ -84,9 +92,10 @@ module _ {O : Type 0} (seen : Seen O Plan) where
     pub count : length benches ≡ seen.desk.shape.workers
     pub fresh : AreFresh seen.desk.subject (next_by h) seen.desk.shape.workers benches
 
-  abbrev pub IsMade : {A : Type 0} → List Bench → Holder → Option A → Type 0
+  -- with one it is the answer of the query, whose last task set was finalised
+  abbrev pub IsMade : List Bench → Holder → Option Answer → Type 0
   IsMade benches h None = IsNextMade benches h
-  IsMade benches h (Some answer) = Unit {0}
+  IsMade benches h (Some answer) = EndsQuery seen.desk.subject h answer
 
 -- what the worker has in hand at a phase, by what it has seen and the benches that it keeps
 module _ {O : Type 0} (seen : Seen O Plan) (benches : List Bench) where

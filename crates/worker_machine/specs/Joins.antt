@@ -1,7 +1,10 @@
--- What the notices of a mask word do to passes, one by one from the lowest slot upwards.
-use Rattle.std.specs.Prelude.{ℕ, zero, suc, ◌+◌, ◌*◌, ◌==◌, if◌then◌else◌}
+-- What the notices of a mask word do to passes, one by one from the lowest slot upwards, and to
+-- groups.
+use Rattle.std.specs.Prelude.{◌≡◌, ℕ, zero, suc, ◌+◌, ◌*◌, ◌==◌, if◌then◌else◌, Bool, cond}
+use Rattle.std.specs.Prelude.{List, Some, None, slice_get}
 use Rattle.std.specs.Int.{bit_at}
 use Rattle.stride_set.specs.Strides.{Call, JoinReturn, JoinChange, Strides, stride_after}
+use Rattle.worker_machine.specs.declared.kept.Known.{Known}
 
 -- the joins of those of the first n slots of the word that have their bit
 unfoldable pub joined : (ℕ → Call) → ℕ → ℕ → ℕ → Strides → Strides
@@ -15,3 +18,12 @@ returned = joined JoinReturn
 
 abbrev pub changed : ℕ → ℕ → ℕ → Strides → Strides
 changed = joined JoinChange
+
+-- the group of a slot is forgotten, if this is so; all else that is known of it stays
+abbrev pub forgotten : Bool → Known → Known
+forgotten gone known = record known { group = cond gone None known.group }
+
+-- the groups of these slots are forgotten, and no other
+abbrev pub AreForgotten : (ℕ → Bool) → List Known → List Known → Type 0
+AreForgotten gone old new = (s : ℕ) (known : Known) → slice_get new s ≡ Some known
+    → (before : Known) × (slice_get old s ≡ Some before) × (known ≡ forgotten (gone s) before)

@@ -7,3 +7,12 @@ pub mod Sized
 pub mod Following
 pub mod Left
 pub mod Outcomes
+pub mod Loads
+pub mod PointsOf
+pub mod Keeps
+pub mod Turning
+pub mod Knowing
+pub mod Counting
+pub mod Replies
+pub mod Telling
+pub mod Told

@@ -1,5 +1,5 @@
 -- The task sets of a plan's queries.
-use Rattle.std.specs.Prelude.{◌≡◌, ℕ, IsSome, slice_get}
+use Rattle.std.specs.Prelude.{ℕ, IsSome, slice_get}
 use Rattle.std.specs.Option.{option_map_or}
 use Rattle.plan_ast.specs.Checks.{query_of}
 use Rattle.plan_ast.specs.declared.checks.Checked.{Checked}

@@ -17,17 +17,20 @@ use std::sync::Arc;
 use std::sync::ledger::Ledger;
 
 impl Core {
-    ghost use Rattle.std.specs.Prelude.{◌≡◌, ◌+◌, ◌*◌, ◌^◌, ◌<◌, ℕ};
+    ghost use Rattle.std.specs.Prelude.{◌≡◌, ◌+◌, ◌*◌, ◌^◌, ◌<◌, ◌≤◌, ℕ, [], ◌∷◌, ◌++◌};
     ghost use Rattle.std.specs.Prelude.{None, true, IfOk, IsTrue, length};
     ghost use Rattle.std.specs.Arc.{arc_value};
     ghost use Rattle.pipe_ops.specs.StageResults.{goes_on};
     ghost use Rattle.slot_station.specs.Desks.{Desk};
-    ghost use Rattle.worker_machine.specs.Benches.{AreOfTaskSet, HasResult};
+    ghost use Rattle.worker_machine.specs.Benches.{AreOfTaskSet, HasResult, IsResultFor};
     ghost use Rattle.bench_cell.specs.declared.plan.Plan.{Plan};
     ghost use Rattle.worker_machine.specs.Desks.{AreNextMade, CoreFits, desk_of, Stays};
     ghost use Rattle.worker_machine.specs.Following.{FollowsAt};
     ghost use Rattle.worker_machine.specs.Hands.{InHand, IsTaskHeld, finalised_by};
+    ghost use Rattle.worker_machine.specs.Keeps.{KeepsMind, Moves, standing, takes_none};
     ghost use Rattle.worker_machine.specs.Left.{IsBelow, IsNearer};
+    ghost use Rattle.std.specs.Vec.{vec_capacity};
+    ghost use Rattle.worker_machine.specs.Telling.{KeepsRecord};
     ghost use Rattle.worker_machine.specs.Outcomes.{IsFinishing};
     ghost use Rattle.worker_machine.specs.declared.phase.Phase.{Phase};
 
@@ -45,6 +48,9 @@ impl Core {
         ensures nearer { IsNearer (S.seen station.old).desk (Phase.Fetch holder v) result }
         ensures same { desk_of self.new ≡ desk_of self.old }
         ensures stays { Stays (S.seen station.old) (S.seen station.new) }
+        ensures moves { Moves takes_none
+            (standing self.old (Phase.Fetch holder v) (S.seen station.old))
+            (standing self.new result (S.seen station.new)) }
         ensures ticks { steps.new ≡ steps.old + 1 }
     {
         let Some(bench) = station.cell(&mut holder, v, None, steps) else {
@@ -73,6 +79,9 @@ impl Core {
             → IsBelow D n result }
         ensures fits { CoreFits self.new result }
         ensures same { desk_of self.new ≡ desk_of self.old }
+        ensures mind { KeepsMind self.old self.new }
+        ensures replies { self.new.replies ≡ self.old.replies }
+        ensures record { KeepsRecord self.old self.new holder result }
     {
         let id = finalised_id(&self.plan, &holder);
         let total = task_total(&self.plan, id);
@@ -92,7 +101,12 @@ impl Core {
     // Keeps the record of a task set.
     fn keep(&mut self, record: Record)
         ensures same { desk_of self.new ≡ desk_of self.old }
+        ensures mind { KeepsMind self.old self.new }
+        ensures replies { self.new.replies ≡ self.old.replies }
         ensures benches { self.new.benches ≡ self.old.benches }
+        ensures room { vec_capacity self.old.records ≤ vec_capacity self.new.records }
+        ensures pushed { length self.old.records.items < vec_capacity self.old.records
+            → self.new.records.items ≡ self.old.records.items ++ «record» ∷ [] }
     {
         let _room = self.records.push(record);
     }
@@ -109,11 +123,15 @@ impl Core {
         requires again { holder.again ≡ true }
         requires inputs { IfOk inputs (λ inputs. HasResult (arc_value self.old.plan)
             (finalised_by holder) whole (arc_value inputs)) }
+        requires whole { IsResultFor (arc_value self.old.plan) (finalised_by holder) whole }
         ensures finishes { IsFinishing self.new holder result }
         ensures nearer { (D : Desk Plan) (n : ℕ) → 2 * D.shape.workers + 5 < n
             → IsBelow D n result }
         ensures fits { CoreFits self.new result }
         ensures same { desk_of self.new ≡ desk_of self.old }
+        ensures mind { KeepsMind self.old self.new }
+        ensures replies { self.new.replies ≡ self.old.replies }
+        ensures records { self.new.records ≡ self.old.records }
     {
         match whole {
             StageResult::Answer(answer) => Phase::Note(holder, Some(answer)),
@@ -141,6 +159,9 @@ impl Core {
             → IsBelow D n result }
         ensures fits { CoreFits self.new result }
         ensures same { desk_of self.new ≡ desk_of self.old }
+        ensures mind { KeepsMind self.old self.new }
+        ensures replies { self.new.replies ≡ self.old.replies }
+        ensures records { self.new.records ≡ self.old.records }
     {
         let id = finalised_id(&self.plan, &holder);
         if self.make_next(alloc, id, inputs, whole) {
@@ -164,6 +185,9 @@ impl Core {
         requires later { goes_on whole }
         requires few { id + 1 < 2 ^ 32 }
         ensures same { desk_of self.new ≡ desk_of self.old }
+        ensures mind { KeepsMind self.old self.new }
+        ensures replies { self.new.replies ≡ self.old.replies }
+        ensures records { self.new.records ≡ self.old.records }
         ensures made { IsTrue result → AreNextMade self.new id }
     {
         let Ok(inputs) = inputs else {
@@ -188,6 +212,9 @@ impl Core {
         ensures nearer { IsNearer (S.seen station.old).desk (Phase.Note holder answer) result }
         ensures same { desk_of self.new ≡ desk_of self.old }
         ensures stays { Stays (S.seen station.old) (S.seen station.new) }
+        ensures moves { Moves takes_none
+            (standing self.old (Phase.Note holder answer) (S.seen station.old))
+            (standing self.new result (S.seen station.new)) }
         ensures ticks { steps.new ≡ steps.old + 1 }
     {
         station.note_done(&mut holder, 1, steps);

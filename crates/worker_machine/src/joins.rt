@@ -1,10 +1,11 @@
 // What the notices of a mask word do to passes and groups.
 ghost use Rattle.std.specs.Prelude.{◌≡◌, ◌<◌, length};
 ghost use Rattle.slot_history.specs.declared.shape.TheConstants.{PARTS};
+ghost use Rattle.slot_history.specs.Histories.{is_in_mask};
 ghost use Rattle.slot_station.specs.Replies.{NamesSlots};
 ghost use Rattle.stride_set.specs.Strides.{strides_of};
 ghost use Rattle.bench_cell.specs.declared.plan.Plan.{Plan};
-ghost use Rattle.worker_machine.specs.Joins.{returned, changed};
+ghost use Rattle.worker_machine.specs.Joins.{returned, changed, AreForgotten};
 ghost use Rattle.worker_machine.specs.Sized.{AreSized};
 
 use crate::kept::Known;
@@ -43,6 +44,7 @@ pub(crate) fn forget_groups(known: &mut Vec<Known>, part: u32, bits: u64)
     requires part { part < PARTS }
     ensures length { length known.new.items ≡ length known.old.items }
     ensures sized { (plan : Plan) → AreSized plan known.old.items → AreSized plan known.new.items }
+    ensures groups { AreForgotten (is_in_mask part bits) known.old.items known.new.items }
 {
     for k in 0..64 {
         if (bits >> k) % 2 == 1 {

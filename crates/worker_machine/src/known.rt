@@ -1,8 +1,9 @@
 // What a look and a range change of what a worker knows of a slot.
-ghost use Rattle.std.specs.Prelude.{◌/◌, ◌≡◌, ◌<◌, ◌≤◌, ◌^◌, Some};
-ghost use Rattle.prio_decay.specs.Priority.{after_spending};
-ghost use Rattle.morsel_size.specs.Sizing.{pace_after};
-ghost use Rattle.worker_machine.specs.Plans.{IsTask};
+ghost use Rattle.std.specs.Prelude.{◌/◌, ◌≡◌, ◌≢◌, ◌<◌, ◌≤◌, ◌^◌, [], Some};
+ghost use Rattle.prio_decay.specs.Priority.{after_spending, unspent};
+ghost use Rattle.morsel_size.specs.Sizing.{pace_after, pace_of};
+ghost use Rattle.turn_model.specs.Learned.{params_of};
+ghost use Rattle.worker_machine.specs.Plans.{IsTask, weight_at};
 ghost use Rattle.worker_machine.specs.Sized.{IsSized};
 
 use crate::kept::Known;
@@ -18,7 +19,17 @@ pub(crate) fn settle(known: &mut Known, plan: &Plan, workers: u32, id: u32)
     requires task { IsTask plan.now id }
     requires workers { 0 < workers }
     ensures group { known.new.group ≡ Some (id / STAGES) }
+    ensures query { known.new.query ≡ Some (id / STAGES) }
     ensures id { known.new.id ≡ Some id }
+    ensures kept_decay { known.old.query ≡ Some (id / STAGES)
+        → known.new.decay ≡ known.old.decay }
+    ensures fresh_decay { known.old.query ≢ Some (id / STAGES)
+        → known.new.decay ≡ unspent (params_of (weight_at plan.now (id / STAGES))) }
+    ensures kept_sizer { known.old.id ≡ Some id
+        → (known.new.sizer ≡ known.old.sizer) × (known.new.last_end ≡ known.old.last_end) }
+    ensures fresh_sizer { known.old.id ≢ Some id
+        → (known.new.sizer ≡ record { workers = workers; pace = pace_of [] })
+        × (known.new.last_end ≡ 0) }
     ensures sized { IsSized plan.now known.old → IsSized plan.now known.new }
 {
     let q = id / STAGES;

@@ -6,11 +6,12 @@
 //! call of it. Neither knows the slot object: a worker goes over any `Station` whose cells hold
 //! benches, so every call that it makes is one that the protocol allows.
 //!
-//! It stands on `slot_station` (what a worker may call), `bench_cell` (what the cells hold),
-//! `stride_set` (which slot is next), `prio_decay` (what time in a query costs) and `morsel_size`
-//! (how much is claimed). The one fact that the layers above may use: a worker that follows its
-//! station (`Follows`) follows it after each step, and a turn takes at most
-//! `slots + 4 * workers + 20` steps.
+//! It stands on `slot_station` (what a worker may call), `turn_model` (which moves are turns),
+//! `bench_cell` (what the cells hold), `stride_set` (which slot is next), `prio_decay` (what time
+//! in a query costs) and `morsel_size` (how much is claimed). The one fact that the layers above
+//! may use: a worker that follows its station (`Follows`) follows it after each step, each step is
+//! one move that the model lets it make (`Moves`), a turn is one of the model (`Turns`), and it
+//! takes at most `slots + 4 * workers + 20` steps.
 #![tactic(auto)]
 
 mod benches;
@@ -24,6 +25,7 @@ mod opening;
 mod parts;
 mod phase;
 mod plans;
+mod ran;
 mod shares;
 mod state;
 mod stepping;
@@ -31,7 +33,9 @@ mod visit;
 mod worker;
 
 pub use kept::{Core, Known};
-pub use laws::new_follows;
+pub use laws::{new_follows, new_has_made_none};
 pub use parts::WorkerParts;
-pub use phase::{Phase, Stepped, Turn};
+pub use phase::{Phase, Stepped};
+pub use ran::Ran;
 pub use state::Worker;
+pub use turn_model::Turn;

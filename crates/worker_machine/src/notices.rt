@@ -2,12 +2,13 @@
 
 use crate::joins::{forget_groups, join_changed, join_returned};
 use crate::kept::Core;
-use crate::phase::{Phase, Turn};
+use crate::phase::Phase;
 use crate::plans::query_of;
 use bench_cell::Bench;
 use slot_station::shape::PARTS;
 use slot_station::{Station, Steps};
 use std::sync::ledger::Ledger;
+use turn_model::Turn;
 
 impl Core {
     ghost use Rattle.std.specs.Prelude.{◌≡◌, ◌+◌, ◌*◌, ◌<◌, ℕ, IsTrue, length};
@@ -18,6 +19,10 @@ impl Core {
     ghost use Rattle.worker_machine.specs.Desks.{CoreFits, desk_of, Stays};
     ghost use Rattle.worker_machine.specs.Following.{FollowsAt};
     ghost use Rattle.worker_machine.specs.Hands.{InHand};
+    ghost use Rattle.turn_model.specs.Points.{is_due};
+    ghost use Rattle.turn_model.specs.declared.turn.Turn.{Turn};
+    ghost use Rattle.worker_machine.specs.Keeps.{Moves, Picks, standing, takes_none};
+    ghost use Rattle.worker_machine.specs.Loads.{model_desk};
     ghost use Rattle.worker_machine.specs.Left.{IsBelow, IsNearer};
     ghost use Rattle.worker_machine.specs.Outcomes.{IsPicked};
     ghost use Rattle.worker_machine.specs.declared.phase.Phase.{Phase};
@@ -34,6 +39,12 @@ impl Core {
         ensures nearer { IsNearer (S.seen station.old).desk (Phase.Return part) result }
         ensures same { desk_of self.new ≡ desk_of self.old }
         ensures stays { Stays (S.seen station.old) (S.seen station.new) }
+        ensures begins { part ≡ 0 → (turn : Turn) → Moves takes_none
+            (standing self.old (Phase.Ready turn) (S.seen station.old))
+            (standing self.new result (S.seen station.new)) }
+        ensures moves { Moves takes_none
+            (standing self.old (Phase.Return part) (S.seen station.old))
+            (standing self.new result (S.seen station.new)) }
         ensures ticks { steps.new ≡ steps.old + 1 }
     {
         let bits = station.take_return(part, steps);
@@ -57,6 +68,9 @@ impl Core {
         ensures nearer { IsNearer (S.seen station.old).desk (Phase.Change part) result }
         ensures same { desk_of self.new ≡ desk_of self.old }
         ensures stays { Stays (S.seen station.old) (S.seen station.new) }
+        ensures moves { Moves takes_none
+            (standing self.old (Phase.Change part) (S.seen station.old))
+            (standing self.new result (S.seen station.new)) }
         ensures ticks { steps.new ≡ steps.old + 1 }
     {
         let bits = station.take_change(part, steps);
@@ -80,6 +94,9 @@ impl Core {
         ensures nearer { IsNearer (S.seen station.old).desk Phase.Count result }
         ensures same { desk_of self.new ≡ desk_of self.old }
         ensures stays { Stays (S.seen station.old) (S.seen station.new) }
+        ensures moves { Moves takes_none
+            (standing self.old Phase.Count (S.seen station.old))
+            (standing self.new result (S.seen station.new)) }
         ensures ticks { steps.new ≡ steps.old + 1 }
     {
         self.finished = station.finished(steps);
@@ -97,6 +114,9 @@ impl Core {
         ensures nearer { IsNearer (S.seen station.old).desk Phase.Arrive result }
         ensures same { desk_of self.new ≡ desk_of self.old }
         ensures stays { Stays (S.seen station.old) (S.seen station.new) }
+        ensures moves { Moves takes_none
+            (standing self.old Phase.Arrive (S.seen station.old))
+            (standing self.new result (S.seen station.new)) }
         ensures ticks { steps.new ≡ steps.old + 1 }
     {
         self.arrived = station.arrivals(steps);
@@ -109,7 +129,9 @@ impl Core {
 
     // The query that is the next to arrive is due.
     fn is_due(&self) -> bool
-        ensures { IsTrue result
+        ensures due { result ≡ is_due (model_desk (desk_of self.now)) self.now.arrived
+            self.now.finished }
+        ensures next { IsTrue result
             → self.now.arrived < length (arc_value self.now.plan).queries.items }
     {
         self.arrived < self.plan.len() && query_of(&self.plan, self.arrived).after <= self.finished
@@ -123,6 +145,9 @@ impl Core {
         ensures nearer { (D : Desk Plan) (n : ℕ) → 4 * D.shape.workers + 13 < n
             → IsBelow D n result }
         ensures fits { CoreFits self.new result }
+        ensures picks { Picks self.old self.new result }
+        ensures replies { self.new.replies ≡ self.old.replies }
+        ensures records { self.new.records ≡ self.old.records }
     {
         match self.strides.choose() {
             Some(s) => Phase::Enter(s),

@@ -6,7 +6,7 @@ ghost use Rattle.worker_machine.specs.Hands.{next_by};
 
 use crate::benches::{first_inputs, make_benches};
 use crate::kept::Core;
-use crate::phase::{Phase, Turn};
+use crate::phase::Phase;
 use crate::plans::{query_of, task_total};
 use bench_cell::Bench;
 use pipe_ops::Inputs;
@@ -17,6 +17,7 @@ use slot_station::{Admit, Announcer, Holder, Reserve, Station, Steps};
 use std::alloc::Global;
 use std::sync::Arc;
 use std::sync::ledger::Ledger;
+use turn_model::Turn;
 
 // The task set that the holder installs next.
 pub(crate) fn next_of(holder: &Holder) -> u32
@@ -38,6 +39,12 @@ impl Core {
     ghost use Rattle.worker_machine.specs.Desks.{CoreFits, desk_of, Stays};
     ghost use Rattle.worker_machine.specs.Following.{FollowsAt};
     ghost use Rattle.worker_machine.specs.Hands.{InHand};
+    ghost use Rattle.std.specs.Prelude.{◌≤◌, [], ◌∷◌, ◌++◌, unwrap_or};
+    ghost use Rattle.std.specs.Vec.{vec_capacity};
+    ghost use Rattle.turn_model.specs.Reports.{IsReplyTo};
+    ghost use Rattle.worker_machine.specs.Loads.{load_of};
+    ghost use Rattle.worker_machine.specs.Replies.{AreAnswers};
+    ghost use Rattle.worker_machine.specs.Keeps.{KeepsMind, Moves, standing, takes_none};
     ghost use Rattle.worker_machine.specs.Left.{IsNearer};
     ghost use Rattle.worker_machine.specs.declared.phase.Phase.{Phase};
 
@@ -53,6 +60,9 @@ impl Core {
         ensures nearer { IsNearer (S.seen station.old).desk (Phase.Scan s) result }
         ensures same { desk_of self.new ≡ desk_of self.old }
         ensures stays { Stays (S.seen station.old) (S.seen station.new) }
+        ensures moves { Moves takes_none
+            (standing self.old (Phase.Scan s) (S.seen station.old))
+            (standing self.new result (S.seen station.new)) }
         ensures ticks { steps.new ≡ steps.old + 1 }
     {
         match station.reserve(s, steps) {
@@ -80,6 +90,9 @@ impl Core {
         ensures nearer { IsNearer (S.seen station.old).desk (Phase.Admit holder) result }
         ensures same { desk_of self.new ≡ desk_of self.old }
         ensures stays { Stays (S.seen station.old) (S.seen station.new) }
+        ensures moves { Moves takes_none
+            (standing self.old (Phase.Admit holder) (S.seen station.old))
+            (standing self.new result (S.seen station.new)) }
         ensures ticks { steps.new ≡ steps.old + 1 }
     {
         match station.admit(&mut holder, self.arrived, steps) {
@@ -99,7 +112,9 @@ impl Core {
     fn make_first(&mut self, alloc: Global) -> bool
         requires { self.old.arrived < length (arc_value self.old.plan).queries.items }
         ensures same { desk_of self.new ≡ desk_of self.old }
-        ensures arrived { self.new.arrived ≡ self.old.arrived }
+        ensures mind { KeepsMind self.old self.new }
+        ensures replies { self.new.replies ≡ self.old.replies }
+        ensures records { self.new.records ≡ self.old.records }
         ensures count { IsTrue result → length self.new.benches.items ≡ self.new.workers }
         ensures fresh { IsTrue result → AreFresh (arc_value self.new.plan)
             (STAGES * self.old.arrived) self.new.workers self.new.benches.items }
@@ -114,7 +129,9 @@ impl Core {
     pub(crate) fn fill(&mut self, alloc: Global, id: u32, inputs: &Arc<Inputs>) -> bool
         requires { AreInputs (arc_value inputs.now) }
         ensures same { desk_of self.new ≡ desk_of self.old }
-        ensures arrived { self.new.arrived ≡ self.old.arrived }
+        ensures mind { KeepsMind self.old self.new }
+        ensures replies { self.new.replies ≡ self.old.replies }
+        ensures records { self.new.records ≡ self.old.records }
         ensures count { IsTrue result → length self.new.benches.items ≡ self.new.workers }
         ensures fresh { (plan : Plan) → AreInputsOf plan id (arc_value inputs.now)
             → IsTrue result → AreFresh plan id self.new.workers self.new.benches.items }
@@ -135,6 +152,9 @@ impl Core {
         ensures nearer { IsNearer (S.seen station.old).desk (Phase.Put holder v) result }
         ensures same { desk_of self.new ≡ desk_of self.old }
         ensures stays { Stays (S.seen station.old) (S.seen station.new) }
+        ensures moves { Moves takes_none
+            (standing self.old (Phase.Put holder v) (S.seen station.old))
+            (standing self.new result (S.seen station.new)) }
         ensures ticks { steps.new ≡ steps.old + 1 }
     {
         let bench = self.benches.pop();
@@ -158,6 +178,9 @@ impl Core {
         ensures nearer { IsNearer (S.seen station.old).desk (Phase.Size holder) result }
         ensures same { desk_of self.new ≡ desk_of self.old }
         ensures stays { Stays (S.seen station.old) (S.seen station.new) }
+        ensures moves { Moves takes_none
+            (standing self.old (Phase.Size holder) (S.seen station.old))
+            (standing self.new result (S.seen station.new)) }
         ensures ticks { steps.new ≡ steps.old + 1 }
     {
         let total = task_total(&self.plan, next_of(&holder));
@@ -177,6 +200,9 @@ impl Core {
         ensures nearer { IsNearer (S.seen station.old).desk (Phase.Fill holder) result }
         ensures same { desk_of self.new ≡ desk_of self.old }
         ensures stays { Stays (S.seen station.old) (S.seen station.new) }
+        ensures moves { Moves takes_none
+            (standing self.old (Phase.Fill holder) (S.seen station.old))
+            (standing self.new result (S.seen station.new)) }
         ensures ticks { steps.new ≡ steps.old + 1 }
     {
         let id = next_of(&holder);
@@ -195,6 +221,9 @@ impl Core {
         ensures nearer { IsNearer (S.seen station.old).desk (Phase.Tell announcer) result }
         ensures same { desk_of self.new ≡ desk_of self.old }
         ensures stays { Stays (S.seen station.old) (S.seen station.new) }
+        ensures moves { Moves takes_none
+            (standing self.old (Phase.Tell announcer) (S.seen station.old))
+            (standing self.new result (S.seen station.new)) }
         ensures ticks { steps.new ≡ steps.old + 1 }
     {
         station.announce(&mut announcer, steps);
@@ -218,6 +247,9 @@ impl Core {
         ensures nearer { IsNearer (S.seen station.old).desk (Phase.Give holder) result }
         ensures same { desk_of self.new ≡ desk_of self.old }
         ensures stays { Stays (S.seen station.old) (S.seen station.new) }
+        ensures moves { Moves takes_none
+            (standing self.old (Phase.Give holder) (S.seen station.old))
+            (standing self.new result (S.seen station.new)) }
         ensures ticks { steps.new ≡ steps.old + 1 }
     {
         let all = stages(query_of(&self.plan, holder.query.unwrap_or(0)));
@@ -239,6 +271,9 @@ impl Core {
         ensures nearer { IsNearer (S.seen station.old).desk (Phase.FreeIt holder) result }
         ensures same { desk_of self.new ≡ desk_of self.old }
         ensures stays { Stays (S.seen station.old) (S.seen station.new) }
+        ensures moves { Moves takes_none
+            (standing self.old (Phase.FreeIt holder) (S.seen station.old))
+            (standing self.new result (S.seen station.new)) }
         ensures ticks { steps.new ≡ steps.old + 1 }
     {
         station.release(holder, steps);
@@ -247,8 +282,18 @@ impl Core {
 
     // Keeps the reply to the query that the slot is held for.
     pub(crate) fn reply(&mut self, holder: &Holder, reply: Reply)
+        requires { IsReplyTo (load_of (arc_value self.old.plan))
+            (unwrap_or holder.now.query 0) reply }
+        ensures answers { AreAnswers (arc_value self.old.plan) self.old.replies.items
+            → AreAnswers (arc_value self.old.plan) self.new.replies.items }
         ensures same { desk_of self.new ≡ desk_of self.old }
         ensures benches { self.new.benches ≡ self.old.benches }
+        ensures mind { KeepsMind self.old self.new }
+        ensures records { self.new.records ≡ self.old.records }
+        ensures room { vec_capacity self.old.replies ≤ vec_capacity self.new.replies }
+        ensures pushed { length self.old.replies.items < vec_capacity self.old.replies
+            → self.new.replies.items ≡ self.old.replies.items
+            ++ record { query = unwrap_or holder.now.query 0; reply = reply } ∷ [] }
     {
         let query = holder.query.unwrap_or(0);
         let _room = self.replies.push(QueryReply { query, reply });

@@ -2,17 +2,7 @@
 use bench_cell::Bench;
 use plan_ast::Answer;
 use slot_station::{Announcer, Coordinator, Debt, Holder, Spent};
-
-/// How a turn ended.
-#[derive(Clone, Copy, Debug, PartialEq, Eq)]
-pub enum Turn {
-    /// A query was admitted, or a slot was visited.
-    Acted,
-    /// No slot was active and no query could be admitted, and task sets are left.
-    Idle,
-    /// No slot was active and no query could be admitted, and no task set is left.
-    Over,
-}
+use turn_model::Turn;
 
 /// What a step came to.
 #[derive(Clone, Copy, Debug, PartialEq, Eq)]

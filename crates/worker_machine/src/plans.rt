@@ -4,7 +4,7 @@ ghost use Rattle.plan_ast.specs.Bounds.{IsInBounds};
 ghost use Rattle.plan_ast.specs.Stages.{stages_of};
 ghost use Rattle.slot_history.specs.declared.shape.TheConstants.{MOST_TOTAL};
 ghost use Rattle.bench_cell.specs.Plans.{total_of};
-ghost use Rattle.worker_machine.specs.Plans.{IsTask, stages_at};
+ghost use Rattle.worker_machine.specs.Plans.{IsTask, stages_at, weight_at, after_at, cost_at};
 
 use bench_cell::Plan;
 use plan_ast::Query;
@@ -15,6 +15,9 @@ pub(crate) fn query_of(plan: &Plan, q: u32) -> &Query
     requires { q < length plan.now.queries.items }
     ensures bounds { IsInBounds result.now }
     ensures stages { stages_at plan.now q ≡ stages_of result.now }
+    ensures weight { weight_at plan.now q ≡ result.now.weight }
+    ensures after { after_at plan.now q ≡ result.now.after }
+    ensures cost { cost_at plan.now q ≡ result.now.cost }
 {
     plan.query(q).query()
 }

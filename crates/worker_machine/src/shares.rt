@@ -1,4 +1,9 @@
 // How much a worker worked for each query.
+ghost use Rattle.std.specs.Prelude.{◌≡◌, ◌≤◌, ◌<◌, ℕ};
+ghost use Rattle.std.specs.Vec.{vec_capacity};
+ghost use Rattle.run_laws.specs.Shares.{AscendWithin, counted, with_range};
+ghost use Rattle.worker_machine.specs.Counting.{as_range};
+
 use report_text::Share;
 
 // A range of a query that a worker worked on.
@@ -13,7 +18,12 @@ pub(crate) struct Worked {
 }
 
 // Counts one more range in the worker's share of its query. The shares ascend by query.
-pub(crate) fn count_range(shares: &mut Vec<Share>, range: Worked) {
+pub(crate) fn count_range(shares: &mut Vec<Share>, range: Worked)
+    ensures room { vec_capacity shares.old ≤ vec_capacity shares.new }
+    ensures counted { (queries : ℕ) → AscendWithin 0 queries shares.old.items
+        → range.query < queries → queries ≤ vec_capacity shares.old
+        → shares.new.items ≡ counted (as_range range) shares.old.items }
+{
     let at = shares.partition_point(|share| share.query < range.query);
     if at < shares.len() && shares[at].query == range.query {
         add(&mut shares[at], &range);
@@ -31,7 +41,9 @@ pub(crate) fn count_range(shares: &mut Vec<Share>, range: Worked) {
     }
 }
 
-fn add(share: &mut Share, range: &Worked) {
+fn add(share: &mut Share, range: &Worked)
+    ensures { share.new ≡ with_range (as_range range.now) share.old }
+{
     share.ranges = share.ranges.saturating_add(1);
     share.tuples = share.tuples.saturating_add(u64::from(range.tuples));
     share.ns = share.ns.saturating_add(u128::from(range.ns));

@@ -12,6 +12,7 @@ impl Core {
     ghost use Rattle.worker_machine.specs.Desks.{CoreFits, desk_of, Stays};
     ghost use Rattle.worker_machine.specs.Following.{FollowsAt};
     ghost use Rattle.worker_machine.specs.Hands.{InHand};
+    ghost use Rattle.worker_machine.specs.Keeps.{Moves, standing};
     ghost use Rattle.worker_machine.specs.Left.{IsNearer};
 
     // Makes the one call of the phase, and does the work that follows it.
@@ -30,6 +31,8 @@ impl Core {
         ensures nearer { IsNearer (S.seen station.old).desk (phase) result }
         ensures same { desk_of self.new ≡ desk_of self.old }
         ensures stays { Stays (S.seen station.old) (S.seen station.new) }
+        ensures moves { Moves M.may_take (standing self.old (phase) (S.seen station.old))
+            (standing self.new result (S.seen station.new)) }
         ensures ticks { steps.new ≡ steps.old + 1 }
     {
         match phase {

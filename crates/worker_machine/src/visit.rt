@@ -1,5 +1,5 @@
 // A visit of a slot: a look, at most one claim, and the way out.
-ghost use Rattle.std.specs.Prelude.{◌+◌, ◌*◌, ◌-◌, ◌<◌, ℕ};
+ghost use Rattle.std.specs.Prelude.{◌≡◌, ◌+◌, ◌*◌, ◌-◌, ◌^◌, ◌<◌, ℕ, max, min};
 ghost use Rattle.slot_station.specs.Desks.{Desk};
 ghost use Rattle.bench_cell.specs.declared.plan.Plan.{Plan};
 ghost use Rattle.worker_machine.specs.Desks.{CoreFits};
@@ -9,7 +9,7 @@ ghost use Rattle.worker_machine.specs.declared.kept.Core.{Core};
 
 use crate::kept::Core;
 use crate::known::{settle, spend};
-use crate::phase::{Phase, Turn};
+use crate::phase::Phase;
 use crate::plans::{query_of, task_total};
 use crate::shares::{Worked, count_range};
 use bench_cell::Bench;
@@ -19,17 +19,23 @@ use slot_station::{
     Claim, Coordinator, Debt, Leave, Look, Pay, Shut, Spent, Station, Steps, Sweep,
 };
 use std::sync::ledger::Ledger;
+use turn_model::Turn;
 
 impl Core {
-    ghost use Rattle.std.specs.Prelude.{◌≡◌, ◌+◌, ◌<◌, ◌≤◌, ◌^◌, ℕ};
+    ghost use Rattle.std.specs.Prelude.{◌≡◌, ◌+◌, ◌-◌, ◌/◌, ◌<◌, ◌≤◌, ◌^◌, ℕ};
+    ghost use Rattle.slot_history.specs.declared.shape.TheConstants.{STAGES};
     ghost use Rattle.bench_cell.specs.declared.bench.Bench.{Bench};
-    ghost use Rattle.std.specs.Prelude.{Some};
+    ghost use Rattle.std.specs.Prelude.{Some, slice_get};
     ghost use Rattle.std.specs.Arc.{arc_value};
     ghost use Rattle.stride_set.specs.Strides.{MayAdvance, strides_of};
     ghost use Rattle.bench_cell.specs.Plans.{total_of};
+    ghost use Rattle.turn_model.specs.Learned.{allows};
+    ghost use Rattle.worker_machine.specs.declared.kept.Known.{Known};
+    ghost use Rattle.worker_machine.specs.Knowing.{IsPriorityOf, SharesCount, WorkedOn};
     ghost use Rattle.worker_machine.specs.Desks.{CoreFits, IsSizerOf, desk_of, Stays};
     ghost use Rattle.worker_machine.specs.Following.{FollowsAt};
     ghost use Rattle.worker_machine.specs.Hands.{InHand};
+    ghost use Rattle.worker_machine.specs.Keeps.{Moves, standing, takes_none};
     ghost use Rattle.worker_machine.specs.Left.{IsNearer};
     ghost use Rattle.worker_machine.specs.declared.phase.Phase.{Phase};
 
@@ -45,6 +51,9 @@ impl Core {
         ensures nearer { IsNearer (S.seen station.old).desk (Phase.Enter s) result }
         ensures same { desk_of self.new ≡ desk_of self.old }
         ensures stays { Stays (S.seen station.old) (S.seen station.new) }
+        ensures moves { Moves takes_none
+            (standing self.old (Phase.Enter s) (S.seen station.old))
+            (standing self.new result (S.seen station.new)) }
         ensures ticks { steps.new ≡ steps.old + 1 }
     {
         station.enter(s, steps);
@@ -63,6 +72,9 @@ impl Core {
         ensures nearer { IsNearer (S.seen station.old).desk (Phase.Look s) result }
         ensures same { desk_of self.new ≡ desk_of self.old }
         ensures stays { Stays (S.seen station.old) (S.seen station.new) }
+        ensures moves { Moves takes_none
+            (standing self.old (Phase.Look s) (S.seen station.old))
+            (standing self.new result (S.seen station.new)) }
         ensures ticks { steps.new ≡ steps.old + 1 }
     {
         match station.look(steps) {
@@ -89,6 +101,8 @@ impl Core {
     // Whether the slot's record allows the query.
     fn allows(&self, s: u32, q: u32) -> bool
         requires { s < self.now.slots }
+        ensures { (known : Known) → slice_get self.now.known.items s ≡ Some known
+            → result ≡ allows known.group q }
     {
         match self.known[s as usize].group {
             None => true,
@@ -107,6 +121,9 @@ impl Core {
         ensures nearer { IsNearer (S.seen station.old).desk Phase.Early result }
         ensures same { desk_of self.new ≡ desk_of self.old }
         ensures stays { Stays (S.seen station.old) (S.seen station.new) }
+        ensures moves { Moves takes_none
+            (standing self.old Phase.Early (S.seen station.old))
+            (standing self.new result (S.seen station.new)) }
         ensures ticks { steps.new ≡ steps.old + 1 }
     {
         match station.leave(steps) {
@@ -128,6 +145,9 @@ impl Core {
         ensures nearer { IsNearer (S.seen station.old).desk (Phase.Take s id) result }
         ensures same { desk_of self.new ≡ desk_of self.old }
         ensures stays { Stays (S.seen station.old) (S.seen station.new) }
+        ensures moves { Moves takes_none
+            (standing self.old (Phase.Take s id) (S.seen station.old))
+            (standing self.new result (S.seen station.new)) }
         ensures ticks { steps.new ≡ steps.old + 1 }
     {
         match station.own_cell(None, steps) {
@@ -152,6 +172,9 @@ impl Core {
         ensures nearer { IsNearer (S.seen station.old).desk (Phase.Claim s id bench) result }
         ensures same { desk_of self.new ≡ desk_of self.old }
         ensures stays { Stays (S.seen station.old) (S.seen station.new) }
+        ensures moves { Moves M.may_take
+            (standing self.old (Phase.Claim s id bench) (S.seen station.old))
+            (standing self.new result (S.seen station.new)) }
         ensures ticks { steps.new ≡ steps.old + 1 }
     {
         let total = task_total(&self.plan, id);
@@ -164,7 +187,7 @@ impl Core {
                 meter.start();
                 bench.work(from, to);
                 let cost = query_of(&self.plan, id / STAGES).cost;
-                let ns = meter.stop(to - from, cost).clamp(1, 1 << 36);
+                let ns = within_bounds(meter.stop(to - from, cost));
                 self.worked(s, id, from, to, ns);
                 Phase::Back(None, bench)
             }
@@ -182,6 +205,20 @@ impl Core {
             → to ≤ total }
         ensures same { desk_of self.new ≡ desk_of self.old }
         ensures benches { self.new.benches ≡ self.old.benches }
+        ensures replies { self.new.replies ≡ self.old.replies }
+        ensures records { self.new.records ≡ self.old.records }
+        ensures worked { (priority : ℕ) × WorkedOn
+            (record { slot = s; from = from; to = to; time = ns; priority = priority })
+            self.old self.new }
+        ensures counted { (priority : ℕ) × ((known : Known)
+            → slice_get self.new.known.items s ≡ Some known → IsPriorityOf known priority)
+            × SharesCount (record {
+              worker = self.old.worker;
+              query = id / STAGES;
+              tuples = to - from;
+              ns = ns;
+              priority = priority;
+            }) self.old self.new }
     {
         let known = &mut self.known[s as usize];
         let priority = known.decay.priority();
@@ -211,6 +248,9 @@ impl Core {
         ensures nearer { IsNearer (S.seen station.old).desk (Phase.Shut spent bench) result }
         ensures same { desk_of self.new ≡ desk_of self.old }
         ensures stays { Stays (S.seen station.old) (S.seen station.new) }
+        ensures moves { Moves takes_none
+            (standing self.old (Phase.Shut spent bench) (S.seen station.old))
+            (standing self.new result (S.seen station.new)) }
         ensures ticks { steps.new ≡ steps.old + 1 }
     {
         let s = spent.slot;
@@ -235,6 +275,9 @@ impl Core {
         ensures nearer { IsNearer (S.seen station.old).desk (Phase.Back coordinator bench) result }
         ensures same { desk_of self.new ≡ desk_of self.old }
         ensures stays { Stays (S.seen station.old) (S.seen station.new) }
+        ensures moves { Moves takes_none
+            (standing self.old (Phase.Back coordinator bench) (S.seen station.old))
+            (standing self.new result (S.seen station.new)) }
         ensures ticks { steps.new ≡ steps.old + 1 }
     {
         drop(station.own_cell(Some(bench), steps));
@@ -253,6 +296,9 @@ impl Core {
         ensures nearer { IsNearer (S.seen station.old).desk (Phase.Leave coordinator) result }
         ensures same { desk_of self.new ≡ desk_of self.old }
         ensures stays { Stays (S.seen station.old) (S.seen station.new) }
+        ensures moves { Moves takes_none
+            (standing self.old (Phase.Leave coordinator) (S.seen station.old))
+            (standing self.new result (S.seen station.new)) }
         ensures ticks { steps.new ≡ steps.old + 1 }
     {
         match station.leave(steps) {
@@ -276,6 +322,9 @@ impl Core {
         ensures nearer { IsNearer (S.seen station.old).desk (Phase.Ask coordinator) result }
         ensures same { desk_of self.new ≡ desk_of self.old }
         ensures stays { Stays (S.seen station.old) (S.seen station.new) }
+        ensures moves { Moves takes_none
+            (standing self.old (Phase.Ask coordinator) (S.seen station.old))
+            (standing self.new result (S.seen station.new)) }
         ensures ticks { steps.new ≡ steps.old + 1 }
     {
         station.mark_next(&mut coordinator, steps);
@@ -294,6 +343,9 @@ impl Core {
         ensures nearer { IsNearer (S.seen station.old).desk (Phase.Sweep coordinator) result }
         ensures same { desk_of self.new ≡ desk_of self.old }
         ensures stays { Stays (S.seen station.old) (S.seen station.new) }
+        ensures moves { Moves takes_none
+            (standing self.old (Phase.Sweep coordinator) (S.seen station.old))
+            (standing self.new result (S.seen station.new)) }
         ensures ticks { steps.new ≡ steps.old + 1 }
     {
         match station.sweep(coordinator, steps) {
@@ -317,6 +369,9 @@ impl Core {
         ensures nearer { IsNearer (S.seen station.old).desk (Phase.Pay debt) result }
         ensures same { desk_of self.new ≡ desk_of self.old }
         ensures stays { Stays (S.seen station.old) (S.seen station.new) }
+        ensures moves { Moves takes_none
+            (standing self.old (Phase.Pay debt) (S.seen station.old))
+            (standing self.new result (S.seen station.new)) }
         ensures ticks { steps.new ≡ steps.old + 1 }
     {
         match station.pay(debt, steps) {
@@ -327,6 +382,13 @@ impl Core {
             Pay::Done => Phase::Ready(Turn::Acted),
         }
     }
+}
+
+// The time of a range is at least a nanosecond, and at most some 69 seconds.
+fn within_bounds(ns: u64) -> u64
+    ensures { result ≡ max 1 (min ns (2 ^ 36)) }
+{
+    ns.clamp(1, 1 << 36)
 }
 
 // The next worker is asked, or the sweep is due if all were.

@@ -1,9 +1,10 @@
 // A worker's steps and turns.
-ghost use Rattle.std.specs.Prelude.{◌≡◌, ◌<◌, ℕ, length, slice_get, Some, None, IfOk};
+ghost use Rattle.std.specs.Prelude.{◌≡◌, ◌<◌, ℕ, length, slice_get, Some, IfOk};
+ghost use Rattle.worker_machine.specs.Keeps.{IsUnknown};
 ghost use Rattle.worker_machine.specs.declared.kept.Known.{Known};
 
 use crate::kept::{Core, Known};
-use crate::phase::{Phase, Stepped, Turn};
+use crate::phase::{Phase, Stepped};
 use crate::state::Worker;
 use bench_cell::{Bench, Plan};
 use morsel_size::Sizer;
@@ -15,11 +16,13 @@ use std::mem;
 use std::sync::Arc;
 use std::sync::ledger::Ledger;
 use stride_set::StrideSet;
+use turn_model::Turn;
 
 impl Core {
     ghost use Rattle.std.specs.Prelude.{◌≡◌, ◌<◌, ◌≤◌, length, IfOk};
     ghost use Rattle.std.specs.Arc.{arc_value};
     ghost use Rattle.worker_machine.specs.Desks.{desk_of};
+    ghost use Rattle.worker_machine.specs.Keeps.{IsUntold};
 
     pub(crate) fn new(
         alloc: Global,
@@ -31,7 +34,7 @@ impl Core {
         requires worker { worker < workers }
         requires workers { workers ≤ 64 }
         requires slots { (0 < slots) × (slots ≤ 128) }
-        ensures { IfOk result (λ core. desk_of core ≡ record {
+        ensures desk { IfOk result (λ core. desk_of core ≡ record {
           worker = worker;
           shape = record {
             workers = workers;
@@ -40,6 +43,11 @@ impl Core {
           };
           subject = arc_value plan;
         }) }
+        ensures untold { IfOk result (IsUntold (record {
+          workers = workers;
+          slots = slots;
+          queries = length (arc_value plan).queries.items;
+        })) }
     {
         let strides = StrideSet::new(alloc, slots)?;
         let known = unknown(alloc, workers, slots)?;
@@ -72,7 +80,7 @@ fn unknown(alloc: Global, workers: u32, slots: u32) -> Result<Vec<Known>, AllocE
     requires { 0 < workers }
     ensures length { IfOk result (λ known. length known.items ≡ slots) }
     ensures none { IfOk result (λ known. (s : ℕ) (k : Known) → slice_get known.items s ≡ Some k
-        → k.id ≡ None) }
+        → IsUnknown k) }
 {
     let mut known = Vec::with_capacity(alloc, slots as usize)?;
     for _ in 0..slots {
@@ -107,10 +115,12 @@ impl Worker {
     ghost use Rattle.std.specs.Arc.{arc_value};
     ghost use Rattle.slot_history.specs.declared.shape.TheConstants.{PARTS};
     ghost use Rattle.worker_machine.specs.declared.phase.Phase.{Phase};
-    ghost use Rattle.worker_machine.specs.declared.phase.Turn.{Turn};
+    ghost use Rattle.turn_model.specs.declared.turn.Turn.{Turn};
     ghost use Rattle.worker_machine.specs.Desks.{Stays};
     ghost use Rattle.worker_machine.specs.Following.{Follows, IsNewFor, stepped};
+    ghost use Rattle.worker_machine.specs.Keeps.{Moves};
     ghost use Rattle.worker_machine.specs.Left.{IsNearer, is_ready};
+    ghost use Rattle.worker_machine.specs.Turning.{Turns, standing_of};
 
     /// A worker that has made no call: one of so many workers, over an object of so many slots,
     /// for this plan. It takes all the memory that its replies, records and shares will need, and
@@ -155,6 +165,8 @@ impl Worker {
         ensures nearer { IsNearer (S.seen station.old).desk self.old.phase self.new.phase }
         ensures ends { result ≡ stepped self.new.phase }
         ensures stays { Stays (S.seen station.old) (S.seen station.new) }
+        ensures moves { Moves M.may_take (standing_of self.old (S.seen station.old))
+            (standing_of self.new (S.seen station.new)) }
         ensures ticks { steps.new ≡ steps.old + 1 }
     {
         let phase = mem::replace(&mut self.phase, Phase::Count);
@@ -178,6 +190,8 @@ impl Worker {
         ensures follows { Follows self.new (S.seen station.new) }
         ensures ends { self.new.phase ≡ Phase.Ready result }
         ensures stays { Stays (S.seen station.old) (S.seen station.new) }
+        ensures turns { Turns M.may_take (standing_of self.old (S.seen station.old)) result
+            (standing_of self.new (S.seen station.new)) }
         ensures ticks { steps.new ≤ steps.old + (S.seen station.old).desk.shape.slots
             + 4 * (S.seen station.old).desk.shape.workers + 2 * PARTS + 16 }
     {

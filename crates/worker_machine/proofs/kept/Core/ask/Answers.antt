@@ -5,6 +5,13 @@ use Rattle.worker_machine.proofs.Calls.{carry}
 use Rattle.worker_machine.proofs.Outcomes.{asked-hand}
 use Rattle.slot_station.specs.declared.token.Coordinator.{Coordinator}
 use Rattle.worker_machine.specs.Plans.{IsTask}
+use Rattle.std.proofs.Common.{◌∙◌}
+use Rattle.worker_machine.specs.Outcomes.{IsAsked}
+use Rattle.worker_machine.proofs.Moving.{moves-by, place-made}
+use Rattle.worker_machine.proofs.VisitMoves.{mark-moves}
+use Rattle.std.proofs.Common.{refl}
+use Rattle.worker_machine.specs.declared.phase.Phase.TheVariants as phase
+use Rattle.worker_machine.proofs.Telling.{asked-gives, told-kept}
 use Rattle.worker_machine.proofs.kept.Core.ask.Goals as goal
 
 pub returns-clause-hand : goal.returns-clause-hand
@@ -29,3 +36,13 @@ returns-clause-nearer g c =
     let f = c.requires.follows in
     let e = ap (λ (x : Coordinator). x.asked) c.mark_next.ensures.counts in
     c.asked.ensures.nearer old.desk _ (omega (arith, e, f.hand.1))
+
+pub returns-clause-moves : goal.returns-clause-moves
+returns-clause-moves g c =
+    let old = g.S.Station.seen c.args.station.now in
+    let f = c.requires.follows in
+    moves-by c.mark_next.ensures.made 0 (λ ms h. mark-moves old.desk ms c.mark_next.result c.args.self.now c.args.coordinator c.asked.result
+    (sym (place-made old ms h) ∙ f.hand.0.place) f.hand.0.workers f.hand.1
+    (subst (λ (x : Coordinator). IsAsked x c.asked.result) c.mark_next.ensures.counts c.asked.ensures.asked) h.knows h.shares h.answers
+    (told-kept c.args.self.now c.args.self.now (phase.Ask c.args.coordinator) c.asked.result refl refl
+    (asked-gives c.mark_next.new.coordinator c.asked.result c.asked.ensures.asked) h.told))

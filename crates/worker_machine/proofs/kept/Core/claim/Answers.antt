@@ -10,6 +10,15 @@ use Rattle.slot_history.specs.declared.shape.TheConstants.{STAGES}
 use Rattle.bench_cell.specs.Plans.{total_of}
 use Rattle.std.proofs.lemmas.Option.{slice_get_read}
 use Rattle.worker_machine.specs.Plans.{IsTask}
+use Rattle.slot_station.specs.Desks.{Desk}
+use Rattle.std.proofs.Common.{refl, length}
+use Rattle.worker_machine.proofs.Moving.{answers-kept, moves-by, keeps-on}
+use Rattle.std.proofs.Common.{ap}
+use Rattle.worker_machine.specs.Plans.{cost_at}
+use Rattle.worker_machine.proofs.VisitMoves.{claim-size, known-at, range-knows, range-shares, range-timed, spent-priority}
+use Rattle.worker_machine.specs.declared.phase.Phase.TheVariants as phase
+use Rattle.std.proofs.Common.{None}
+use Rattle.worker_machine.proofs.Telling.{told-kept}
 use Rattle.worker_machine.proofs.kept.Core.claim.Goals as goal
 
 pub task_total-total-requires : goal.task_total-total-requires
@@ -72,3 +81,65 @@ pub returns-in-Exhausted-clause-hand : goal.returns-in-Exhausted-clause-hand
 returns-in-Exhausted-clause-hand g c =
     let f = c.requires.follows in
     used-up c.in-Exhausted.ensures.made f.hand.0 f.hand.1 f.hand.2 c.in-Exhausted.ensures.spent f.hand.3 []
+
+pub returns-in-Range-clause-moves : goal.returns-in-Range-clause-moves
+returns-in-Range-clause-moves g c =
+    let old = g.S.Station.seen c.args.station.now in
+    let f = c.requires.follows in
+    let self = c.args.self.now in
+    let slots = slots-of self f.desk in
+    let low : c.args.s < self.slots = omega (arith, slots, f.hand.1) in
+    let known = c.index-known.result.now in
+    let got = slice_get_read self.known.items self.slots c.args.s known (sym self.each_known) low c.index-known.ensures in
+    let of = f.fits.1 known got in
+    let plan = c.deref.ensures ∙ plan-of self f.desk in
+    let w = c.worked.ensures.worked.1 in
+    let counts = c.worked.ensures.counted in
+    let slots' = ap (λ (x : Desk Plan). x.shape.slots) c.worked.ensures.same in
+    let now = known-at c.worked.new.self.known.items c.args.s (omega (arith, slots', low, c.worked.new.self.each_known)) in
+    let below : c.args.id / STAGES < old.desk.shape.queries = subst (λ (x : Desk Plan). c.args.id / STAGES < x.shape.queries) f.desk
+    (task-query (arc_value self.plan) c.args.id (subst (λ (p : Plan). IsTask p c.args.id) (sym (plan-of self f.desk)) f.hand.2)) in
+    moves-by c.in-Range.ensures.made c.within_bounds-ns.result (λ ms h. record {
+      may = c.next-n.ensures.size
+          ∙ sym (claim-size old ms h f.hand.0 known got of _
+          (subst (λ (p : Plan). total_of p c.args.id ≡ Some c.task_total-total.result) plan c.task_total-total.ensures.total));
+      timed = range-timed old ms h f.hand.0 known got of g.M.Meter.may_take c.next-n.result c.in-Range.from
+          c.in-Range.to c.within_bounds-ns.result _ _ c.stop.ensures
+          (sym c.query_of.ensures.cost ∙ ap (λ (p : Plan). cost_at p (c.args.id / STAGES)) (c.deref-in-Range.ensures ∙ plan-of self f.desk))
+          c.within_bounds-ns.ensures;
+      answers = answers-kept h.answers c.worked.ensures.replies;
+      told = told-kept c.args.self.now c.worked.new.self (phase.Claim c.args.s c.args.id c.args.bench) (phase.Back None c.work.new.self)
+          c.worked.ensures.replies c.worked.ensures.records refl h.told;
+      knows = range-knows old ms h f.hand.0 known got of c.in-Range.ensures.made
+          (record { priority = w.priority; strides = w.strides; known = w.known; times = w.times; finished = w.finished; arrived = w.arrived });
+      shares = range-shares old ms h f.hand.0 known got of c.worked.new.self c.next-n.result c.in-Range.from c.in-Range.to
+          c.within_bounds-ns.result counts.0 h.shares (ap (λ (x : Desk Plan). x.worker) f.desk) below
+          (spent-priority old ms h f.hand.0 known got of c.worked.new.self c.in-Range.ensures.made
+          (record { priority = w.priority; strides = w.strides; known = w.known; times = w.times; finished = w.finished; arrived = w.arrived })
+          now.0 now.1 (counts.1 now.0 now.1))
+          (record { room = counts.2.room; counts = counts.2.counts });
+      point = refl;
+    })
+
+pub returns-in-Exhausted-clause-moves : goal.returns-in-Exhausted-clause-moves
+returns-in-Exhausted-clause-moves g c =
+    let old = g.S.Station.seen c.args.station.now in
+    let f = c.requires.follows in
+    let self = c.args.self.now in
+    let slots = slots-of self f.desk in
+    let low : c.args.s < self.slots = omega (arith, slots, f.hand.1) in
+    let known = c.index-known.result.now in
+    let got = slice_get_read self.known.items self.slots c.args.s known (sym self.each_known) low c.index-known.ensures in
+    let of = f.fits.1 known got in
+    let plan = c.deref.ensures ∙ plan-of self f.desk in
+    moves-by c.in-Exhausted.ensures.made 0 (λ ms h. record {
+      may = c.next-n.ensures.size
+          ∙ sym (claim-size old ms h f.hand.0 known got of _
+          (subst (λ (p : Plan). total_of p c.args.id ≡ Some c.task_total-total.result) plan c.task_total-total.ensures.total));
+      timed = refl;
+      shares = h.shares;
+      answers = h.answers;
+      told = h.told;
+      knows = keeps-on h.knows refl;
+      point = refl;
+    })

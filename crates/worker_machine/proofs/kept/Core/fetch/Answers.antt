@@ -8,6 +8,16 @@ use Rattle.worker_machine.proofs.Outcomes.{finishing-hand}
 use Rattle.worker_machine.proofs.Finishing.{fetched-for}
 use Rattle.std.specs.Arc.{arc_value}
 use Rattle.worker_machine.specs.Hands.{IsTaskHeld}
+use Rattle.std.proofs.Common.{◌≡◌, refl, ap}
+use Rattle.turn_model.specs.Points as point
+use Rattle.worker_machine.proofs.Moving.{exchanges-by, mind-on}
+use Rattle.worker_machine.proofs.FinishMoves.{finishing-chosen, finishing-point}
+use Rattle.worker_machine.specs.Loads.{model_desk}
+use Rattle.worker_machine.specs.declared.phase.Phase.TheVariants as phase
+use Rattle.worker_machine.proofs.Finishing.{fetched-fit}
+use Rattle.worker_machine.proofs.Moving.{place-made}
+use Rattle.worker_machine.proofs.Recording.{fetch-told}
+use Rattle.worker_machine.proofs.Telling.{fetch-tells}
 use Rattle.worker_machine.proofs.kept.Core.fetch.Goals as goal
 
 pub unreachable-requires-in-Err : goal.unreachable-requires-in-Err
@@ -94,3 +104,50 @@ gathered-requires-clause-benches g c =
     let after = workers-of c.args.self.now has in
     fetched-for (g.S.Station.seen c.cell.new.self) c.cell.new.holder c.push.new.self.items p.holds p.again p.known (is-one c.args.self.now has)
     (omega (arith, n, last, low, before, after)) p.fit (arc_value c.args.self.now.plan) (plan-of c.args.self.now has)
+
+pub returns-then-v-self-clause-moves : goal.returns-then-v-self-clause-moves
+returns-then-v-self-clause-moves g c =
+    let old = g.S.Station.seen c.args.station.now in
+    let f = c.requires.follows in
+    exchanges-by c.cell.ensures.put.stays f.hand.low
+    (λ ms k. record { strides = k.strides; finished = k.finished; arrived = k.arrived; times = k.times; slots = k.slots }) refl refl refl
+    (λ ms h. fetch-tells (model_desk old.desk) ms c.args.v h.point (subst (λ (x : Desk Plan). c.args.v + 1 < x.shape.workers) f.desk c.if-v-self.true) h.told)
+
+pub returns-else-v-self-clause-moves : goal.returns-else-v-self-clause-moves
+returns-else-v-self-clause-moves g c =
+    let old = g.S.Station.seen c.args.station.now in
+    let f = c.requires.follows in
+    let x = c.cell.ensures.put in
+    let was = c.args.self.now.benches.items in
+    let p =
+    fetch-on c.args.v was c.push.new.self.items c.in-Some.bench f.hand x c.cell.ensures.same c.in-Some.ensures.says c.in-Ok.ensures.items in
+    let w = workers-of c.args.self.now f.desk in
+    let last = c.if-v-self.false in
+    let all : c.args.v + 1 ≡ (g.S.Station.seen c.args.station.now).desk.shape.workers = omega (arith, w, last, f.hand.low) in
+    let m = c.gathered.ensures.mind in
+    let new = g.S.Station.seen c.cell.new.self in
+    let has = f.desk ∙ sym x.stays.desk in
+    let owner = ap (λ (y : Desk Plan). y.worker) has in
+    let plan = plan-of c.args.self.now has in
+    let n = p.count in
+    let bs = c.push.new.self.items in
+    let fit = fetched-fit new c.cell.new.holder bs p.holds p.known
+    (omega (arith, n, all, ap (λ (y : Desk Plan). y.shape.workers) x.stays.desk)) p.fit (arc_value c.args.self.now.plan) plan in
+    let one = is-one c.args.self.now has in
+    exchanges-by {core = c.args.self.now} x.stays f.hand.low
+    (λ ms k. mind-on k
+    (record {
+      strides = m.strides;
+      rest = record {
+        known = m.rest.known;
+        finished = m.rest.finished;
+        arrived = m.rest.arrived;
+        times = m.rest.times;
+        shares = m.rest.shares;
+      };
+    }) (sym (finishing-chosen c.gathered.new.self c.cell.new.holder c.gathered.result c.gathered.ensures.finishes _)))
+    (finishing-point _ c.gathered.new.self c.cell.new.holder c.gathered.result c.gathered.ensures.finishes p.again ∙ ap point.Fetch (sym all))
+    m.rest.shares c.gathered.ensures.replies
+    (λ ms h. fetch-told old new x.stays c.cell.new.holder p.holds p.again p.known one p.task plan owner c.gathered.ensures.record fit
+    c.gathered.ensures.replies (phase.Fetch c.args.holder c.args.v) refl ms (place-made old ms h)
+    (ap point.Fetch (omega (arith, all)) ∙ h.point) (omega (arith, all)) h.told)

@@ -7,6 +7,15 @@ use Rattle.worker_machine.proofs.Visits.{left-free, first-leaves}
 use Rattle.worker_machine.proofs.Outcomes.{asked-hand}
 use Rattle.worker_machine.specs.Plans.{IsTask}
 use Rattle.worker_machine.specs.Hands.{CoordinatorFits}
+use Rattle.std.proofs.Common.{refl, sym, ap}
+use Rattle.slot_history.specs.declared.place.Place.{Place}
+use Rattle.slot_history.specs.Steps.{left}
+use Rattle.turn_model.specs.Points.{asked}
+use Rattle.worker_machine.proofs.Moving.{moves-by, keeps-on, place-made}
+use Rattle.worker_machine.proofs.VisitMoves.{asked-chosen, first-asked}
+use Rattle.worker_machine.specs.Loads.{model_desk}
+use Rattle.worker_machine.specs.declared.phase.Phase.TheVariants as phase
+use Rattle.worker_machine.proofs.Telling.{asked-gives, told-kept}
 use Rattle.worker_machine.proofs.kept.Core.leave.Goals as goal
 
 pub returns-in-Some-clause-hand : goal.returns-in-Some-clause-hand
@@ -29,3 +38,47 @@ returns-in-None-clause-hand g c =
     let old = g.S.Station.seen c.args.station.now in
     let f = c.requires.follows in
     place-on c.in-Left.ensures.made ∙ left-free _ (subst (CoordinatorFits old) c.in-None.is f.hand.2)
+
+pub returns-in-Some-clause-moves : goal.returns-in-Some-clause-moves
+returns-in-Some-clause-moves g c =
+    let old = g.S.Station.seen c.args.station.now in
+    let f = c.requires.follows in
+    let t = subst (CoordinatorFits old) c.in-Some.is f.hand.2 in
+    moves-by c.in-Left.ensures.made 0 (λ ms h. record {
+      may = tt;
+      timed = refl;
+      shares = h.shares;
+      answers = h.answers;
+      told = told-kept c.args.self.now c.args.self.now (phase.Leave c.args.coordinator) c.asked.result refl refl
+          (asked-gives c.in-Some.coordinator c.asked.result c.asked.ensures.asked) h.told;
+      knows = keeps-on h.knows (sym (asked-chosen c.in-Some.coordinator c.asked.result c.asked.ensures.asked _));
+      point = first-asked (model_desk old.desk) ms _ c.in-Some.coordinator c.asked.result c.asked.ensures.asked t.0 (place-made old ms h)
+          (some-workers c.args.self.now f.desk);
+    })
+
+pub returns-in-None-clause-moves : goal.returns-in-None-clause-moves
+returns-in-None-clause-moves g c =
+    let old = g.S.Station.seen c.args.station.now in
+    let f = c.requires.follows in
+    moves-by c.in-Left.ensures.made 0 (λ ms h. record {
+      may = tt;
+      timed = refl;
+      shares = h.shares;
+      answers = h.answers;
+      told = h.told;
+      knows = keeps-on h.knows refl;
+      point = sym (ap (λ (p : Place). asked old.desk.shape.workers (left p)) (sym (place-made old ms h))
+          ∙ ap (asked old.desk.shape.workers) (left-free _ (subst (CoordinatorFits old) c.in-None.is f.hand.2)));
+    })
+
+pub returns-in-Owe-clause-moves : goal.returns-in-Owe-clause-moves
+returns-in-Owe-clause-moves g c =
+    moves-by c.in-Owe.ensures.made 0 (λ ms h. record {
+      may = tt;
+      timed = refl;
+      shares = h.shares;
+      answers = h.answers;
+      told = h.told;
+      knows = keeps-on h.knows refl;
+      point = refl;
+    })

@@ -1,6 +1,8 @@
 use Rattle.worker_machine.proofs.Calls.{place-by}
 use Rattle.worker_machine.proofs.Desks.{some-workers}
 use Rattle.worker_machine.proofs.Visits.{finalises}
+use Rattle.std.proofs.Common.{refl}
+use Rattle.worker_machine.proofs.Moving.{moves-by, keeps-on}
 use Rattle.worker_machine.proofs.kept.Core.sweep.Goals as goal
 
 pub returns-in-Last-clause-hand : goal.returns-in-Last-clause-hand
@@ -9,3 +11,33 @@ returns-in-Last-clause-hand g c =
     let m = c.in-Last.ensures.made in
     finalises _ _ m (place-by m f.hand.0.place) c.in-Last.ensures.holder f.hand.2 (λ v lt. m.notes v lt)
     (some-workers c.args.self.now f.desk) c.clear.ensures.items
+
+pub returns-in-Last-clause-moves : goal.returns-in-Last-clause-moves
+returns-in-Last-clause-moves g c =
+    moves-by c.in-Last.ensures.made 0 (λ ms h. record {
+      may = tt;
+      timed = refl;
+      shares = h.shares;
+      answers = h.answers;
+      told = h.told;
+      knows = record {
+        strides = h.knows.strides;
+        finished = h.knows.finished;
+        arrived = h.knows.arrived;
+        times = h.knows.times;
+        slots = h.knows.slots;
+      };
+      point = refl;
+    })
+
+pub returns-in-Others-clause-moves : goal.returns-in-Others-clause-moves
+returns-in-Others-clause-moves g c =
+    moves-by c.in-Others.ensures.made 0 (λ ms h. record {
+      may = tt;
+      timed = refl;
+      shares = h.shares;
+      answers = h.answers;
+      told = h.told;
+      knows = keeps-on h.knows refl;
+      point = refl;
+    })

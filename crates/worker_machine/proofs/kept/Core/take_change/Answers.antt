@@ -1,4 +1,7 @@
-use Rattle.std.proofs.Common.{ap, ◌∙◌}
+use Rattle.std.proofs.Common.{◌+◌, refl, sym, ap, ◌∙◌, cond, lt-ltb, le-ltb}
+use Rattle.turn_model.specs.Points as point
+use Rattle.worker_machine.proofs.Moving.{moves-by}
+use Rattle.worker_machine.proofs.TakenNotices.{took-changes}
 use Rattle.worker_machine.proofs.Calls.{place-by}
 use Rattle.worker_machine.proofs.Joining.{changed-slots}
 use Rattle.std.specs.Arc.{arc_value}
@@ -27,3 +30,27 @@ pub returns-else-part-lt-PARTS-clause-hand : goal.returns-else-part-lt-PARTS-cla
 returns-else-part-lt-PARTS-clause-hand g c =
     let f = c.requires.follows in
     place-by c.take_change-bits.ensures.made f.hand.0
+
+pub returns-then-part-lt-PARTS-clause-moves : goal.returns-then-part-lt-PARTS-clause-moves
+returns-then-part-lt-PARTS-clause-moves g c =
+    moves-by c.take_change-bits.ensures.made 0 (λ ms h. record {
+      may = refl;
+      timed = refl;
+      shares = h.shares;
+      answers = h.answers;
+      told = h.told;
+      knows = took-changes c.args.part c.take_change-bits.result ms h.knows refl c.join_changed.ensures c.forget_groups.ensures.groups (refl, refl, refl) refl;
+      point = sym (ap (λ b. cond b (point.Change (c.args.part + 1)) point.Count) (lt-ltb _ _ c.if-part-lt-PARTS.true));
+    })
+
+pub returns-else-part-lt-PARTS-clause-moves : goal.returns-else-part-lt-PARTS-clause-moves
+returns-else-part-lt-PARTS-clause-moves g c =
+    moves-by c.take_change-bits.ensures.made 0 (λ ms h. record {
+      may = refl;
+      timed = refl;
+      shares = h.shares;
+      answers = h.answers;
+      told = h.told;
+      knows = took-changes c.args.part c.take_change-bits.result ms h.knows refl c.join_changed.ensures c.forget_groups.ensures.groups (refl, refl, refl) refl;
+      point = sym (ap (λ b. cond b (point.Change (c.args.part + 1)) point.Count) (le-ltb _ _ c.if-part-lt-PARTS.false));
+    })

@@ -1,4 +1,7 @@
-use Rattle.std.proofs.Common.{ap, ◌∙◌, arith}
+use Rattle.turn_model.specs.Points as point
+use Rattle.std.proofs.Common.{◌+◌, refl, sym, ap, ◌∙◌, cond, lt-ltb, le-ltb, arith}
+use Rattle.worker_machine.proofs.TakenNotices.{took-returns}
+use Rattle.worker_machine.proofs.Moving.{moves-by}
 use Rattle.worker_machine.proofs.Calls.{place-by}
 use Rattle.worker_machine.proofs.Joining.{returned-slots}
 use Rattle.stride_set.specs.Strides.{Strides, strides_of}
@@ -6,12 +9,14 @@ use Rattle.worker_machine.proofs.kept.Core.take_return.Goals as goal
 
 pub invariant_of-self : goal.invariant_of-self
 invariant_of-self g c =
+    let old = g.S.Station.seen c.args.station.now in
+    let f = c.requires.follows in
     record {
       is_one = c.args.self.now.is_one;
       few_workers = c.args.self.now.few_workers;
       few_slots = c.args.self.now.few_slots;
-      passes = ap (λ (x : Strides). x.slots) c.join_returned.ensures ∙ returned-slots 64 c.args.part c.take_return-bits.result
-          (strides_of c.args.self.now.strides) ∙ c.args.self.now.passes;
+      passes = ap (λ (x : Strides). x.slots) c.join_returned.ensures
+          ∙ returned-slots 64 c.args.part c.take_return-bits.result (strides_of c.args.self.now.strides) ∙ c.args.self.now.passes;
       each_known = c.args.self.now.each_known;
       room = c.args.self.now.room;
       sized = c.args.self.now.sized;
@@ -19,10 +24,69 @@ invariant_of-self g c =
 
 pub returns-then-part-lt-PARTS-clause-hand : goal.returns-then-part-lt-PARTS-clause-hand
 returns-then-part-lt-PARTS-clause-hand g c =
+    let old = g.S.Station.seen c.args.station.now in
     let f = c.requires.follows in
     (place-by c.take_return-bits.ensures.made f.hand.0, c.if-part-lt-PARTS.true)
 
 pub returns-else-part-lt-PARTS-clause-hand : goal.returns-else-part-lt-PARTS-clause-hand
 returns-else-part-lt-PARTS-clause-hand g c =
+    let old = g.S.Station.seen c.args.station.now in
     let f = c.requires.follows in
     (place-by c.take_return-bits.ensures.made f.hand.0, omega arith)
+
+pub returns-then-part-lt-PARTS-clause-moves : goal.returns-then-part-lt-PARTS-clause-moves
+returns-then-part-lt-PARTS-clause-moves g c =
+    moves-by c.take_return-bits.ensures.made 0 (λ ms h. record {
+      may = refl;
+      timed = refl;
+      shares = h.shares;
+      answers = h.answers;
+      told = h.told;
+      knows = took-returns c.args.part c.take_return-bits.result ms h.knows refl c.join_returned.ensures (record {
+        known = refl;
+        finished = refl;
+        arrived = refl;
+        times = refl;
+        shares = refl;
+      }) refl;
+      point = sym (ap (λ b. cond b (point.Return (c.args.part + 1)) (point.Change 0)) (lt-ltb _ _ c.if-part-lt-PARTS.true));
+    })
+
+pub returns-then-part-lt-PARTS-clause-begins : goal.returns-then-part-lt-PARTS-clause-begins
+returns-then-part-lt-PARTS-clause-begins g c first turn =
+    moves-by c.take_return-bits.ensures.made 0 (λ ms h. record {
+      may = first;
+      timed = refl;
+      shares = h.shares;
+      answers = h.answers;
+      told = h.told;
+      knows = took-returns c.args.part c.take_return-bits.result ms h.knows refl c.join_returned.ensures (record {
+        known = refl;
+        finished = refl;
+        arrived = refl;
+        times = refl;
+        shares = refl;
+      }) refl;
+      point = ap (λ k. point.Return (k + 1)) first;
+    })
+
+pub returns-else-part-lt-PARTS-clause-moves : goal.returns-else-part-lt-PARTS-clause-moves
+returns-else-part-lt-PARTS-clause-moves g c =
+    moves-by c.take_return-bits.ensures.made 0 (λ ms h. record {
+      may = refl;
+      timed = refl;
+      shares = h.shares;
+      answers = h.answers;
+      told = h.told;
+      knows = took-returns c.args.part c.take_return-bits.result ms h.knows refl c.join_returned.ensures (record {
+        known = refl;
+        finished = refl;
+        arrived = refl;
+        times = refl;
+        shares = refl;
+      }) refl;
+      point = sym (ap (λ b. cond b (point.Return (c.args.part + 1)) (point.Change 0)) (le-ltb _ _ c.if-part-lt-PARTS.false));
+    })
+
+pub returns-else-part-lt-PARTS-clause-begins : goal.returns-else-part-lt-PARTS-clause-begins
+returns-else-part-lt-PARTS-clause-begins g c first turn = absurd (omega (arith, first, c.if-part-lt-PARTS.false))

@@ -1,5 +1,7 @@
 -- Numbers among the words.
-use Rattle.std.proofs.Common.{◌≡◌, ◌<◌, ◌≤◌, ◌^◌, ◌∙◌, false, ℕ, Bool, Option, true, List, [], ◌∷◌, length, Some, None, ap, refl, sym, subst, arith}
+use Rattle.std.proofs.Common.{◌≡◌, ◌<◌, ◌≤◌, ◌-◌, ◌^◌, ◌∙◌, false, ℕ, suc, Bool, Option, true, List, [], ◌∷◌, ◌++◌, length, Some, None, ap, refl, sym, subst}
+use Rattle.std.proofs.Common.{All, append_assoc, arith}
+use Rattle.std.proofs.lemmas.List.Elements.{All-cons, All-nil}
 use Rattle.std.proofs.lemmas.Bool.{and_parts, false_from_ne_true}
 use Rattle.std.proofs.lemmas.Bool.Decides.{nat_tests}
 use Rattle.std.proofs.lemmas.Str.{digit_value_digit}
@@ -9,10 +11,10 @@ use Rattle.std.specs.List.{after_first, before_first, list_all, position_or_len}
 use Rattle.std.specs.Option.{option_and_then, option_map}
 use Rattle.std.proofs.lemmas.List.Splits.{length-slice_split, slice_split_first, slice_split_none}
 use Rattle.std.proofs.lemmas.List.Sums.{fails_before_first}
-use Rattle.std.specs.Prelude.{◌==◌, if◌then◌else◌, is_some, nat_le, not}
+use Rattle.std.specs.Prelude.{◌==◌, if◌then◌else◌, is_some, nat_le, not, unwrap_or}
 use Rattle.std.specs.Str.Parse.{AllDigits, digits_value, IsNumeral, without_leading_plus}
 use Rattle.csv_tables.proofs.Digits.{digit_range}
-use Rattle.sched_tool.specs.Words.{fields_of, is_number_word, list_of, number_of, numbers_of}
+use Rattle.sched_tool.specs.Words.{fields_of, is_number_word, list_of, number_of, numbers_of, order_of}
 
 digit_below : (c : ℕ) → is_ascii_digit c ≡ true → digit_value c < 10
 digit_below c is = let range = digit_range c is in omega (arith, range, digit_value_digit c range)
@@ -113,3 +115,74 @@ no_value (Some n) test is none = let both : true ≡ false = is ∙ ap not none 
 
 pub a_value : (o : Option ℕ) (test : Bool) → is_some o ≡ not test → test ≡ false → is_some o ≡ true
 a_value o test is some = is ∙ ap not some
+
+-- ---- the numbers of a list that is read
+
+-- a number more is read: the list of those so far, and of those to come, is the same
+pub number_read : (o : Option ℕ) (rest whole : Option (List ℕ)) (order : List ℕ) → option_map (λ more. order ++ more) (option_and_then (λ number.
+    option_map (λ numbers. number ∷ numbers) rest) o) ≡ whole → is_some whole ≡ true
+    → option_map (λ more. order ++ (unwrap_or o 0 ∷ []) ++ more) rest ≡ whole
+number_read None rest whole order is some = let none : false ≡ true = ap is_some is ∙ some in absurd cc
+number_read (Some number) None whole order is some = is
+number_read (Some number) (Some numbers) whole order is some = ap Some (append_assoc order (number ∷ []) numbers) ∙ is
+
+-- the last number is read
+pub last_read : (o : Option ℕ) (whole : Option (List ℕ)) (order : List ℕ) → option_map (λ more. order ++ more) (option_and_then (λ number. option_map (λ
+    numbers. number ∷ numbers) (Some [])) o) ≡ whole → is_some whole ≡ true → whole ≡ Some (order ++ (unwrap_or o 0 ∷ []))
+last_read None whole order is some = let none : false ≡ true = ap is_some is ∙ some in absurd cc
+last_read (Some number) whole order is some = sym is
+
+-- the fields of a list that is read are numbers
+pub list_is : (greatest : ℕ) (text : List ℕ) → is_some (list_of greatest text) ≡ true → list_of greatest text ≡ numbers_of greatest (fields_of text)
+list_is greatest text some =
+    elim (nat_le (length (fields_of text)) 4096) as (λ test. is_some (if test then numbers_of greatest (fields_of text) else None) ≡ true
+    → (if test then numbers_of greatest (fields_of text) else None) ≡ numbers_of greatest (fields_of text)) [
+      | false ↦ λ none. absurd cc
+      | true ↦ λ is. refl
+    ] some
+
+list_short : (greatest : ℕ) (text : List ℕ) → is_some (list_of greatest text) ≡ true → length (fields_of text) ≤ 4096
+list_short greatest text some =
+    elim (nat_le (length (fields_of text)) 4096) as (λ test. nat_le (length (fields_of text)) 4096 ≡ test
+    → is_some (if test then numbers_of greatest (fields_of text) else None) ≡ true → length (fields_of text) ≤ 4096) [
+      | false ↦ λ no none. absurd cc
+      | true ↦ λ yes is. grind (arith, nat_tests)
+    ] refl some
+
+-- the number of a word is within its bounds
+number_within : (greatest : ℕ) (word : List ℕ) (number : ℕ) → number_of 9 0 greatest word ≡ Some number → number ≤ greatest
+number_within greatest word number is =
+    elim (is_number_word 9 0 greatest word) as (λ test. is_number_word 9 0 greatest word ≡ test
+    → (if test then Some (digits_value 10 word) else None) ≡ Some number → number ≤ greatest) [
+      | false ↦ λ no none. absurd cc
+      | true ↦ λ yes some. let same : digits_value 10 word ≡ number = cc in omega (arith, same, (number_parts 9 0 greatest word yes).1)
+    ] refl is
+
+-- the numbers of fields: one of each, within the bounds
+numbers_within : (greatest : ℕ) (fields : List (List ℕ)) (numbers : List ℕ) → numbers_of greatest fields ≡ Some numbers
+    → All (λ number. number ≤ greatest) numbers × (length numbers ≡ length fields)
+numbers_within greatest [] numbers is = let same : [] ≡ numbers = cc in subst (λ ns. All (λ number. number ≤ greatest) ns × (length ns ≡ 0)) same (All-nil (λ n. n ≤ greatest), refl)
+numbers_within greatest (field ∷ fields) numbers is =
+    elim (number_of 9 0 greatest field) as (λ o. number_of 9 0 greatest field ≡ o → option_and_then (λ number. option_map (λ ns. number ∷ ns)
+    (numbers_of greatest fields)) o ≡ Some numbers → All (λ number. number ≤ greatest) numbers × (length numbers ≡ suc (length fields))) [
+      | None ↦ λ no none. absurd cc
+      | Some number ↦ λ one. elim (numbers_of greatest fields) as (λ o. numbers_of greatest fields ≡ o → option_map (λ ns. number ∷ ns) o ≡ Some numbers
+          → All (λ n. n ≤ greatest) numbers × (length numbers ≡ suc (length fields))) [
+            | None ↦ λ no none. absurd cc
+            | Some others ↦ λ more some.
+                let rest = numbers_within greatest fields others more in
+                let same : number ∷ others ≡ numbers = cc in
+                subst (λ ns. All (λ n. n ≤ greatest) ns × (length ns ≡ suc (length fields))) same
+                (All-cons (λ n. n ≤ greatest) number others (number_within greatest field number one) rest.0, ap suc rest.1)
+          ] refl
+    ] refl is
+
+-- an order has workers alone, and at most 4,096 of them
+pub order_within : (workers : ℕ) (text : Option (List ℕ)) (order : List ℕ) → 1 ≤ workers → order_of workers text ≡ Some order
+    → All (λ worker. worker < workers) order × (length order ≤ 4096)
+order_within workers None order some is = let same : [] ≡ order = cc in subst (λ ns. All (λ worker. worker < workers) ns × (length ns ≤ 4096)) same (All-nil (λ n. n < workers), omega arith)
+order_within workers (Some text) order some is =
+    let read : is_some (list_of (workers - 1) text) ≡ true = ap is_some is in
+    let within = numbers_within (workers - 1) (fields_of text) order (sym (list_is (workers - 1) text read) ∙ is) in
+    let few : length (fields_of text) ≤ 4096 = list_short (workers - 1) text read in
+    (λ k default short. omega (arith, within.0 k default short, some), omega (arith, within.1, few))

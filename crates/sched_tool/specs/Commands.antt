@@ -1,5 +1,6 @@
 -- What the commands that were read ask for, and what a command gives.
-use Rattle.std.specs.Prelude.{◌≡◌, ◌⊎◌, ℕ, List, [], Option, String, map, unwrap_or}
+use Rattle.std.specs.Prelude.{◌≡◌, ◌≤◌, ◌⊎◌, ℕ, List, [], Option, String, is_some, map, true}
+use Rattle.std.specs.Prelude.{unwrap_or}
 use Rattle.std.specs.Global.{Global}
 use Rattle.std.specs.String.{string_bytes}
 use Rattle.sched_tool.specs.Behaviours.{Behaviour, behaviour_of}
@@ -32,6 +33,20 @@ asked_by (Turns told) = turns (run_meant told)
 asked_by (Steps told) = steps (run_meant told)
 asked_by (Run told) = run (run_meant told)
 asked_by (Make number part) = make number part
+
+-- the numbers of a run are within their limits, and its order is a list of its workers
+pub record IsRunnable (told : RunWords) : Type 0 where
+  pub workers : (1 ≤ told.workers) × (told.workers ≤ 64)
+  pub slots : (1 ≤ told.slots) × (told.slots ≤ 128)
+  pub order : is_some (order_of told.workers (text_of told.order)) ≡ true
+
+-- if a command asks for a run, it can begin
+abbrev pub CanRun : Command → Type 0
+CanRun (Check file) = Unit {0}
+CanRun (Turns told) = IsRunnable told
+CanRun (Steps told) = IsRunnable told
+CanRun (Run told) = IsRunnable told
+CanRun (Make number part) = Unit {0}
 
 -- what the words ask for; none if they are outside the grammar
 abbrev pub asked : List (String Global) → Option Meaning

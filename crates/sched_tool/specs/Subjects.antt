@@ -1,6 +1,8 @@
 -- Scripts and tables in files: which subject a script is, and which files are read.
-use Rattle.std.specs.Prelude.{◌≡◌, ◌≤◌, ◌<◌, ◌⊎◌, ℕ, List, [], ◌∷◌, ◌++◌, length, All, None}
+use Rattle.std.specs.Prelude.{◌≡◌, ◌≤◌, ◌<◌, ◌⊎◌, ℕ, List, [], ◌∷◌, ◌++◌, length, All, map}
+use Rattle.std.specs.Prelude.{None}
 use Rattle.csv_tables.specs.Loading.{LoadsTable}
+use Rattle.plan_ast.specs.Checks.{query_of}
 use Rattle.plan_ast.specs.Names.{refusal_of}
 use Rattle.plan_ast.specs.Subject.{Subject}
 use Rattle.plan_ast.specs.declared.queries.NamedTable.{NamedTable}
@@ -9,6 +11,7 @@ use Rattle.sched_tool.specs.Outsides.{Contents}
 use Rattle.script_json.specs.Scripts.{ReadsScript}
 use Rattle.script_json.specs.declared.script.Script.{Script}
 use Rattle.script_json.specs.declared.script.TableEntry.{TableEntry}
+use Rattle.sched_tool.specs.declared.program.subject.Opened.{Opened}
 
 -- a file holds bytes of this kind, and no more than a file may have
 pub record Holds (holds : Contents) (file : List ℕ) (IsKind : List ℕ → Type 0) : Type 0 where
@@ -59,6 +62,13 @@ AllAnswerable tables queries = All (IsAnswerable tables) queries
 pub record IsAccepted (holds : Contents) (file : List ℕ) (subject : Subject) : Type 0 where
   pub held : HoldsSubject holds file subject
   pub answerable : AllAnswerable subject.tables subject.queries
+
+-- the subject of what was opened
+abbrev pub subject_in : Opened → Subject
+subject_in opened = record {
+  tables = opened.tables.items;
+  queries = map query_of opened.queries.items;
+}
 
 -- the table of this entry is the next to be read: those of the entries before it were read
 pub record IsNext (holds : Contents) (entries : List TableEntry) (entry : TableEntry)

@@ -18,6 +18,7 @@ mod given;
 mod laws;
 mod line;
 mod make;
+mod order;
 mod output;
 mod refusal;
 #[cfg(test)]

@@ -1,21 +1,17 @@
 //! The command `check`: the answers to the queries of a script, one after another.
-ghost use Rattle.std.specs.Prelude.{◌≡◌, ◌≤◌, ℕ, List, All, IfErr, IfOk, OnOk, length, map};
-ghost use Rattle.plan_ast.specs.Bounds.{IsInBounds};
+ghost use Rattle.std.specs.Prelude.{◌≡◌, ◌≤◌, ℕ, List, All, IfErr, IfOk, length, map};
 ghost use Rattle.plan_ast.specs.Checks.{IsCheckedFor, query_of};
 ghost use Rattle.sched_tool.specs.Behaviours.{check_behaviour, check_text, replies_of};
 ghost use Rattle.sched_tool.specs.Commands.{Gives, GivesUp};
 ghost use Rattle.sched_tool.specs.Outsides.{may_hold};
-ghost use Rattle.sched_tool.specs.Refusals.{AreQueriesRefused, query_refusal};
-ghost use Rattle.sched_tool.specs.Subjects.{AllAnswerable};
 
 use super::output::Output;
-use super::refusal::{Refusal, ScriptFault};
-use super::subject::{open_script, open_tables};
+use super::refusal::Refusal;
+use super::subject::{Opened, open_subject};
 use outside_io::Files;
 use pipe_ops::plain_answer;
-use plan_ast::{Checked, NamedTable, PlanRefusal, Query, check};
+use plan_ast::{Checked, NamedTable};
 use report_text::{QueryReply, Reply, answers_text};
-use script_json::Script;
 use std::alloc::{AllocError, Global};
 
 /// `check` of the script in a file: the answer to each query, and `end`.
@@ -31,45 +27,9 @@ pub fn check_script<F: Files>(alloc: Global, files: &mut F, file: &str) -> Resul
         (check_behaviour (may_hold (F.content files.old)) file.now)
         (F.failed files.old) (F.failed files.new)) }
 {
-    let Script { tables, queries } = open_script(alloc, files, file)?;
-    let tables = open_tables(alloc, files, tables)?;
-    let checked = check_queries(alloc, tables.as_slice(), queries.as_slice())?;
-    let text = text_of(alloc, tables.as_slice(), checked.as_slice())?;
+    let Opened { tables, queries } = open_subject(alloc, files, file)?;
+    let text = text_of(alloc, tables.as_slice(), queries.as_slice())?;
     Ok(Output::whole(text))
-}
-
-// Checks each query against the tables, in order.
-fn check_queries(
-    alloc: Global,
-    tables: &[NamedTable],
-    queries: &[Query],
-) -> Result<Vec<Checked>, Refusal>
-    requires in_bounds { All IsInBounds queries.now }
-    requires few { length queries.now ≤ 4096 }
-    ensures same { IfOk result (λ checked. map query_of checked.items ≡ queries.now) }
-    ensures placed { IfOk result (λ checked. All (IsCheckedFor tables.now) checked.items) }
-    ensures answerable { OnOk result (AllAnswerable tables.now queries.now) }
-    ensures err { IfErr result
-        (AreQueriesRefused (record { tables = tables.now; queries = queries.now })) }
-{
-    let mut all = Vec::with_capacity(alloc, queries.len())?;
-    for (number, query) in queries.iter().enumerate() {
-        match check(alloc, query, tables) {
-            Ok(checked) => all.push(checked)?,
-            Err(refusal) => return Err(refusal_of_query(number as u32, refusal)),
-        }
-    }
-    Ok(all)
-}
-
-// The refusal of `check` that a refused query brings.
-fn refusal_of_query(number: u32, refusal: PlanRefusal) -> Refusal
-    ensures { result ≡ query_refusal number refusal }
-{
-    match refusal {
-        PlanRefusal::OutOfMemory => Refusal::OutOfMemory,
-        refusal => Refusal::Script(ScriptFault::Query { number, refusal }),
-    }
 }
 
 // Answers each query, and writes the answers out.

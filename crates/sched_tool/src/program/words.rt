@@ -1,8 +1,9 @@
 //! What the words after the program's name mean.
-ghost use Rattle.std.specs.Prelude.{◌≡◌, ◌≤◌, None, Some, MatchOption, is_some, true};
+ghost use Rattle.std.specs.Prelude.{◌≡◌, ◌≤◌, None, Some, IfSome, MatchOption, is_some};
 ghost use Rattle.std.specs.Char.{is_ascii_digit};
 ghost use Rattle.std.specs.List.{list_all};
 ghost use Rattle.sched_tool.specs.Commands.{asked, asked_by, run_meant};
+ghost use Rattle.sched_tool.specs.Commands.{CanRun, IsRunnable};
 ghost use Rattle.sched_tool.specs.Lines.{seen, text_of};
 ghost use Rattle.sched_tool.specs.Words.{is_bare, list_of, make_of, meaning_in, number_of};
 ghost use Rattle.sched_tool.specs.Words.{order_of};
@@ -55,8 +56,9 @@ pub struct RunWords<'a> {
 /// number of workers. NUMBER is at most 4,294,967,295, in one to ten digits. PART is `script`, `t`
 /// or `u`.
 pub fn read_words(words: &[String]) -> Option<Command<'_>>
-    ensures { MatchOption result (asked words.now ≡ None)
+    ensures meant { MatchOption result (asked words.now ≡ None)
         (λ command. asked words.now ≡ Some (asked_by command)) }
+    ensures runnable { IfSome result CanRun }
 {
     match words {
         [] => None,
@@ -66,8 +68,9 @@ pub fn read_words(words: &[String]) -> Option<Command<'_>>
 
 // Reads a command with what the words after it give.
 fn read_command<'a>(command: &str, line: Line<'a>) -> Option<Command<'a>>
-    ensures { MatchOption result (meaning_in command.now (seen line.entry) ≡ None)
+    ensures meant { MatchOption result (meaning_in command.now (seen line.entry) ≡ None)
         (λ told. meaning_in command.now (seen line.entry) ≡ Some (asked_by told)) }
+    ensures runnable { IfSome result CanRun }
 {
     match command {
         "check" => {
@@ -117,8 +120,9 @@ fn read_script<'a>(file: Option<&'a str>, more: Option<&'a str>) -> Option<&'a s
 
 // Reads the number and the part of `make`.
 fn read_make<'a>(number: &str, part: Option<&'a str>) -> Option<Command<'a>>
-    ensures { let meaning = make_of (Some number.now) (text_of part.entry) in
+    ensures meant { let meaning = make_of (Some number.now) (text_of part.entry) in
         MatchOption result (meaning ≡ None) (λ told. meaning ≡ Some (asked_by told)) }
+    ensures runnable { IfSome result CanRun }
 {
     let number = number_of(number, 10, 0, u32::MAX)?;
     match part {
@@ -131,8 +135,7 @@ fn read_make<'a>(number: &str, part: Option<&'a str>) -> Option<Command<'a>>
 fn read_run<'a>(line: Line<'a>) -> Option<RunWords<'a>>
     ensures meant { MatchOption result (run_of (seen line.entry) ≡ None)
         (λ told. run_of (seen line.entry) ≡ Some (run_meant told)) }
-    ensures order { MatchOption result (Unit {0})
-        (λ told. is_some (order_of told.workers (text_of told.order)) ≡ true) }
+    ensures runnable { IfSome result IsRunnable }
 {
     let script = read_script(line.first, line.second)?;
     let workers = number_of(line.workers?, 9, 1, 64)?;
@@ -150,7 +153,8 @@ fn read_run<'a>(line: Line<'a>) -> Option<RunWords<'a>>
 
 // The number of slots.
 fn slots_of(text: Option<&str>) -> Option<u32>
-    ensures { result ≡ slots_of (text_of text.entry) }
+    ensures is { result ≡ slots_of (text_of text.entry) }
+    ensures within { IfSome result (λ slots. (1 ≤ slots) × (slots ≤ 128)) }
 {
     match text {
         None => Some(128),
@@ -200,9 +204,10 @@ fn part_of(word: &str) -> Option<Part>
     }
 }
 
-// The number that a word writes: one to so many decimal digits, from the least to the greatest.
-fn number_of(word: &str, most: usize, least: u32, greatest: u32) -> Option<u32>
-    ensures { result ≡ number_of most least greatest word.now }
+/// The number that a word writes: one to so many decimal digits, from the least to the greatest.
+pub fn number_of(word: &str, most: usize, least: u32, greatest: u32) -> Option<u32>
+    ensures is { result ≡ number_of most least greatest word.now }
+    ensures within { IfSome result (λ number. (least ≤ number) × (number ≤ greatest)) }
 {
     if word.len() > most || !are_digits(word.as_bytes()) {
         return None;

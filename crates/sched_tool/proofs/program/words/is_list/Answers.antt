@@ -18,7 +18,7 @@ returns-then-is_none c =
     let cut = c.in-Some.ensures.byte (omega arith) (λ w o h. h) in
     let split = first_field c.loop-field.rest.now c.in-Some.field.now c.in-Some.more.now cut.2 cut.0 cut.1 in
     let none : number_of 9 0 c.args.greatest c.in-Some.field.now ≡ None =
-    sym c.number_of.ensures ∙ no_value c.number_of.result c.is_none.result c.is_none.ensures c.if-is_none.true in
+    sym c.number_of.ensures.is ∙ no_value c.number_of.result c.is_none.result c.is_none.ensures c.if-is_none.true in
     let refused = no_number_first c.args.greatest c.in-Some.field.now (fields_of c.in-Some.more.now) none in
     list_refused c.args.greatest c.args.text.now
     (sym c.loop-field.invariant.3 ∙ ap (λ fields. is_some (numbers_of c.args.greatest fields)) split ∙ refused)
@@ -29,7 +29,7 @@ loop-field-preserved c =
     let split = first_field c.loop-field.rest.now c.in-Some.field.now c.in-Some.more.now cut.2 cut.0 cut.1 in
     let lengths = ap length split in
     let number : is_some (number_of 9 0 c.args.greatest c.in-Some.field.now) ≡ true =
-    ap is_some (sym c.number_of.ensures) ∙ a_value c.number_of.result c.is_none.result c.is_none.ensures c.if-is_none.false in
+    ap is_some (sym c.number_of.ensures.is) ∙ a_value c.number_of.result c.is_none.result c.is_none.ensures c.if-is_none.false in
     let added = number_first c.args.greatest c.in-Some.field.now (fields_of c.in-Some.more.now) number in (
       search rules,
       omega (arith, c.loop-field.invariant.1, c.if-fields-eq-MOST_FIELDS.false),
@@ -42,6 +42,6 @@ returns c =
     let alone = c.in_default.ensures.byte (omega arith) (λ w o h. h) in
     let one = one_field c.loop-field.rest.now alone in
     let few : length (fields_of c.args.text.now) ≤ 4096 = omega (arith, ap length one, c.loop-field.invariant.1, c.loop-field.invariant.2) in
-    let told : c.is_some.result ≡ is_some (number_of 9 0 c.args.greatest c.loop-field.rest.now) = c.is_some.ensures ∙ ap is_some c.number_of-2.ensures in
+    let told : c.is_some.result ≡ is_some (number_of 9 0 c.args.greatest c.loop-field.rest.now) = c.is_some.ensures ∙ ap is_some c.number_of-2.ensures.is in
     told ∙ sym (number_last c.args.greatest c.loop-field.rest.now) ∙ ap (λ fields. is_some (numbers_of c.args.greatest fields)) (sym one)
     ∙ c.loop-field.invariant.3 ∙ list_read c.args.greatest c.args.text.now few

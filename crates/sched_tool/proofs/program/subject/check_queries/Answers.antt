@@ -4,7 +4,7 @@ use Rattle.plan_ast.specs.Bounds.{IsInBounds}
 use Rattle.plan_ast.specs.Checks.{IsCheckedFor}
 use Rattle.sched_tool.specs.Refusals.{AreQueriesRefused}
 use Rattle.sched_tool.proofs.QueriesLemmas.{AllAnswerable-more, first_refused, same_more}
-use Rattle.sched_tool.proofs.program.check.check_queries.Goals as goal
+use Rattle.sched_tool.proofs.program.subject.check_queries.Goals as goal
 
 pub check-requires : goal.check-requires
 check-requires c =

@@ -16,9 +16,9 @@ pub struct Summary {
     /// The queries that were answered.
     pub answered: u64,
     /// The lines of all answers.
-    pub lines: u64,
+    pub lines: u128,
     /// The claims of all task sets.
-    pub ranges: u64,
+    pub ranges: u128,
 }
 
 impl fmt::Display for Summary {

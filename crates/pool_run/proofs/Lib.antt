@@ -1,0 +1,17 @@
+mod Elsewhere
+mod SeatViews
+mod Teams
+mod Played
+mod Orders
+mod Points
+mod Parts
+mod Totals
+mod Resting
+mod Ending
+mod Rounds
+mod Whole
+mod Falling
+mod Lowering
+mod Works
+mod DrivenWhole
+mod Reporting

@@ -1,0 +1,57 @@
+-- The work of a plan.
+use Rattle.std.proofs.Common.{◌≡◌, ℕ, ◌<◌, ◌≤◌, length, slice_get, Some, sym, ap, ◌∙◌, subst, arith, inl, inr}
+use Rattle.std.specs.Option.{option_map, option_map_or}
+use Rattle.std.specs.Arc.{arc_value}
+use Rattle.std.proofs.lemmas.List.{length-map}
+use Rattle.std.proofs.lemmas.List.Elements.{All-get_or}
+use Rattle.std.proofs.lemmas.Option.{slice_get_cases, slice_get-map, slice_get_past}
+use Rattle.slot_history.specs.declared.shape.TheConstants.{STAGES}
+use Rattle.plan_ast.specs.Checks.{IsCheckedFor, query_of}
+use Rattle.plan_ast.specs.Stages.{merges_of}
+use Rattle.plan_ast.specs.declared.checks.Checked.{Checked}
+use Rattle.plan_ast.specs.declared.queries.Output.{Output}
+use Rattle.plan_ast.specs.declared.queries.Output.TheVariants.{Rows, Totals, Groups}
+use Rattle.turn_model.specs.Measure.{ArriveInTime}
+use Rattle.run_laws.specs.Ends.{IsWork}
+use Rattle.bench_cell.specs.declared.plan.Plan.{Plan}
+use Rattle.bench_cell.specs.Plans.{checked_of, stages_in, tables_of}
+use Rattle.worker_machine.specs.Loads.{load_of}
+use Rattle.worker_machine.specs.Plans.{stages_at}
+
+few-merges : (o : Output) → merges_of o ≤ 1
+few-merges (Rows columns) = omega arith
+few-merges (Totals aggs) = omega arith
+few-merges (Groups by aggs) = omega arith
+
+-- a query that there is
+query-at : (plan : Plan) (q : ℕ) → q < length plan.queries.items → (c : Checked) × (slice_get (checked_of plan) q ≡ Some c) × IsCheckedFor (tables_of plan) c
+query-at plan q low = elim (slice_get_cases plan.queries.items q).1 [
+  | inl p ↦ (
+    arc_value p.0,
+    slice_get-map arc_value plan.queries.items q ∙ ap (option_map arc_value) p.2,
+    subst (λ query. IsCheckedFor (tables_of plan) (arc_value query)) p.3 (All-get_or (λ query. IsCheckedFor (tables_of plan) (arc_value query)) plan.queries.items q p.0 low plan.checked),
+  )
+  | inr p ↦ absurd (omega arith)
+]
+
+stages-are : (plan : Plan) (q : ℕ) (c : Checked) → slice_get (checked_of plan) q ≡ Some c → stages_at plan q ≡ stages_in c
+stages-are plan q c here = ap (λ o. option_map_or stages_in o 0) here
+
+pub plan-works : (plan : Plan) (workers slots : ℕ) → (0 < workers) × (workers ≤ 64) → (0 < slots) × (slots ≤ 128)
+    → ArriveInTime (record { workers = workers; slots = slots; queries = length plan.queries.items }) (load_of plan)
+    → IsWork (record { workers = workers; slots = slots; queries = length plan.queries.items }) (load_of plan)
+plan-works plan workers slots w s in_time = record {
+  shape = record { slots = s; workers = w; queries = plan.few };
+  some = λ q low. let c = query-at plan q low in subst (λ n. 0 < n) (sym (stages-are plan q c.0 c.1)) (omega arith);
+  few = λ q low.
+      let c = query-at plan q low in
+      let joins : length (query_of c.0).joins ≤ 2 = c.2.bounds.joins in
+      let merges : merges_of (query_of c.0).output ≤ 1 = few-merges (query_of c.0).output in
+      subst (λ n. n ≤ STAGES) (sym (stages-are plan q c.0 c.1)) (omega arith);
+  in_time = in_time;
+}
+
+-- past the last query there are none
+pub none-past : (plan : Plan) (q : ℕ) → length plan.queries.items ≤ q → stages_at plan q ≡ 0
+none-past plan q past = ap (λ o. option_map_or stages_in o 0)
+    (slice_get_past (checked_of plan) q (subst (λ n. n ≤ q) (sym (length-map plan.queries.items arc_value)) past))

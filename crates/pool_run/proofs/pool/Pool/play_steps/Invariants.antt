@@ -1,0 +1,11 @@
+use Rattle.std.proofs.Common.{take}
+use Rattle.pool_run.specs.Plays.{Leads, moves_by}
+use Rattle.pool_run.specs.Scenes.{scene, TeamFollows}
+use Rattle.pool_run.proofs.pool.Pool.play_steps.Given as goal
+
+abbrev pub invariant-loop-who : goal.invariant-loop-who
+invariant-loop-who g l = record {
+  follows : TeamFollows (scene l.self.table l.self.team.items);
+  plays : Leads g.M.Meter.may_take (moves_by (take l.who-index l.order)) (scene l.initial.self.table l.initial.self.team.items)
+      (scene l.self.table l.self.team.items);
+}

@@ -1,0 +1,42 @@
+use Rattle.std.proofs.Common.{◌≡◌, ◌<◌, length, get_or, take, sym, subst, arith}
+use Rattle.std.proofs.lemmas.Grind.{common_steps}
+use Rattle.std.proofs.lemmas.List.Elements.{All-get_or}
+use Rattle.slot_history.specs.declared.shape.Shape.{Shape}
+use Rattle.pool_run.specs.Plays.{Leads, turns_by}
+use Rattle.pool_run.specs.Scenes.{scene}
+use Rattle.pool_run.proofs.Rounds.{turns-more, turns-none}
+use Rattle.pool_run.proofs.pool.Pool.play_turns.Goals as goal
+
+pub loop-who-init : goal.loop-who-init
+loop-who-init g c = record { follows = c.requires.follows; none = c.requires.none; plays = turns-none }
+
+pub play_turn-requires-clause-who : goal.play_turn-requires-clause-who
+play_turn-requires-clause-who g c =
+    let low : c.loop-who.who-index < length c.args.order.now = omega arith in
+    subst (λ (d : Shape). get_or c.args.order.now c.loop-who.who-index 0 < d.workers) (sym c.loop-who.invariant.plays.shape)
+    (All-get_or (λ w. w < c.args.self.now.table.shape.workers) c.args.order.now c.loop-who.who-index 0 low c.requires.order)
+
+pub play_turn-requires-clause-follows : goal.play_turn-requires-clause-follows
+play_turn-requires-clause-follows g c = c.loop-who.invariant.follows
+
+pub play_turn-requires-clause-none : goal.play_turn-requires-clause-none
+play_turn-requires-clause-none g c = c.loop-who.invariant.none
+
+pub loop-who-preserved : goal.loop-who-preserved
+loop-who-preserved g c =
+    let e = c.play_turn.ensures in
+    let low : c.loop-who.who-index < length c.args.order.now = omega arith in
+    record { follows = e.follows; none = e.none; plays = turns-more c.args.order.now c.loop-who.who-index low c.loop-who.invariant.plays e.plays }
+
+pub returns-clause-follows : goal.returns-clause-follows
+returns-clause-follows g c = c.loop-who.invariant.follows
+
+pub returns-clause-none : goal.returns-clause-none
+returns-clause-none g c = c.loop-who.invariant.none
+
+pub returns-clause-plays : goal.returns-clause-plays
+returns-clause-plays g c =
+    let all : take c.loop-who.who-index c.args.order.now ≡ c.args.order.now = grind (arith, common_steps) in
+    let here = c.loop-who.self in
+    subst (λ l. Leads g.M.Meter.may_take (turns_by l) (scene c.args.self.now.table c.args.self.now.team.items) (scene here.table here.team.items))
+    all c.loop-who.invariant.plays

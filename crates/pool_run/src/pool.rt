@@ -1,0 +1,264 @@
+// A table for one thread and all its workers, and the parts of a run.
+ghost use Rattle.std.specs.Prelude.{◌≡◌, ◌+◌, ◌<◌, ◌≤◌, [], ◌∷◌, All, IfOk, IsTrue, length};
+ghost use Rattle.std.specs.Arc.{arc_value};
+ghost use Rattle.std.specs.List.{range_with_len};
+ghost use Rattle.slot_history.specs.Histories.{IsLegal};
+ghost use Rattle.slot_station.specs.Log.{calls_of};
+ghost use Rattle.pool_run.specs.Plays.{Leads, turns_by, moves_by, ends_of, rounds};
+ghost use Rattle.pool_run.specs.Scenes.{scene, TeamFollows, NoneTurns, NoneTurnsBelow, AreNew};
+ghost use Rattle.pool_run.specs.Scenes.{AreOver, Between, HasGoing, IsNew};
+ghost use Rattle.run_laws.specs.Ends.{IsWork};
+ghost use Rattle.worker_machine.specs.Loads.{load_of};
+ghost use Rattle.slot_history.specs.Bounds.{IsShape};
+ghost use Rattle.pool_run.specs.Told.{HaveTold, IsToldBy};
+
+use crate::report::Parts;
+use crate::seats::{is_between, one_step, one_turn, rest_of_turn};
+use bench_cell::{Bench, Plan};
+use one_thread::{OneTable, SlotObject};
+use outside_io::Meter;
+use slot_station::Steps;
+use std::alloc::{AllocError, Global};
+use std::snapshot::Snapshot;
+use std::sync::Arc;
+use std::sync::ledger::Ledger;
+use worker_machine::{Ran, Worker};
+
+// The workers of a plan, each at its number, and the table over which they work.
+#[derive(Drop)]
+pub(crate) struct Pool<O: SlotObject> {
+    pub alloc: Global,
+    pub table: OneTable<Bench, O>,
+    pub team: Vec<Worker>,
+}
+
+// Whether the last turn of every worker ended with Over.
+fn all_over(team: &[Worker]) -> bool
+    ensures over { IsTrue result → AreOver team.now }
+    ensures going { (IsTrue result → ⊥) → HasGoing team.now }
+{
+    for worker in team {
+        if !worker.is_over() {
+            return false;
+        }
+    }
+    true
+}
+
+impl<O: SlotObject> Pool<O> {
+    // A pool that has done nothing.
+    pub(crate) fn new(
+        alloc: Global,
+        plan: &Arc<Plan>,
+        workers: u32,
+        slots: u32,
+    ) -> Result<Pool<O>, AllocError>
+        requires workers { (0 < workers) × (workers ≤ 64) }
+        requires slots { (0 < slots) × (slots ≤ 128) }
+        ensures table { IfOk result (λ pool. pool.table ≡ record {
+          shape = record {
+            workers = workers;
+            slots = slots;
+            queries = length (arc_value plan.now).queries.items;
+          };
+          subject = arc_value plan.now;
+          log = [];
+        }) }
+        ensures new { IfOk result (λ pool. IsNew (scene pool.table pool.team.items)) }
+    {
+        let subject = Snapshot::of(&**plan);
+        let made = OneTable::<Bench, O>::make(alloc, slots, workers, plan.len(), subject);
+        let Ok(table) = made else {
+            return Err(AllocError);
+        };
+        let team = new_team(alloc, plan, workers, slots)?;
+        Ok(Pool { alloc, table, team })
+    }
+
+    // A worker makes a turn, unless it is over. No turn is under way.
+    fn play_turn<L: Ledger, M: Meter>(&mut self, who: u32, steps: &mut Steps<L>, meter: &mut M)
+        requires who { who < self.old.table.shape.workers }
+        requires follows { TeamFollows (scene self.old.table self.old.team.items) }
+        requires none { NoneTurns self.old.team.items }
+        ensures follows { TeamFollows (scene self.new.table self.new.team.items) }
+        ensures none { NoneTurns self.new.team.items }
+        ensures plays { Leads M.may_take (turns_by (who ∷ []))
+            (scene self.old.table self.old.team.items) (scene self.new.table self.new.team.items) }
+    {
+        if self.team[who as usize].is_over() {
+            return;
+        }
+        let worker = &mut self.team[who as usize];
+        let _turn = one_turn(self.alloc, &mut self.table, worker, who, steps, meter);
+    }
+
+    // A worker makes a step, unless it is over.
+    fn play_step<L: Ledger, M: Meter>(&mut self, who: u32, steps: &mut Steps<L>, meter: &mut M)
+        requires who { who < self.old.table.shape.workers }
+        requires follows { TeamFollows (scene self.old.table self.old.team.items) }
+        ensures follows { TeamFollows (scene self.new.table self.new.team.items) }
+        ensures plays { Leads M.may_take (moves_by (who ∷ []))
+            (scene self.old.table self.old.team.items) (scene self.new.table self.new.team.items) }
+    {
+        if self.team[who as usize].is_over() {
+            return;
+        }
+        let worker = &mut self.team[who as usize];
+        let _stepped = one_step(self.alloc, &mut self.table, worker, who, steps, meter);
+    }
+
+    // A worker ends the turn that it has under way, if it has one.
+    fn end_turn<L: Ledger, M: Meter>(&mut self, who: u32, steps: &mut Steps<L>, meter: &mut M)
+        requires who { who < self.old.table.shape.workers }
+        requires follows { TeamFollows (scene self.old.table self.old.team.items) }
+        requires none { NoneTurnsBelow who self.old.team.items }
+        ensures follows { TeamFollows (scene self.new.table self.new.team.items) }
+        ensures none { NoneTurnsBelow (who + 1) self.new.team.items }
+        ensures plays { Leads M.may_take (ends_of (who ∷ []))
+            (scene self.old.table self.old.team.items) (scene self.new.table self.new.team.items) }
+    {
+        if is_between(&self.team[who as usize]) {
+            return;
+        }
+        let worker = &mut self.team[who as usize];
+        let _turn = rest_of_turn(self.alloc, &mut self.table, worker, who, steps, meter);
+    }
+
+    // One turn for each number of the order.
+    pub(crate) fn play_turns<L: Ledger, M: Meter>(
+        &mut self,
+        order: &[u32],
+        steps: &mut Steps<L>,
+        meter: &mut M,
+    )
+        requires order { All (λ w. w < self.old.table.shape.workers) order.now }
+        requires follows { TeamFollows (scene self.old.table self.old.team.items) }
+        requires none { NoneTurns self.old.team.items }
+        ensures follows { TeamFollows (scene self.new.table self.new.team.items) }
+        ensures none { NoneTurns self.new.team.items }
+        ensures plays { Leads M.may_take (turns_by order.now)
+            (scene self.old.table self.old.team.items) (scene self.new.table self.new.team.items) }
+        ensures legal { IsLegal self.new.table.shape (calls_of self.new.table.log) }
+    {
+        for who in order {
+            self.play_turn(*who, steps, meter);
+        }
+        let _legal = self.table.object().shape();
+    }
+
+    // One step for each number of the order.
+    pub(crate) fn play_steps<L: Ledger, M: Meter>(
+        &mut self,
+        order: &[u32],
+        steps: &mut Steps<L>,
+        meter: &mut M,
+    )
+        requires order { All (λ w. w < self.old.table.shape.workers) order.now }
+        requires follows { TeamFollows (scene self.old.table self.old.team.items) }
+        ensures follows { TeamFollows (scene self.new.table self.new.team.items) }
+        ensures plays { Leads M.may_take (moves_by order.now)
+            (scene self.old.table self.old.team.items) (scene self.new.table self.new.team.items) }
+    {
+        for who in order {
+            self.play_step(*who, steps, meter);
+        }
+    }
+
+    // The turns that are under way are ended, from worker 0 upwards.
+    pub(crate) fn end_turns<L: Ledger, M: Meter>(&mut self, steps: &mut Steps<L>, meter: &mut M)
+        requires { TeamFollows (scene self.old.table self.old.team.items) }
+        ensures follows { TeamFollows (scene self.new.table self.new.team.items) }
+        ensures none { NoneTurns self.new.team.items }
+        ensures plays { Leads M.may_take (ends_of (range_with_len 0 self.old.table.shape.workers))
+            (scene self.old.table self.old.team.items) (scene self.new.table self.new.team.items) }
+        ensures legal { IsLegal self.new.table.shape (calls_of self.new.table.log) }
+    {
+        let workers = self.table.shape().workers;
+        for who in 0..workers {
+            self.end_turn(who, steps, meter);
+        }
+        let _legal = self.table.object().shape();
+    }
+
+    // One turn of each worker, from worker 0 upwards.
+    fn play_round<L: Ledger, M: Meter>(&mut self, steps: &mut Steps<L>, meter: &mut M)
+        requires follows { TeamFollows (scene self.old.table self.old.team.items) }
+        requires none { NoneTurns self.old.team.items }
+        ensures follows { TeamFollows (scene self.new.table self.new.team.items) }
+        ensures none { NoneTurns self.new.team.items }
+        ensures plays { Leads M.may_take (turns_by (range_with_len 0 self.old.table.shape.workers))
+            (scene self.old.table self.old.team.items) (scene self.new.table self.new.team.items) }
+        ensures legal { IsLegal self.new.table.shape (calls_of self.new.table.log) }
+    {
+        let workers = self.table.shape().workers;
+        for who in 0..workers {
+            self.play_turn(who, steps, meter);
+        }
+        let _legal = self.table.object().shape();
+    }
+
+    // Rounds, until all workers are over. No turn is under way.
+    pub(crate) fn play_rounds<L: Ledger, M: Meter>(&mut self, steps: &mut Steps<L>, meter: &mut M)
+        requires work { IsWork self.old.table.shape (load_of self.old.table.subject) }
+        requires between { Between M.may_take (scene self.old.table self.old.team.items) }
+        ensures follows { TeamFollows (scene self.new.table self.new.team.items) }
+        ensures none { NoneTurns self.new.team.items }
+        ensures over { AreOver self.new.team.items }
+        ensures plays { Leads M.may_take rounds (scene self.old.table self.old.team.items)
+            (scene self.new.table self.new.team.items) }
+    {
+        'rounds: loop {
+            if all_over(self.team.as_slice()) {
+                return;
+            }
+            self.play_round(steps, meter);
+        }
+    }
+
+    // What the run leaves. No turn is under way.
+    pub(crate) fn end(self, mut parts: Parts) -> Result<Ran, AllocError>
+        requires none { NoneTurns self.team.items }
+        requires parts { HaveTold [] parts }
+        ensures history { IfOk result (λ ran. ran.history ≡ calls_of self.table.log) }
+        ensures limits { IsShape self.table.shape }
+        ensures legal { IsLegal self.table.shape (calls_of self.table.log) }
+        ensures told { IfOk result (IsToldBy self.team.items) }
+    {
+        let Pool {
+            alloc: _,
+            table,
+            team,
+        } = self;
+        let _shape = table.object().shape();
+        for worker in team {
+            parts.add(worker)?;
+        }
+        Ok(parts.ran(table.end()))
+    }
+}
+
+// The workers of a plan, each at its number.
+fn new_team(
+    alloc: Global,
+    plan: &Arc<Plan>,
+    workers: u32,
+    slots: u32,
+) -> Result<Vec<Worker>, AllocError>
+    requires workers { (0 < workers) × (workers ≤ 64) }
+    requires slots { (0 < slots) × (slots ≤ 128) }
+    ensures { IfOk result (λ team. AreNew (record {
+      shape = record {
+        workers = workers;
+        slots = slots;
+        queries = length (arc_value plan.now).queries.items;
+      };
+      subject = arc_value plan.now;
+      log = [];
+    }) workers team.items) }
+{
+    let mut team = Vec::with_capacity(alloc, workers as usize)?;
+    for who in 0..workers {
+        team.push(Worker::new(alloc, who, workers, slots, Arc::try_clone(plan)?)?)?;
+    }
+    Ok(team)
+}

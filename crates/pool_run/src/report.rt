@@ -1,0 +1,116 @@
+// The report of a run, from what its workers tell.
+ghost use Rattle.std.specs.Prelude.{◌≡◌, ◌≤◌, ◌+◌, ◌*◌, ◌++◌, ◌∷◌, [], IfOk, OnOk};
+ghost use Rattle.std.specs.Prelude.{IsPermutation, IsSortedByKey};
+ghost use Rattle.std.specs.Ordering.{nat_cmp};
+ghost use Rattle.turn_model.specs.Reports.{id_of_record};
+
+use bench_cell::Plan;
+use col_table::ListOf;
+use report_text::{Gap, QueryReply, Record, Report, Share};
+use slot_station::{History, Memo};
+use std::alloc::{AllocError, Global};
+use worker_machine::{Ran, Worker, WorkerParts};
+
+// What workers told so far, in the order of the workers.
+#[derive(Drop)]
+pub(crate) struct Parts {
+    pub replies: Vec<QueryReply>,
+    pub records: Vec<Record>,
+    pub shares: Vec<Share>,
+    pub gaps: Vec<Gap>,
+    pub times: Vec<Memo>,
+}
+
+impl Parts {
+    ghost use Rattle.std.specs.Prelude.{◌≡◌, ◌≤◌, ◌++◌, ◌∷◌, [], true, IfOk, OnOk, List};
+    ghost use Rattle.worker_machine.specs.declared.state.Worker.{Worker};
+    ghost use Rattle.worker_machine.specs.Left.{is_ready};
+    ghost use Rattle.pool_run.specs.Told.{HaveTold, IsToldBy};
+
+    // Nothing, with room for all that the workers of a plan tell.
+    pub(crate) fn new(alloc: Global, plan: &Plan, workers: u32) -> Result<Parts, AllocError>
+        requires { workers ≤ 64 }
+        ensures { IfOk result (HaveTold []) }
+    {
+        let workers = workers as usize;
+        let queries = plan.len() as usize;
+        Ok(Parts {
+            replies: Vec::with_capacity(alloc, queries)?,
+            records: Vec::with_capacity(alloc, plan.sets() as usize)?,
+            shares: Vec::with_capacity(alloc, workers * queries)?,
+            gaps: Vec::with_capacity(alloc, workers)?,
+            times: Vec::with_capacity(alloc, workers)?,
+        })
+    }
+
+    // What the next worker tells, moved behind that of those before it.
+    pub(crate) fn add(&mut self, worker: Worker) -> Result<(), AllocError>
+        requires { is_ready worker.phase ≡ true }
+        ensures { OnOk result ((team : List Worker) → HaveTold team self.old
+            → HaveTold (team ++ worker ∷ []) self.new) }
+    {
+        let WorkerParts {
+            mut replies,
+            mut records,
+            mut shares,
+            gap,
+            times,
+        } = worker.into_parts();
+        self.replies.append(&mut replies)?;
+        self.records.append(&mut records)?;
+        self.shares.append(&mut shares)?;
+        self.gaps.push(gap)?;
+        self.times.push(times)?;
+        Ok(())
+    }
+
+    // The report, in its order, and what else the run answers.
+    pub(crate) fn ran(self, history: History) -> Ran
+        ensures history { result.history ≡ history }
+        ensures told { (team : List Worker) → HaveTold team self → IsToldBy team result }
+    {
+        let Parts {
+            mut replies,
+            mut records,
+            shares,
+            gaps,
+            times,
+        } = self;
+        sort_replies(&mut replies);
+        sort_records(&mut records);
+        let report = Report {
+            replies: ListOf::of(replies),
+            records: ListOf::of(records),
+            shares: ListOf::of(shares),
+            gaps: ListOf::of(gaps),
+        };
+        Ran {
+            report,
+            history,
+            times,
+        }
+    }
+}
+
+fn sort_replies(replies: &mut Vec<QueryReply>)
+    ensures moved { IsPermutation replies.old.items replies.new.items }
+    ensures sorted { IsSortedByKey (λ reply. reply.query) nat_cmp replies.new.items }
+{
+    replies.sort_unstable_by(|one, other| one.query.cmp(&other.query));
+}
+
+fn sort_records(records: &mut Vec<Record>)
+    ensures moved { IsPermutation records.old.items records.new.items }
+    ensures sorted { IsSortedByKey id_of_record nat_cmp records.new.items }
+{
+    records.sort_unstable_by(|one, other| number(one).cmp(&number(other)));
+}
+
+// The number of the task set of a record.
+fn number(kept: &Record) -> u64
+    ensures { result ≡ id_of_record kept.now }
+{
+    let query = u64::from(kept.query);
+    let stage = u64::from(kept.stage);
+    query * 8 + stage
+}

@@ -1,7 +1,11 @@
 -- The laws of the behaviour of each command, on which the proof of `command` rests.
-use Rattle.std.proofs.Common.{◌≡◌, ℕ, List, Option, None, Some, ap, refl, sym, ◌∙◌}
+use Rattle.std.proofs.Common.{◌≡◌, ℕ, List, Option, None, Some, ap, refl, subst, sym, ◌∙◌}
 use Rattle.load_gen.specs.declared.parts.Part.{Part}
-use Rattle.sched_tool.specs.Behaviours.{Behaviour, behaviour_of, check_behaviour, check_text, IsMemoryRefused, IsUsageRefused, make_behaviour, usage_behaviour}
+use Rattle.report_text.specs.declared.replies.QueryReply.{QueryReply}
+use Rattle.sched_tool.specs.Behaviours.{Behaviour, behaviour_of, check_behaviour, check_text, IsMemoryRefused, IsReportText, IsSummaryText, IsUsageRefused}
+use Rattle.sched_tool.specs.Behaviours.{Job, job_of, make_behaviour, run_behaviour, summary_behaviour, usage_behaviour}
+use Rattle.sched_tool.specs.Runs.{AnswerAll, IsReportIn}
+use Rattle.sched_tool.specs.declared.program.pace.Pace.TheVariants.{Turns, Steps}
 use Rattle.sched_tool.specs.Outsides.{Contents, known, Outside, surely_holds}
 use Rattle.sched_tool.specs.Verdicts.{OneAnswer, OneVerdict}
 use Rattle.sched_tool.specs.Words.{check, make, Meaning, run, steps, turns}
@@ -59,6 +63,31 @@ check_consistent a b same file = record {
   only = λ r s x y h k. same_refusal a b same file r s x y h k;
 }
 
+run_sound : (outside : Outside) (job : Job) → IsSound (run_behaviour outside job)
+run_sound outside job = record { accepted = λ text answers. (answers.subject, answers.accepted); reads = λ file refuses. refuses }
+
+-- a report of the same run, if the files hold the same and the meter may give the same times
+same_report : (a b : Outside) → Agree a b → (job : Job) (AreSuch : List QueryReply → Type 0) (text : List ℕ) → (run_behaviour a job).accepts
+    → IsReportText b job AreSuch text → IsReportText a job AreSuch text
+same_report a b agree job AreSuch text accepts answers =
+    let same = subject_is a.holds b.holds agree.files job.file accepts.0 answers.subject accepts.1.held answers.accepted.held in
+    let of_subject = subst (λ subject. IsReportIn b.gives job.course subject answers.report) (sym same) answers.left in
+    record {
+      subject = accepts.0;
+      accepted = accepts.1;
+      report = answers.report;
+      left = subst (λ times. IsReportIn times job.course accepts.0 answers.report) (sym agree.times) of_subject;
+      replies = answers.replies;
+      bytes = answers.bytes;
+    }
+
+run_consistent : (a b : Outside) → Agree a b → (job : Job) → AreConsistent (run_behaviour a job) (run_behaviour b job)
+run_consistent a b agree job = record {
+  one = λ accepts text answers. same_report a b agree job AnswerAll text accepts answers;
+  apart = λ accepts r finding refuses. accepted_not_refused a.holds b.holds agree.files job.file accepts.0 r accepts.1 finding refuses;
+  only = λ r s x y h k. same_refusal a.holds b.holds agree.files job.file r s x y h k;
+}
+
 make_sound : (number : ℕ) (part : Part) → IsSound (make_behaviour number part)
 make_sound number part = record { accepted = λ text answers. tt; reads = λ file refuses. refuses }
 
@@ -76,24 +105,34 @@ make_consistent number part = record {
   only = λ r s x y h k. absurd (not_memory r x h);
 }
 
+summary_sound : (times : ℕ → ℕ → ℕ → Type 0) (number : ℕ) → IsSound (summary_behaviour times number)
+summary_sound times number = record { accepted = λ text answers. tt; reads = λ file refuses. refuses }
+
+summary_consistent : (a b : Outside) → Agree a b → (number : ℕ) → AreConsistent (summary_behaviour a.gives number) (summary_behaviour b.gives number)
+summary_consistent a b agree number = record {
+  one = λ accepts text answers. subst (λ times. IsSummaryText times number AnswerAll text) (sym agree.times) answers;
+  apart = λ accepts r finding refuses. not_memory r finding refuses;
+  only = λ r s x y h k. absurd (not_memory r x h);
+}
+
 -- the behaviour of each command is sound
 pub sound : (outside : Outside) (meaning : Option Meaning) → IsSound (behaviour_of outside meaning)
 sound outside None = usage_sound
 sound outside (Some (check file)) = check_sound outside.holds file
-sound outside (Some (turns asked)) = usage_sound
-sound outside (Some (steps asked)) = usage_sound
+sound outside (Some (turns asked)) = run_sound outside (job_of Turns asked)
+sound outside (Some (steps asked)) = run_sound outside (job_of Steps asked)
 sound outside (Some (run asked)) = usage_sound
-sound outside (Some (make number None)) = usage_sound
+sound outside (Some (make number None)) = summary_sound outside.gives number
 sound outside (Some (make number (Some part))) = make_sound number part
 
 -- and consistent over outsides that agree
 pub consistent : (a b : Outside) → Agree a b → (meaning : Option Meaning) → AreConsistent (behaviour_of a meaning) (behaviour_of b meaning)
 consistent a b agree None = usage_consistent
 consistent a b agree (Some (check file)) = check_consistent a.holds b.holds agree.files file
-consistent a b agree (Some (turns asked)) = usage_consistent
-consistent a b agree (Some (steps asked)) = usage_consistent
+consistent a b agree (Some (turns asked)) = run_consistent a b agree (job_of Turns asked)
+consistent a b agree (Some (steps asked)) = run_consistent a b agree (job_of Steps asked)
 consistent a b agree (Some (run asked)) = usage_consistent
-consistent a b agree (Some (make number None)) = usage_consistent
+consistent a b agree (Some (make number None)) = summary_consistent a b agree number
 consistent a b agree (Some (make number (Some part))) = make_consistent number part
 
 pub one_answer : OneAnswer

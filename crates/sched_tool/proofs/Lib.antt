@@ -12,4 +12,5 @@ mod ReadersLemmas
 mod RefusalLemmas
 mod SubjectsLemmas
 mod UniqueLemmas
+mod RunLemmas
 mod WordLemmas

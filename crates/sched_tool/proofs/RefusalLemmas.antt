@@ -4,7 +4,8 @@ use Rattle.plan_ast.specs.Subject.{Subject}
 use Rattle.sched_tool.specs.Outsides.{Contents}
 use Rattle.sched_tool.specs.ReadFaults.{FaultsAt}
 use Rattle.sched_tool.specs.Refusals.{AreQueriesRefused, AreTablesRefused, IsCheckRefused, IsEntryRefused}
-use Rattle.sched_tool.specs.Subjects.{HoldsScript, HoldsSubject, IsNext}
+use Rattle.sched_tool.specs.Subjects.{AllAnswerable, HoldsScript, HoldsSubject, IsNext}
+use Rattle.sched_tool.proofs.UniqueLemmas.{found_not_refused}
 use Rattle.script_json.specs.declared.script.Script.{Script}
 use Rattle.script_json.specs.declared.script.TableEntry.{TableEntry}
 use Rattle.sched_tool.specs.declared.program.refusal.Refusal.{Refusal}
@@ -32,3 +33,8 @@ queries_refused holds file subject r held (inr h) = subst (IsCheckRefused holds 
 pub FaultsAt-queries : (subject : Subject) (r : Refusal) (old new : List (List ℕ)) → AreQueriesRefused subject r → new ≡ old → FaultsAt r old new
 FaultsAt-queries subject r old new (inl is) quiet = subst (λ s. FaultsAt s old new) (sym is) quiet
 FaultsAt-queries subject r old new (inr h) quiet = subst (λ s. FaultsAt s old new) (sym h.2) quiet
+
+-- queries that can all be answered are refused only for want of memory
+pub only_memory : (subject : Subject) (r : Refusal) → AllAnswerable subject.tables subject.queries → AreQueriesRefused subject r → r ≡ refusal.OutOfMemory
+only_memory subject r all (inl is) = is
+only_memory subject r all (inr h) = absurd (found_not_refused subject h.0 h.1 all h.3)

@@ -32,7 +32,7 @@ answerable_not_refused : (tables : List NamedTable) (query : Query) (refusal : P
     → refusal_of tables query ≡ Some refusal → ⊥
 answerable_not_refused tables query refusal can why = let e : None ≡ Some refusal = sym can ∙ why in absurd cc
 
-found_not_refused : (subject : Subject) (number : ℕ) (refusal : PlanRefusal) → AllAnswerable subject.tables subject.queries
+pub found_not_refused : (subject : Subject) (number : ℕ) (refusal : PlanRefusal) → AllAnswerable subject.tables subject.queries
     → IsFirstRefused subject number refusal → ⊥
 found_not_refused subject number refusal all first =
     let within = slice_get_within subject.queries number first.query first.is in

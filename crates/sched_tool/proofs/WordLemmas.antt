@@ -161,7 +161,9 @@ number_within greatest word number is =
 -- the numbers of fields: one of each, within the bounds
 numbers_within : (greatest : ℕ) (fields : List (List ℕ)) (numbers : List ℕ) → numbers_of greatest fields ≡ Some numbers
     → All (λ number. number ≤ greatest) numbers × (length numbers ≡ length fields)
-numbers_within greatest [] numbers is = let same : [] ≡ numbers = cc in subst (λ ns. All (λ number. number ≤ greatest) ns × (length ns ≡ 0)) same (All-nil (λ n. n ≤ greatest), refl)
+numbers_within greatest [] numbers is =
+    let same : [] ≡ numbers = cc in
+    subst (λ ns. All (λ number. number ≤ greatest) ns × (length ns ≡ 0)) same (All-nil (λ n. n ≤ greatest), refl)
 numbers_within greatest (field ∷ fields) numbers is =
     elim (number_of 9 0 greatest field) as (λ o. number_of 9 0 greatest field ≡ o → option_and_then (λ number. option_map (λ ns. number ∷ ns)
     (numbers_of greatest fields)) o ≡ Some numbers → All (λ number. number ≤ greatest) numbers × (length numbers ≡ suc (length fields))) [
@@ -180,7 +182,9 @@ numbers_within greatest (field ∷ fields) numbers is =
 -- an order has workers alone, and at most 4,096 of them
 pub order_within : (workers : ℕ) (text : Option (List ℕ)) (order : List ℕ) → 1 ≤ workers → order_of workers text ≡ Some order
     → All (λ worker. worker < workers) order × (length order ≤ 4096)
-order_within workers None order some is = let same : [] ≡ order = cc in subst (λ ns. All (λ worker. worker < workers) ns × (length ns ≤ 4096)) same (All-nil (λ n. n < workers), omega arith)
+order_within workers None order some is =
+    let same : [] ≡ order = cc in
+    subst (λ ns. All (λ worker. worker < workers) ns × (length ns ≤ 4096)) same (All-nil (λ n. n < workers), omega arith)
 order_within workers (Some text) order some is =
     let read : is_some (list_of (workers - 1) text) ≡ true = ap is_some is in
     let within = numbers_within (workers - 1) (fields_of text) order (sym (list_is (workers - 1) text read) ∙ is) in

@@ -14,3 +14,5 @@ pub mod Subjects
 pub mod Verdicts
 pub mod Words
 pub mod Writing
+pub mod Runs
+pub mod Summaries

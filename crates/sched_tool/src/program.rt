@@ -20,11 +20,17 @@ mod line;
 mod make;
 mod order;
 mod output;
+mod pace;
+mod plan;
 mod refusal;
+mod reports;
+#[cfg(test)]
+mod run_tests;
 #[cfg(test)]
 mod run_word_tests;
 mod status;
 mod subject;
+mod summary;
 #[cfg(test)]
 mod tests;
 mod words;

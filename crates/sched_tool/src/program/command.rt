@@ -12,21 +12,27 @@ use super::check::check_script;
 use super::error_lines::OUT_OF_MEMORY_LINE;
 use super::make::make_text;
 use super::output::Output;
+use super::pace::Pace;
 use super::refusal::Refusal;
+use super::reports::run_script;
 use super::status::{CANNOT_WRITE, OUT_OF_MEMORY, status_of};
+use super::summary::make_summary;
 use super::words::{Command, read_words};
 use outside_io::{Files, Meter, Sink, write_all};
 use std::alloc::{AllocError, Global};
 
 /// Does what the words after the program's name ask for, writes one text, and answers the status
 /// that the program ends with. `check` reads the script and its tables, and writes the answers to
-/// its queries. `make` writes a part of a large input. Neither uses the meter.
+/// its queries. `turns` and `steps` run its queries on one thread, and write the report of the run.
+/// `make` writes a part of a large input, or runs it and writes the summary of the run. The meter
+/// says how long the ranges of a run take.
 ///
 /// The first refusal in this order is written, as its line, in place of all else: the words are
 /// outside the grammar, or ask for a command that isn't built (2); the script can't be read (3) or
 /// is refused (5); table by table in the script's order, the table can't be read (3) or is refused
-/// (6); a query is refused (5). If memory runs out, the command ends there (7). If a write fails,
-/// the status is 4, and a prefix of the text was written.
+/// (6); a query is refused (5). If memory runs out, the command ends there (7); but if only queries
+/// of a run run out of memory, the report or the summary says so, and the status is 7 too. If a
+/// write fails, the status is 4, and a prefix of the text was written.
 pub fn command<F: Files, S: Sink, M: Meter>(
     alloc: Global,
     words: &[String],
@@ -52,7 +58,7 @@ fn run_command<F: Files, M: Meter>(
     alloc: Global,
     words: &[String],
     files: &mut F,
-    _meter: &mut M,
+    meter: &mut M,
 ) -> Result<Output, Refusal>
     ensures kept { (any : List ℕ) → F.content files.new any ≡ F.content files.old any }
     ensures ok { IfOk result (Gives
@@ -64,11 +70,12 @@ fn run_command<F: Files, M: Meter>(
 {
     match read_words(words) {
         Some(Command::Check(script)) => check_script(alloc, files, script),
+        Some(Command::Turns(run)) => run_script(alloc, files, meter, Pace::Turns, run),
+        Some(Command::Steps(run)) => run_script(alloc, files, meter, Pace::Steps, run),
         Some(Command::Make(number, Some(part))) => make_text(alloc, number, part),
-        // These are not built.
-        Some(Command::Turns(_) | Command::Steps(_) | Command::Run(_) | Command::Make(_, None)) => {
-            Err(Refusal::Usage)
-        }
+        Some(Command::Make(number, None)) => make_summary(alloc, number, meter),
+        // This isn't built.
+        Some(Command::Run(_)) => Err(Refusal::Usage),
         None => Err(Refusal::Usage),
     }
 }

@@ -131,8 +131,8 @@ fn open_table<F: Files>(
     }
 }
 
-// Checks each query against the tables, in order.
-fn check_queries(
+/// Checks each query against the tables, in order.
+pub fn check_queries(
     alloc: Global,
     tables: &[NamedTable],
     queries: &[Query],

@@ -13,20 +13,21 @@ use std::test::Fail;
 const SCRIPT: &str = r#"{"version":1,"tables":[{"name":"t","file":"t.csv"}],
 "queries":[{"scan":"t","output":{"totals":[{"fn":"sum","col":"v"}]}}]}"#;
 
-const TABLE: &str = "k,v\n1,10\n1,20\n2,5\n";
+/// A table.
+pub(super) const TABLE: &str = "k,v\n1,10\n1,20\n2,5\n";
 
 const ANSWER: &str = "query 0 lines 1\ntotal 35\nend\n";
 
-// No write fails, and one takes 1,000 bytes.
-const ALL_WRITES: (u64, u32) = (0, 1000);
+/// No write fails, and one takes 1,000 bytes.
+pub(super) const ALL_WRITES: (u64, u32) = (0, 1000);
 
 // Two more tables, to be joined.
 const JOINED: &str = "k,w\n1,7\n2,8\n2,9\n3,1\n";
 
 const JOINED_NEXT: &str = "w,z\n7,100\n8,200\n8,300\n9,400\n";
 
-// The entries of all three tables in a script.
-const ENTRIES: &str = r#"{"name":"t","file":"t.csv"},{"name":"u","file":"u.csv"},
+/// The entries of all three tables in a script.
+pub(super) const ENTRIES: &str = r#"{"name":"t","file":"t.csv"},{"name":"u","file":"u.csv"},
 {"name":"x","file":"x.csv"}"#;
 
 // Adds a file.
@@ -37,8 +38,8 @@ fn add(alloc: Global, files: &mut MemFiles, name: &str, bytes: &[u8]) -> Result<
     )
 }
 
-// The files `s.json`, `t.csv` and those to be joined. The reads with these numbers fail.
-fn files_of(
+/// The files `s.json`, `t.csv` and those to be joined. The reads with these numbers fail.
+pub(super) fn files_of(
     alloc: Global,
     script: &[u8],
     table: &[u8],
@@ -61,9 +62,9 @@ pub(super) fn texts(alloc: Global, words: &[&str]) -> Result<Vec<String>, AllocE
     Ok(all)
 }
 
-// Asserts with which status a command ends, and what it writes. The write of this number fails, and
-// a write takes at most so many bytes.
-fn ends(
+/// Asserts with which status a command ends, and what it writes. The write of this number fails,
+/// and a write takes at most so many bytes.
+pub(super) fn ends(
     rt: &(impl Abort + AllocGlobal),
     words: &[&str],
     files: &mut MemFiles,
@@ -101,8 +102,8 @@ fn check_ends(
     )
 }
 
-// A script with these entries of tables and these queries.
-fn script_of(alloc: Global, entries: &str, queries: &str) -> Result<String, AllocError> {
+/// A script with these entries of tables and these queries.
+pub(super) fn script_of(alloc: Global, entries: &str, queries: &str) -> Result<String, AllocError> {
     format!(in alloc; "{{\"version\":1,\"tables\":[{entries}],\"queries\":[{queries}]}}")
 }
 
@@ -141,11 +142,11 @@ fn reads_words(rt: HostRuntime) -> Result<(), Fail> {
     Ok(())
 }
 
-// Words outside the grammar: of no command, of `check`, of `make`, and of commands that aren't
-// built.
+// Words outside the grammar: of no command, of `check`, of `make` and of runs, and those of a
+// command that isn't built.
 #[test]
 fn refuses_words(rt: HostRuntime) -> Result<(), Fail> {
-    let cases: [&[&str]; 47] = [
+    let cases: [&[&str]; 52] = [
         &[],
         &[""],
         &["-"],
@@ -171,8 +172,9 @@ fn refuses_words(rt: HostRuntime) -> Result<(), Fail> {
         &["check", "--workers", "s.json"],
         &["check", "--workers", "--", "s.json"],
         &["make"],
-        &["make", "7"],
-        &["make", "7", "--"],
+        &["make", "-7"],
+        &["make", "4294967296"],
+        &["make", "--", "--"],
         &["make", "7", "T"],
         &["make", "7", "t.csv"],
         &["make", "7", ""],
@@ -189,9 +191,13 @@ fn refuses_words(rt: HostRuntime) -> Result<(), Fail> {
         &["make", "4294967296", "u"],
         &["make", "9999999999", "u"],
         &["make", "7", "u", "--slots", "1"],
+        &["make", "7", "--workers", "8"],
         &["turns", "s.json"],
-        &["turns", "s.json", "--workers", "1"],
-        &["steps", "s.json", "--workers=1", "--order=0"],
+        &["turns", "s.json", "--workers", "0"],
+        &["turns", "s.json", "--workers", "65"],
+        &["turns", "s.json", "--workers", "2", "--workers", "2"],
+        &["turns", "s.json", "--workers", "2", "--order", "2"],
+        &["steps", "s.json", "--workers=1", "--order=0,"],
         &["run", "s.json", "--workers", "1"],
     ];
     for words in cases {

@@ -1,4 +1,4 @@
-use Rattle.std.proofs.Common.{◌≡◌, ap, inl, map, ◌∙◌}
+use Rattle.std.proofs.Common.{ap, inl, map, ◌∙◌}
 use Rattle.plan_ast.specs.Checks.{query_of}
 use Rattle.sched_tool.specs.Behaviours.{check_text}
 use Rattle.sched_tool.specs.Subjects.{subject_in}

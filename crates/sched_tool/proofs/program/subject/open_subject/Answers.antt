@@ -1,4 +1,4 @@
-use Rattle.std.proofs.Common.{◌≡◌, All, subst, sym, ◌∙◌}
+use Rattle.std.proofs.Common.{All, subst, sym, ◌∙◌}
 use Rattle.std.proofs.lemmas.Result.{err_from_is_err_and}
 use Rattle.plan_ast.specs.Checks.{IsCheckedFor}
 use Rattle.plan_ast.specs.Subject.{Subject}

@@ -325,6 +325,7 @@ fn has_groups_of_three(answer: &Answer) -> bool {
 fn groups_of_two_joins(rt: HostRuntime) -> Result<(), Fail> {
     let alloc = rt.alloc();
     let query = query_of_three(&rt)?;
+    assert!(rt; query.in_bounds());
     let tables = three_tables(&rt)?;
     let checked = check(alloc, &query, tables.as_slice()).expect(&rt, "all names are there");
     let plain = plain_answer(alloc, &checked, tables.as_slice())?;

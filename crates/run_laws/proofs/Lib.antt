@@ -24,3 +24,4 @@ pub mod Rooms
 mod HeldLast
 mod Counted
 pub mod Reported
+pub mod Scheduled

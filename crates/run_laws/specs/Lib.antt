@@ -4,3 +4,4 @@ pub mod Completes
 pub mod Shares
 pub mod Endings
 pub mod Merging
+pub mod Scheduled

@@ -6,6 +6,7 @@ ghost use Rattle.run_laws.specs.Completes.{OverIsDone, StagesBefore};
 ghost use Rattle.run_laws.specs.Shares.{SharesAreOfRanges, CountsAreSmall, SharesAreMerged};
 ghost use Rattle.run_laws.specs.Endings.{RecordsStay};
 ghost use Rattle.run_laws.specs.Merging.{RoomIsLeft, MergedIsReport};
+ghost use Rattle.run_laws.specs.Scheduled.{RunsAreScheduled};
 
 /// In a run by an order, by whole turns or by single moves, every worker makes the moves that are
 /// its to make.
@@ -62,4 +63,13 @@ pub fn records_stay()
 pub fn merged_is_report()
     ensures room { RoomIsLeft }
     ensures report { MergedIsReport }
+{}
+
+/// The scheduling theorem. In a run that ended with all workers over, the calls of all workers stand
+/// in one legal history, each once, as each worker saw them. Every tuple of a finalised task set
+/// lies in exactly one claimed morsel. Finalisation ran once, after the last worker left the task
+/// set and before its slot held another. In the end all is done, each query that was answered has
+/// its one-thread answer, and a worker's active passes differ by at most its largest advance.
+pub fn runs_are_scheduled()
+    ensures { RunsAreScheduled }
 {}

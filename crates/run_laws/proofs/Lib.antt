@@ -25,3 +25,4 @@ mod HeldLast
 mod Counted
 pub mod Reported
 pub mod Scheduled
+pub mod FairTurns

@@ -1,10 +1,9 @@
 -- The scheduling theorem: what a whole run has done, and what its report says.
-use Rattle.std.specs.Prelude.{◌≡◌, ℕ, ◌<◌, ◌≤◌, List, All, Some}
+use Rattle.std.specs.Prelude.{◌≡◌, ℕ, ◌<◌, ◌≤◌, List, Some}
 use Rattle.slot_history.specs.declared.shape.Shape.{Shape}
 use Rattle.slot_history.specs.declared.act.Entry.{Entry}
 use Rattle.slot_history.specs.Histories.{IsLegal, IsOfTotals, Tiles, FinalisedOnce, own_calls}
 use Rattle.slot_history.specs.Histories.{claims_of, lasts_of}
-use Rattle.report_text.specs.declared.report.Gap.{Gap}
 use Rattle.report_text.specs.declared.report.Report.{Report}
 use Rattle.turn_model.specs.Workloads.{Workload}
 use Rattle.turn_model.specs.Moves.{Move, entries}
@@ -53,11 +52,14 @@ pub record ScheduledRun (d : Shape) (load : Workload) (run : Run) (report : Repo
   -- The active passes of a worker never differ by more than its largest advance.
   pub fair : (w : ℕ) → w < d.workers → IsFairTo d load w (run.team w)
 
--- ---- the law, as the function of module `laws` states it
+-- ---- the laws, as the functions of module `laws` state them
 
--- A run that ended is scheduled, if it has this report and no gap is wider than the largest
--- advance.
+-- every run is fair to each worker, also before it ends
+abbrev pub WorkersAreFair : Type 0
+WorkersAreFair = (d : Shape) (load : Workload) (run : Run) (w : ℕ) → IsPlayed d load run
+    → w < d.workers → IsFairTo d load w (run.team w)
+
+-- a run that ended is scheduled, with each report that it has
 abbrev pub RunsAreScheduled : Type 0
 RunsAreScheduled = (d : Shape) (load : Workload) (run : Run) (report : Report)
-    → IsEnded d load run → IsReportOf d load run report
-    → All (λ (gap : Gap). gap.widest ≤ gap.largest) report.gaps → ScheduledRun d load run report
+    → IsEnded d load run → IsReportOf d load run report → ScheduledRun d load run report

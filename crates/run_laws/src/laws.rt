@@ -6,7 +6,7 @@ ghost use Rattle.run_laws.specs.Completes.{OverIsDone, StagesBefore};
 ghost use Rattle.run_laws.specs.Shares.{SharesAreOfRanges, CountsAreSmall, SharesAreMerged};
 ghost use Rattle.run_laws.specs.Endings.{RecordsStay};
 ghost use Rattle.run_laws.specs.Merging.{RoomIsLeft, MergedIsReport};
-ghost use Rattle.run_laws.specs.Scheduled.{RunsAreScheduled};
+ghost use Rattle.run_laws.specs.Scheduled.{WorkersAreFair, RunsAreScheduled};
 
 /// In a run by an order, by whole turns or by single moves, every worker makes the moves that are
 /// its to make.
@@ -63,6 +63,12 @@ pub fn records_stay()
 pub fn merged_is_report()
     ensures room { RoomIsLeft }
     ensures report { MergedIsReport }
+{}
+
+/// In every run of moves that workers make, no two passes of a worker's slots that were active at
+/// the same time ever differ by more than the worker's largest advance.
+pub fn workers_are_fair()
+    ensures { WorkersAreFair }
 {}
 
 /// The scheduling theorem. In a run that ended with all workers over, the calls of all workers stand

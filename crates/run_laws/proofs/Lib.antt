@@ -25,4 +25,10 @@ mod HeldLast
 mod Counted
 pub mod Reported
 pub mod Scheduled
+mod NextMoves
+pub mod OneRun
+pub mod OneReport
+pub mod CompleteRuns
+mod NoneUp
+pub mod OneText
 pub mod FairTurns

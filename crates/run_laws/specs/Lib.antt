@@ -5,3 +5,4 @@ pub mod Shares
 pub mod Endings
 pub mod Merging
 pub mod Scheduled
+pub mod Agreeing

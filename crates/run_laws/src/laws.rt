@@ -7,6 +7,8 @@ ghost use Rattle.run_laws.specs.Shares.{SharesAreOfRanges, CountsAreSmall, Share
 ghost use Rattle.run_laws.specs.Endings.{RecordsStay};
 ghost use Rattle.run_laws.specs.Merging.{RoomIsLeft, MergedIsReport};
 ghost use Rattle.run_laws.specs.Scheduled.{WorkersAreFair, RunsAreScheduled};
+ghost use Rattle.run_laws.specs.Agreeing.{RunsByTurnsAgree, RunsByMovesAgree, OneReport};
+ghost use Rattle.run_laws.specs.Agreeing.{AnsweredIsPlain, OneTextByTurns, OneTextByMoves};
 
 /// In a run by an order, by whole turns or by single moves, every worker makes the moves that are
 /// its to make.
@@ -78,4 +80,26 @@ pub fn workers_are_fair()
 /// its one-thread answer, and a worker's active passes differ by at most its largest advance.
 pub fn runs_are_scheduled()
     ensures { RunsAreScheduled }
+{}
+
+/// Two complete runs of the same work by the same order, by whole turns or by single moves, are one
+/// run: the same history, moves and times. This holds if the meter takes one time for each range,
+/// and if no query is given up for want of memory in either run.
+pub fn runs_agree()
+    ensures turns { RunsByTurnsAgree }
+    ensures moves { RunsByMovesAgree }
+{}
+
+/// A run has one report, if no query ran out of memory.
+pub fn one_report()
+    ensures { OneReport }
+{}
+
+/// One text for each input. If the meter takes one time for each range, and no reply says that
+/// memory ran out, there is one complete run by the order, and it has one report. So the text of
+/// the report is the same at each run.
+pub fn one_text()
+    ensures answered { AnsweredIsPlain }
+    ensures turns { OneTextByTurns }
+    ensures moves { OneTextByMoves }
 {}

@@ -14,7 +14,7 @@ use Rattle.turn_model.specs.Driven.{EndsTurn}
 use Rattle.turn_model.specs.Runs.{Run, nothing_done, and_then, desk_at}
 use Rattle.turn_model.specs.Orders.{PlaysTurn, PlaysMove, PlaysOn, PlayInOrder, none, passes, plays, PlayTurns, PlayRounds, over, round}
 use Rattle.turn_model.specs.Orders.{IsOver, AllOver, point_in, IsByTurns, IsByMoves}
-use Rattle.run_laws.specs.Agreeing.{Input, IsPlain, RunsByTurnsAgree, RunsByMovesAgree}
+use Rattle.run_laws.specs.Agreeing.{Input, ServesAll, RunsByTurnsAgree, RunsByMovesAgree}
 use Rattle.run_laws.proofs.NextMoves.{ArePlain, plain-before, are-next, one-end}
 
 -- the numbers of a list are below n
@@ -202,7 +202,7 @@ module _ (d : Shape) (load : Workload) (time : ℕ → ℕ → ℕ) where
       (subst (λ s. PlayInOrder d load (PlaysOn d load) has_ended_in everyone s a.second) first a.ended) b.ended second beside)
       a.rounds b.rounds p q
 
-plain-so-far : (input : Input) (run : Run) → IsPlain input run → IsPlainSoFar input.shape input.load input.time run
+plain-so-far : (input : Input) (run : Run) → ServesAll input run → IsPlainSoFar input.shape input.load input.time run
 plain-so-far input run plain = record {
   legal = plain.complete.driven.legal;
   each = λ w low. let by = plain.complete.driven.each w low in record { driven = by.driven; timed = by.timed; none = plain.none w low };

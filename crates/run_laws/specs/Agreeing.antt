@@ -18,13 +18,13 @@ use Rattle.run_laws.specs.Ends.{IsWork}
 abbrev pub takes : (ℕ → ℕ → ℕ) → ℕ → ℕ → ℕ → Type 0
 takes time tuples cost ns = ns ≡ time tuples cost
 
--- Task sets are noted as done one at a time, each after it was finalised.
+-- A call at a point of a turn notes task sets as done one at a time, each after it was finalised.
 abbrev pub NotesOne : Point → Act → Type 0
 NotesOne (Fill v) (NoteDone n) = ⊥
 NotesOne (Fetch v) (NoteDone n) = n ≡ 1
 NotesOne x a = Unit {0}
 
--- no move of the worker gives a query up for want of memory
+-- no move of the worker gives a query up, as it may if memory runs out
 abbrev pub GivesNoneUp : Desk Workload → List Move → Type 0
 GivesNoneUp D [] = Unit {0}
 GivesNoneUp D (Made a t ∷ ms) = NotesOne (point_by D ms) a × GivesNoneUp D ms
@@ -42,7 +42,7 @@ abbrev pub IsOfWorkers : Input → Type 0
 IsOfWorkers input = All (λ w. w < input.shape.workers) input.order
 
 -- a complete run in which no query is given up
-pub record IsPlain (input : Input) (run : Run) : Type 0 where
+pub record ServesAll (input : Input) (run : Run) : Type 0 where
   pub complete : IsComplete (takes input.time) input.shape input.load run
   pub none : (w : ℕ) → w < input.shape.workers
       → GivesNoneUp (desk_at input.shape input.load w) (run.team w)
@@ -61,24 +61,23 @@ pub record IsAnswered (input : Input) (run : Run) (report : Report) : Type 0 whe
   pub told : IsReportOf input.shape input.load run report
   pub none : NoneRanOut report
 
--- the work of an input ends, it has no more queries than the object, and the order is of workers
+-- the work of the input ends, and its order is of workers
 pub record IsInput (input : Input) : Type 0 where
   pub work : IsWork input.shape input.load
-  pub no_more : (q : ℕ) → input.shape.queries ≤ q → input.load.stages q ≡ 0
   pub of_workers : IsOfWorkers input
 
 -- ---- the laws, as the functions of module `laws` state them
 
 -- two such runs by turns of the order are one run: the same moves, times and history
 abbrev pub RunsByTurnsAgree : Type 0
-RunsByTurnsAgree = (input : Input) (one other : Run) → IsOfWorkers input → IsPlain input one
-    → IsPlain input other → IsByTurns input.shape input.load input.order one
+RunsByTurnsAgree = (input : Input) (one other : Run) → IsOfWorkers input → ServesAll input one
+    → ServesAll input other → IsByTurns input.shape input.load input.order one
     → IsByTurns input.shape input.load input.order other → one ≡ other
 
 -- and two such runs by single moves of it
 abbrev pub RunsByMovesAgree : Type 0
-RunsByMovesAgree = (input : Input) (one other : Run) → IsOfWorkers input → IsPlain input one
-    → IsPlain input other → IsByMoves input.shape input.load input.order one
+RunsByMovesAgree = (input : Input) (one other : Run) → IsOfWorkers input → ServesAll input one
+    → ServesAll input other → IsByMoves input.shape input.load input.order one
     → IsByMoves input.shape input.load input.order other → one ≡ other
 
 -- two reports of a run are one report, if no query ran out of memory in either
@@ -88,9 +87,9 @@ OneReport = (d : Shape) (load : Workload) (run : Run) (one other : Report) → H
     → one ≡ other
 
 -- If no reply of the report of a complete run says that memory ran out, no query was given up.
-abbrev pub AnsweredIsPlain : Type 0
-AnsweredIsPlain = (input : Input) (run : Run) (report : Report) → IsInput input
-    → IsAnswered input run report → IsPlain input run
+abbrev pub AnsweredServesAll : Type 0
+AnsweredServesAll = (input : Input) (run : Run) (report : Report) → IsInput input
+    → IsAnswered input run report → ServesAll input run
 
 -- So there is one run and one report, and so one text, for each input: by turns of the order,
 abbrev pub OneTextByTurns : Type 0

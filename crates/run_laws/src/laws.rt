@@ -8,7 +8,7 @@ ghost use Rattle.run_laws.specs.Endings.{RecordsStay};
 ghost use Rattle.run_laws.specs.Merging.{RoomIsLeft, MergedIsReport};
 ghost use Rattle.run_laws.specs.Scheduled.{WorkersAreFair, RunsAreScheduled};
 ghost use Rattle.run_laws.specs.Agreeing.{RunsByTurnsAgree, RunsByMovesAgree, OneReport};
-ghost use Rattle.run_laws.specs.Agreeing.{AnsweredIsPlain, OneTextByTurns, OneTextByMoves};
+ghost use Rattle.run_laws.specs.Agreeing.{AnsweredServesAll, OneTextByTurns, OneTextByMoves};
 
 /// In a run by an order, by whole turns or by single moves, every worker makes the moves that are
 /// its to make.
@@ -99,7 +99,7 @@ pub fn one_report()
 /// memory ran out, there is one complete run by the order, and it has one report. So the text of
 /// the report is the same at each run.
 pub fn one_text()
-    ensures answered { AnsweredIsPlain }
+    ensures answered { AnsweredServesAll }
     ensures turns { OneTextByTurns }
     ensures moves { OneTextByMoves }
 {}

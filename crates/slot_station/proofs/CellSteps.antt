@@ -41,7 +41,7 @@ module _ {B : Type 0} where
 
 -- what is known of a cell, whose worker is inside or is not, by that worker's note and the holder's
 abbrev pub Known : {B : Type 0} → (ℕ → List (ℕ × ℕ) → B → Type 0) → (ℕ → List (ℕ × ℕ)) → SlotState → Bool → Note → (ℕ → Note) → Option B → Type 0
-Known fits R X inside own notes x = CellAt fits R X (record { own = cond inside own note.Kept; holder = notes }) x
+Known fits R X inside own notes x = CellAt (record { fits = fits; ranges = R }) X (record { own = cond inside own note.Kept; holder = notes }) x
 
 -- a cell of a worker whose values meet `fits`, at a slot: is its worker inside, with which note
 module _ {B : Type 0} (fits : ℕ → List (ℕ × ℕ) → B → Type 0) (R : ℕ → List (ℕ × ℕ)) where

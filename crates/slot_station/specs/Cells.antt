@@ -68,20 +68,27 @@ module _ {B : Type 0} (fits : ℕ → List (ℕ × ℕ) → B → Type 0) where
   FitsFinalised ranges held b =
       (held.again ≡ true) × fits (finalised_id held) (ranges (finalised_id held)) b
 
-module _ {B : Type 0} (fits : ℕ → List (ℕ × ℕ) → B → Type 0) (ranges : ℕ → List (ℕ × ℕ)) where
   -- the value fits the ranges that were claimed of a task set
-  abbrev pub FitsClaims : ℕ → B → Type 0
-  FitsClaims id b = fits id (ranges id) b
+  abbrev pub FitsClaims : (ℕ → List (ℕ × ℕ)) → ℕ → B → Type 0
+  FitsClaims ranges id b = fits id (ranges id) b
 
-  -- the value of a cell of a slot in this state, by what is noted of it
-  abbrev pub CellAt : SlotState → CellNotes → Option B → Type 0
-  CellAt state.Empty noted_so value = value ≡ None
-  CellAt (state.Reserved w held) noted_so value =
-      NoteSays (λ b. ⊥) (FitsNext fits held) (noted_so.holder w) value
-  CellAt (state.Open t) noted_so value = NoteSays (FitsClaims t.id) (λ b. ⊥) noted_so.own value
-  CellAt (state.Shut t end) noted_so value = NoteSays (FitsClaims t.id) (λ b. ⊥) noted_so.own value
-  CellAt (state.Finishing id w held) noted_so value =
-      NoteSays (FitsClaims id) (FitsNext fits held) (noted_so.holder w) value
+-- What the values of a worker's cells have to fit, and the ranges that the worker claimed of each
+-- task set.
+pub record Owner (B : Type 0) : Type 1 where
+  pub fits : ℕ → List (ℕ × ℕ) → B → Type 0
+  pub ranges : ℕ → List (ℕ × ℕ)
+
+-- the value of a cell of this owner at a slot in this state, by what is noted of it
+abbrev pub CellAt : {B : Type 0} → Owner B → SlotState → CellNotes → Option B → Type 0
+CellAt owner state.Empty noted_so value = value ≡ None
+CellAt owner (state.Reserved w held) noted_so value =
+    NoteSays (λ b. ⊥) (FitsNext owner.fits held) (noted_so.holder w) value
+CellAt owner (state.Open t) noted_so value =
+    NoteSays (FitsClaims owner.fits owner.ranges t.id) (λ b. ⊥) noted_so.own value
+CellAt owner (state.Shut t end) noted_so value =
+    NoteSays (FitsClaims owner.fits owner.ranges t.id) (λ b. ⊥) noted_so.own value
+CellAt owner (state.Finishing id w held) noted_so value = NoteSays
+    (FitsClaims owner.fits owner.ranges id) (FitsNext owner.fits held) (noted_so.holder w) value
 
 -- ---- what is known of cells at a moment
 
@@ -119,8 +126,8 @@ cell_notes moment s v = record {
 -- what is known of a cell then, where the values of its worker meet `fits`
 abbrev pub CellOf : {B : Type 0} → (ℕ → List (ℕ × ℕ) → B → Type 0) → Moment → Cell B → Type 0
 CellOf fits moment cell =
-    CellAt fits (ranges_then moment cell.worker) (slot_then moment cell.slot)
-    (cell_notes moment cell.slot cell.worker) cell.value
+    CellAt (record { fits = fits; ranges = ranges_then moment cell.worker })
+    (slot_then moment cell.slot) (cell_notes moment cell.slot cell.worker) cell.value
 
 -- the notes after a call of w
 abbrev pub notes_after : ℕ → Act → (ℕ → ℕ → Note) → ℕ → ℕ → Note

@@ -7,7 +7,7 @@ ghost use Rattle.slot_station.specs.Replies.{shut_act, mark_act, sweep_act};
 ghost use Rattle.slot_station.specs.Replies.{pay_act, marked_coordinator};
 ghost use Rattle.slot_station.specs.Tokens.{IsCoordinator, IsDebt, IsHolder, IsSpent};
 ghost use Rattle.slot_station.specs.Tokens.{PayGives, ShutGives, SweepGives};
-ghost use Rattle.board_rule.specs.Passes.{HasExchanged, IsPassOf, seen_of};
+ghost use Rattle.board_rule.specs.Passes.{Advances, HasExchanged, IsPassOf, seen_of};
 
 use board_rule::atomic::{WordOperation, make_step};
 use board_rule::board::{Board, Pass};
@@ -32,9 +32,7 @@ pub fn shut<B: Fits, L: Ledger>(
 ) -> Shut
     requires pass { IsPassOf board.now pass.old }
     requires spent { Owns IsSpent (seen_of board.now pass.old) spent }
-    ensures pass { IsPassOf board.now pass.new }
-    ensures made { Makes B.total (shut_act result)
-        (seen_of board.now pass.old) (seen_of board.now pass.new) }
+    ensures made { Advances board.now (Makes B.total (shut_act result)) pass.old pass.new }
     ensures first { Owns ShutGives (seen_of board.now pass.new) result }
     ensures ticks { steps.new ≡ steps.old + 1 }
 {
@@ -58,9 +56,7 @@ pub fn mark_next<B: Fits, L: Ledger>(
     requires coordinator { Owns IsCoordinator (seen_of board.now pass.old) coordinator.old }
     requires unasked { let seen = seen_of board.now pass.old in
         coordinator.old.asked + 1 < seen.desk.shape.workers }
-    ensures pass { IsPassOf board.now pass.new }
-    ensures made { Makes B.total (mark_act result)
-        (seen_of board.now pass.old) (seen_of board.now pass.new) }
+    ensures made { Advances board.now (Makes B.total (mark_act result)) pass.old pass.new }
     ensures counts { coordinator.new ≡ marked_coordinator result coordinator.old }
     ensures coordinator { Owns IsCoordinator (seen_of board.now pass.new) coordinator.new }
     ensures ticks { steps.new ≡ steps.old + 1 }
@@ -89,9 +85,7 @@ pub fn sweep<B: Fits, L: Ledger>(
     requires pass { IsPassOf board.now pass.old }
     requires coordinator { Owns IsCoordinator (seen_of board.now pass.old) coordinator }
     requires asked { coordinator.asked + 1 ≡ (seen_of board.now pass.old).desk.shape.workers }
-    ensures pass { IsPassOf board.now pass.new }
-    ensures made { Makes B.total (sweep_act result)
-        (seen_of board.now pass.old) (seen_of board.now pass.new) }
+    ensures made { Advances board.now (Makes B.total (sweep_act result)) pass.old pass.new }
     ensures holder { Owns SweepGives (seen_of board.now pass.new) result }
     ensures ticks { steps.new ≡ steps.old + 1 }
 {
@@ -119,9 +113,7 @@ pub fn pay<B: Fits, L: Ledger>(
 ) -> Pay
     requires pass { IsPassOf board.now pass.old }
     requires debt { Owns IsDebt (seen_of board.now pass.old) debt }
-    ensures pass { IsPassOf board.now pass.new }
-    ensures made { Makes B.total (pay_act result)
-        (seen_of board.now pass.old) (seen_of board.now pass.new) }
+    ensures made { Advances board.now (Makes B.total (pay_act result)) pass.old pass.new }
     ensures holder { Owns PayGives (seen_of board.now pass.new) result }
     ensures ticks { steps.new ≡ steps.old + 1 }
 {
@@ -146,10 +138,8 @@ pub fn cell<B: Fits, L: Ledger>(
     requires holder { Owns IsHolder (seen_of board.now pass.old) holder.old }
     requires worker { worker < (seen_of board.now pass.old).desk.shape.workers }
     requires fits { IfSome new (NextFits B.fits (seen_of board.now pass.old) worker) }
-    ensures pass { IsPassOf board.now pass.new }
     ensures says { CellSays B.fits (seen_of board.now pass.old) worker result }
-    ensures put { Exchanges worker (fresh_note new)
-        (seen_of board.now pass.old) (seen_of board.now pass.new) }
+    ensures put { Advances board.now (Exchanges worker (fresh_note new)) pass.old pass.new }
     ensures exchanged { HasExchanged worker (fresh_note new) pass.old pass.new }
     ensures same { holder.new ≡ holder.old }
     ensures ticks { steps.new ≡ steps.old + 1 }

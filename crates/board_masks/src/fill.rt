@@ -14,7 +14,7 @@ ghost use Rattle.slot_station.specs.Desks.{Makes, Owns, caller_of};
 ghost use Rattle.slot_station.specs.Desks.{own_holding, own_place, totals_of};
 ghost use Rattle.slot_station.specs.Replies.{reserve_act, admit_act, admitted_holder};
 ghost use Rattle.slot_station.specs.Tokens.{IsAnnouncer, IsHolder, ReserveGives};
-ghost use Rattle.board_rule.specs.Passes.{IsPassOf, seen_of};
+ghost use Rattle.board_rule.specs.Passes.{Advances, IsPassOf, seen_of};
 
 use board_rule::atomic::{WordOperation, make_step};
 use board_rule::board::{Board, Pass};
@@ -41,9 +41,7 @@ pub fn reserve<B: Fits, L: Ledger>(
     requires pass { IsPassOf board.now pass.old }
     requires place { own_place (seen_of board.now pass.old) ≡ Free }
     requires slot { s < (seen_of board.now pass.old).desk.shape.slots }
-    ensures pass { IsPassOf board.now pass.new }
-    ensures made { Makes B.total (reserve_act s result)
-        (seen_of board.now pass.old) (seen_of board.now pass.new) }
+    ensures made { Advances board.now (Makes B.total (reserve_act s result)) pass.old pass.new }
     ensures holder { Owns ReserveGives (seen_of board.now pass.new) result }
     ensures ticks { steps.new ≡ steps.old + 1 }
 {
@@ -66,9 +64,7 @@ pub fn admit<B: Fits, L: Ledger>(
     requires holder { Owns IsHolder (seen_of board.now pass.old) holder.old }
     requires none { holder.old.query ≡ None }
     requires query { q < (seen_of board.now pass.old).desk.shape.queries }
-    ensures pass { IsPassOf board.now pass.new }
-    ensures made { Makes B.total (admit_act q result)
-        (seen_of board.now pass.old) (seen_of board.now pass.new) }
+    ensures made { Advances board.now (Makes B.total (admit_act q result)) pass.old pass.new }
     ensures query { holder.new ≡ admitted_holder q result holder.old }
     ensures holder { Owns IsHolder (seen_of board.now pass.new) holder.new }
     ensures ticks { steps.new ≡ steps.old + 1 }
@@ -98,9 +94,7 @@ pub fn note_done<B: Fits, L: Ledger>(
     requires query { IsSome holder.old.query }
     requires once { (own_holding (seen_of board.now pass.old)).noted ≡ 0 }
     requires number { (0 < k) × (holder.old.stage + k ≤ STAGES) }
-    ensures pass { IsPassOf board.now pass.new }
-    ensures made { Makes B.total (NoteDone k)
-        (seen_of board.now pass.old) (seen_of board.now pass.new) }
+    ensures made { Advances board.now (Makes B.total (NoteDone k)) pass.old pass.new }
     ensures same { holder.new ≡ holder.old }
     ensures holder { Owns IsHolder (seen_of board.now pass.new) holder.new }
     ensures ticks { steps.new ≡ steps.old + 1 }
@@ -122,9 +116,7 @@ pub fn set_total<B: Fits, L: Ledger>(
     requires holder { Owns IsHolder (seen_of board.now pass.old) holder.old }
     requires query { IsSome holder.old.query }
     requires number { total ≤ MOST_TOTAL }
-    ensures pass { IsPassOf board.now pass.new }
-    ensures made { Makes B.total (SetTotal total)
-        (seen_of board.now pass.old) (seen_of board.now pass.new) }
+    ensures made { Advances board.now (Makes B.total (SetTotal total)) pass.old pass.new }
     ensures same { holder.new ≡ holder.old }
     ensures holder { Owns IsHolder (seen_of board.now pass.new) holder.new }
     ensures ticks { steps.new ≡ steps.old + 1 }
@@ -155,9 +147,7 @@ pub fn install<B: Fits, L: Ledger>(
     requires total { let seen = seen_of board.now pass.old in
         InstallsOf (totals_of B.total seen) (Install id) (own_holding seen).total }
     requires cells { HasNoted Fresh (caller_of (seen_of board.now pass.old)) }
-    ensures pass { IsPassOf board.now pass.new }
-    ensures made { Makes B.total (Install id)
-        (seen_of board.now pass.old) (seen_of board.now pass.new) }
+    ensures made { Advances board.now (Makes B.total (Install id)) pass.old pass.new }
     ensures announcer { Owns IsAnnouncer (seen_of board.now pass.new) result }
     ensures ticks { steps.new ≡ steps.old + 1 }
 {
@@ -187,9 +177,7 @@ pub fn release<B: Fits, L: Ledger>(
     requires noted { (holder.query ≡ None)
         ⊎ (0 < (own_holding (seen_of board.now pass.old)).noted) }
     requires cells { HasNoted Empty (caller_of (seen_of board.now pass.old)) }
-    ensures pass { IsPassOf board.now pass.new }
-    ensures made { Makes B.total Release
-        (seen_of board.now pass.old) (seen_of board.now pass.new) }
+    ensures made { Advances board.now (Makes B.total Release) pass.old pass.new }
     ensures ticks { steps.new ≡ steps.old + 1 }
 {
     let state = Address::StateOf(slot_at(&pass.place));

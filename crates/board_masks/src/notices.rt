@@ -8,7 +8,7 @@ ghost use Rattle.slot_history.specs.declared.shape.TheConstants.{PARTS};
 ghost use Rattle.slot_station.specs.Desks.{Makes, Owns};
 ghost use Rattle.slot_station.specs.Replies.{NamesSlots};
 ghost use Rattle.slot_station.specs.Tokens.{IsAnnouncer, IsDone};
-ghost use Rattle.board_rule.specs.Passes.{IsPassOf, seen_of};
+ghost use Rattle.board_rule.specs.Passes.{Advances, IsPassOf, seen_of};
 
 use board_rule::atomic::{WordOperation, make_step};
 use board_rule::board::{Board, Pass};
@@ -32,9 +32,7 @@ pub fn announce<B: Fits, L: Ledger>(
     requires pass { IsPassOf board.now pass.old }
     requires announcer { Owns IsAnnouncer (seen_of board.now pass.old) announcer.old }
     requires untold { announcer.old.told < (seen_of board.now pass.old).desk.shape.workers }
-    ensures pass { IsPassOf board.now pass.new }
-    ensures made { Makes B.total Announce
-        (seen_of board.now pass.old) (seen_of board.now pass.new) }
+    ensures made { Advances board.now (Makes B.total Announce) pass.old pass.new }
     ensures told { announcer.new ≡ record announcer.old { told = announcer.old.told + 1 } }
     ensures announcer { announcer.new.told < (seen_of board.now pass.old).desk.shape.workers
         → Owns IsAnnouncer (seen_of board.now pass.new) announcer.new }
@@ -58,9 +56,7 @@ pub fn take_return<B: Fits, L: Ledger>(
 ) -> u64
     requires pass { IsPassOf board.now pass.old }
     requires part { part < PARTS }
-    ensures pass { IsPassOf board.now pass.new }
-    ensures made { Makes B.total (TakeReturn part result)
-        (seen_of board.now pass.old) (seen_of board.now pass.new) }
+    ensures made { Advances board.now (Makes B.total (TakeReturn part result)) pass.old pass.new }
     ensures slots { NamesSlots (seen_of board.now pass.old).desk.shape.slots part result }
     ensures ticks { steps.new ≡ steps.old + 1 }
 {
@@ -77,9 +73,7 @@ pub fn take_change<B: Fits, L: Ledger>(
 ) -> u64
     requires pass { IsPassOf board.now pass.old }
     requires part { part < PARTS }
-    ensures pass { IsPassOf board.now pass.new }
-    ensures made { Makes B.total (TakeChange part result)
-        (seen_of board.now pass.old) (seen_of board.now pass.new) }
+    ensures made { Advances board.now (Makes B.total (TakeChange part result)) pass.old pass.new }
     ensures slots { NamesSlots (seen_of board.now pass.old).desk.shape.slots part result }
     ensures ticks { steps.new ≡ steps.old + 1 }
 {
@@ -94,9 +88,7 @@ pub fn arrivals<B: Fits, L: Ledger>(
     steps: &mut Steps<L>,
 ) -> u32
     requires pass { IsPassOf board.now pass.old }
-    ensures pass { IsPassOf board.now pass.new }
-    ensures made { Makes B.total (Arrivals result)
-        (seen_of board.now pass.old) (seen_of board.now pass.new) }
+    ensures made { Advances board.now (Makes B.total (Arrivals result)) pass.old pass.new }
     ensures ticks { steps.new ≡ steps.old + 1 }
 {
     make_step::<Brand, B, L>(board, pass, Address::ArrivalsAt, WordOperation::Load, steps) as u32
@@ -109,9 +101,7 @@ pub fn finished<B: Fits, L: Ledger>(
     steps: &mut Steps<L>,
 ) -> u32
     requires pass { IsPassOf board.now pass.old }
-    ensures pass { IsPassOf board.now pass.new }
-    ensures made { Makes B.total (Finished result)
-        (seen_of board.now pass.old) (seen_of board.now pass.new) }
+    ensures made { Advances board.now (Makes B.total (Finished result)) pass.old pass.new }
     ensures ticks { steps.new ≡ steps.old + 1 }
 {
     make_step::<Brand, B, L>(board, pass, Address::FinishedAt, WordOperation::Load, steps) as u32

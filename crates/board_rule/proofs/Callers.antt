@@ -20,7 +20,7 @@ use Rattle.slot_station.proofs.PlaceCounts.{place-counted}
 use Rattle.slot_station.proofs.TokensKept.{announcer-opened}
 use Rattle.board_rule.specs.declared.board.Board.{Board}
 use Rattle.board_rule.specs.declared.board.Pass.{Pass}
-use Rattle.board_rule.specs.Passes.{board_shape, seen_of, IsPassOf, HasStepped}
+use Rattle.board_rule.specs.Passes.{board_shape, seen_of, Advances, IsPassOf, IsSeatOf, HasStepped}
 use Rattle.board_rule.proofs.Stepping.{shape}
 
 counted-prop : (q : Place) → IsProp (IsCounted q)
@@ -40,6 +40,14 @@ made-as {total = total} {x = x} {y = y} is m = subst (λ c. Makes total c x y) (
 module _ {B Sub : Type 0} {board : Board B Sub} {old mid : Pass B Sub} {a : Act} (st : HasStepped board a old mid) where
   abbrev d : Shape
   d = board_shape board
+
+  -- the pass after the step that is this call, once its place is moved
+  pub advances-as : {b : Act} {total : Sub → ℕ → Option ℕ} → b ≡ a → (p : Place) → p ≡ moved board.shape b mid.place
+      → Makes total a (seen_of board old) (seen_of board mid) → Advances board (Makes total b) old (record mid { place = p })
+  advances-as is p at m = (
+    subst (λ q. IsSeatOf board mid.worker q mid.seat) (ap (λ c. moved board.shape c mid.place) (sym is) ∙ sym at) st.seat,
+    made-as is m,
+  )
 
   -- what a reply brings, by the place to which the call moves its worker
   pub brings : {b : Act} → b ≡ a → {X : Type 0} → (Is : Shape → ℕ → Place → X → Type 0) (x : X) → Is d mid.worker (moved d b mid.place) x

@@ -34,7 +34,7 @@ use Rattle.slot_words.specs.Steps.{address_of, change_of, answer_of}
 use Rattle.slot_words.specs.Laws.{IsLawful}
 use Rattle.slot_words.proofs.Law.{law}
 use Rattle.board_rule.specs.declared.view.View.{View}
-use Rattle.board_rule.specs.Rule.{Terms, Knowledge, IsViewOf, IsTrueOf, CellIs, known_after, moment_known, total_over}
+use Rattle.board_rule.specs.Rule.{Terms, Knowledge, IsViewOf, IsTrueOf, CellIs, named, known_after, moment_known, total_over}
 use Rattle.board_rule.specs.Steps.{MayStep}
 use Rattle.board_rule.specs.Views.{times, number, view_place, note_of, view_called}
 use Rattle.board_rule.proofs.SameCaller.{cells-same}
@@ -131,7 +131,7 @@ module _ {B Sub : Type 0} (terms : Terms B Sub) (known : Knowledge) (st : table.
 
       -- each cell, of which the worker has none out
       cell : NotesAllow (terms.total terms.subject) (caller_then (moment_known terms known) w) a → v.out ≡ None
-          → (s u : ℕ) → u < d.workers → (x : std_option.Option (Option B)) → CellIs terms known s u x → CellIs terms next s u x
+          → (s u : ℕ) → u < d.workers → (x : std_option.Option (Option B)) → CellIs terms known (named s u) x → CellIs terms next (named s u) x
       cell allow still s u in_u std_option.none (z, in_z, is, has) =
           let other : z ≢ w = λ e. let r : Some u ≡ None = sym is ∙ ap known.outs e ∙ (ok.views i v at).out w ws nums ∙ still in absurd (cc) in (
             z,

@@ -128,7 +128,8 @@ module _ {B Sub : Type 0} (b : Board B Sub) where
         let each : (k : ℕ) (p : Pass B Sub) → slice_get ps k ≡ Some p
         → Begins known.trail p.seat.me.0.trail × (own_calls p.worker known.trail ≡ own_calls p.worker p.seat.me.0.trail) =
         λ k p there. known-of known v p.worker p.seat.me.0.trail g.some_number is (g.each k p there).knows in record {
-          words_are = subst (λ h. AreWordsOf (board_shape b) h end.words) whole (subst (AreWordsOf (board_shape b) known.trail) (words ∙ sym copied) ok.words_are);
+          words_are = subst (λ h. AreWordsOf (board_shape b) h end.words) whole
+              (subst (AreWordsOf (board_shape b) known.trail) (words ∙ sym copied) ok.words_are);
           of_subject = subst (IsOfTotals (total (board_subject b)) (board_shape b)) whole ok.of_subject;
           begins = λ k p there. subst (λ h. Begins h p.seat.me.0.trail) whole (each k p there).0;
           own = λ k p there. subst (λ h. own_calls p.worker h ≡ own_calls p.worker p.seat.me.0.trail) whole (each k p there).1;

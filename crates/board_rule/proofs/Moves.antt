@@ -31,7 +31,7 @@ use Rattle.slot_words.specs.declared.address.Address.TheVariants.{Meeting}
 use Rattle.slot_words.proofs.Addresses.{stands-set}
 use Rattle.board_rule.specs.declared.view.View.{View}
 use Rattle.board_rule.specs.Cells.{index_in, note_put, taking, giving}
-use Rattle.board_rule.specs.Rule.{Terms, Knowledge, IsViewOf, IsTrueOf, CellIs, RunningRule, cell_index, moment_known}
+use Rattle.board_rule.specs.Rule.{Terms, Knowledge, IsViewOf, IsTrueOf, CellIs, named, RunningRule, cell_index, moment_known}
 use Rattle.board_rule.specs.Views.{times, number, view_place, seen_by_view, with_out, view_exchanged}
 use Rattle.board_rule.proofs.Extends as extends
 use Rattle.board_rule.proofs.Lists.{total-set, times-head, cons-head, headed}
@@ -58,7 +58,7 @@ module _ {B Sub : Type 0} (terms : Terms B Sub) (known : Knowledge) (st : table.
       → v'.numbers ≡ v.numbers → let next = record known { notes = N'; outs = outs' } in IsViewOf terms next v'
       → ((m : ℕ) → m ≢ w → (outs' m ≡ known.outs m) × ((u : ℕ) → N' m u ≡ known.notes m u)) → (own_calls w known.trail ≡ [] → ⊥)
       → ((s u : ℕ) → s < terms.shape.slots → u < terms.shape.workers → (x : std_option.Option (Option B)) → get_elem? homes
-      (cell_index terms.shape s u) ≡ some x → CellIs terms next s u x)
+      (cell_index terms.shape s u) ≡ some x → CellIs terms next (named s u) x)
       → IsTrueOf terms next (record { words = set st.words 0 (slice_index st.words 0); homes = homes; views = set st.views i v' })
   moves homes v' N' outs' same fit others busy cells =
       let next : Knowledge = record known { notes = N'; outs = outs' } in record {
@@ -170,23 +170,25 @@ module _ {B Sub : Type 0} (terms : Terms B Sub) (known : Knowledge) (st : table.
         (out.0, out.1, upd-else known.outs w o out.0 other ∙ out.2, out.3)
 
     -- all cells, where `next` is what is known, and the cell is x
-    cells-after : (next : Knowledge) (x : std_option.Option (Option B)) → CellIs terms next (slot_of p) u x
-        → ((s c : ℕ) → c < d.workers → (s ≡ slot_of p → c ≢ u) → (h : std_option.Option (Option B)) → CellIs terms known s c h → CellIs terms next s c h)
+    cells-after : (next : Knowledge) (x : std_option.Option (Option B)) → CellIs terms next (named (slot_of p) u) x
+        → ((s c : ℕ) → c < d.workers → (s ≡ slot_of p → c ≢ u) → (h : std_option.Option (Option B)) → CellIs terms known (named s c) h
+        → CellIs terms next (named s c) h)
         → (s c : ℕ) → s < d.slots → c < d.workers → (h : std_option.Option (Option B)) → get_elem? (set st.homes k x) (cell_index d s c) ≡ some h
-        → CellIs terms next s c h
+        → CellIs terms next (named s c) h
     cells-after next x this stays s c in_s in_c h e = ⊎_elim
         (λ r. let q = same_from_place s c (slot_of p) u d.workers in_c law.in_workers r.0 in
-        subst (CellIs terms next s c) r.1 (subst (λ t. CellIs terms next t c x) (sym q.0) (subst (λ m. CellIs terms next (slot_of p) m x) (sym q.1) this)))
+        subst (CellIs terms next (named s c)) r.1
+        (subst (λ t. CellIs terms next (named t c) x) (sym q.0) (subst (λ m. CellIs terms next (named (slot_of p) m) x) (sym q.1) this)))
         (λ r. stays s c in_c (λ same e'. r.0 (ap₂ (cell_index d) same e')) h (ok.cells s c in_s in_c h r.1))
         (at_set st.homes k (cell_index d s c) x h e)
 
-    unnoted-stay : (s c : ℕ) → c < d.workers → (s ≡ slot_of p → c ≢ u) → (h : std_option.Option (Option B)) → CellIs terms known s c h
-        → CellIs terms unnoted s c h
+    unnoted-stay : (s c : ℕ) → c < d.workers → (s ≡ slot_of p → c ≢ u) → (h : std_option.Option (Option B)) → CellIs terms known (named s c) h
+        → CellIs terms unnoted (named s c) h
     unnoted-stay s c in_c ne std_option.none a = out-stays s c ne a
     unnoted-stay s c in_c ne (some y) a = a
 
-    noted-stay : (s c : ℕ) → c < d.workers → (s ≡ slot_of p → c ≢ u) → (h : std_option.Option (Option B)) → CellIs terms known s c h
-        → CellIs terms noted s c h
+    noted-stay : (s c : ℕ) → c < d.workers → (s ≡ slot_of p → c ≢ u) → (h : std_option.Option (Option B)) → CellIs terms known (named s c) h
+        → CellIs terms noted (named s c) h
     noted-stay s c in_c ne std_option.none a = out-stays s c ne a
     noted-stay s c in_c ne (some y) a = law.others n (record { slot = s; worker = c; value = y }) ne a
 
@@ -247,7 +249,7 @@ module _ {B Sub : Type 0} (terms : Terms B Sub) (known : Knowledge) (st : table.
       let n : Note = put_note p y in
       let mine : (c : ℕ) → known.outs w ≡ Some c → c ≡ u = λ c is. let r : Some c ≡ Some u = sym is ∙ fit.out w ws nums ∙ out in cc in
       let next : Knowledge = noted n None mine in
-      let c : CellIs terms next (slot_of p) u (some y) = law.put y (fit_so terms.subject (fit.subject_is w ws nums)) n refl in (
+      let c : CellIs terms next (named (slot_of p) u) (some y) = law.put y (fit_so terms.subject (fit.subject_is w ws nums)) n refl in (
         next,
         moves terms known st ok i v at w ws nums (set st.homes k (some y)) (view_exchanged v u n) next.notes next.outs refl
             record {

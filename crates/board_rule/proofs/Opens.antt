@@ -12,7 +12,7 @@ use Rattle.slot_station.specs.declared.note.Note.TheVariants.{Loose}
 use Rattle.slot_words.specs.Words.{AreFirst}
 use Rattle.slot_words.proofs.Openings.{first-words-stand}
 use Rattle.board_rule.specs.declared.view.View.{View}
-use Rattle.board_rule.specs.Rule.{Terms, Knowledge, IsViewOf, CellIs, RunningRule, cell_index}
+use Rattle.board_rule.specs.Rule.{Terms, Knowledge, IsViewOf, CellIs, named, RunningRule, cell_index}
 use Rattle.board_rule.specs.Views.{times, numbers_from, fresh_view}
 use Rattle.board_rule.proofs.Lists.{counts-not}
 
@@ -79,7 +79,7 @@ module _ {B Sub : Type 0} (terms : Terms B Sub) (words : List ℕ) (n : ℕ) (sh
       numbers = λ w. let t = times-numbers d.workers 0 w (omega arith) in let e : 0 + d.workers ≡ d.workers = omega arith in
           let r : cond {A = ℕ} (ltb w (0 + d.workers)) 1 0 ≡ cond {A = ℕ} (ltb w d.workers) 1 0 = ap (λ k. cond {A = ℕ} (ltb w k) 1 0) e in omega arith;
       views = λ i v at. subst (IsViewOf terms none) (alone i v at) view-first;
-      cells = λ s w in_s in_w h at. subst (CellIs terms none s w) (sym (nones n (cell_index d s w) h at)) refl;
+      cells = λ s w in_s in_w h at. subst (CellIs terms none (named s w)) (sym (nones n (cell_index d s w) h at)) refl;
       idle = λ w none. (refl, λ u. refl);
     },
   )

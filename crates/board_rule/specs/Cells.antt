@@ -14,8 +14,8 @@ use Rattle.board_rule.specs.Views.{view_place, seen_by_view, with_out, view_exch
 abbrev pub index_in : {Sub : Type 0} → View Sub → ℕ → ℕ
 index_in v u = cell_index v.shape (slot_of (view_place v)) u
 
--- the note of the cell that was taken last, which is the first of those that the seat holds, by what
--- it has now
+-- the note of the cell that was taken last, which is the first of those that the seat holds, by
+-- what it has now
 abbrev pub note_put : {B : Type 0} → Place → List (ℕ × Option B) → Note
 note_put p [] = Loose
 note_put p (held ∷ more) = put_note p held.1

@@ -48,6 +48,13 @@ module _ {B Sub : Type 0} where
   abbrev pub IsPassOf : Board B Sub → Pass B Sub → Type 0
   IsPassOf board pass = IsSeatOf board pass.worker pass.place pass.seat
 
+  -- A pass of this board is of it still, and what it shows as a station went on so.
+  abbrev pub Advances : Board B Sub
+      → (Seen (Board B Sub) Sub → Seen (Board B Sub) Sub → Type 0) → Pass B Sub → Pass B Sub
+      → Type 0
+  Advances board WentOn old new =
+      IsPassOf board new × WentOn (seen_of board old) (seen_of board new)
+
   -- The pass made one exchange, of the cell of u, and nothing else: it has this one more among its
   -- own, with the note of what was put, and no cell is out with it.
   pub record HasExchanged (u : ℕ) (note : Note) (old new : Pass B Sub) : Type 0 where

@@ -56,19 +56,28 @@ moment_known terms known =
 abbrev pub cell_index : Shape → ℕ → ℕ → ℕ
 cell_index d s u = s * d.workers + u
 
+-- which cell: that of a worker at a slot
+pub record CellName : Type 0 where
+  pub slot : ℕ
+  pub worker : ℕ
+
+abbrev pub named : ℕ → ℕ → CellName
+named s u = record { slot = s; worker = u }
+
 -- the sum over all views
 abbrev pub total_over : {V : Type 0} → (V → ℕ) → List V → ℕ
 total_over f [] = 0
 total_over f (v ∷ vs) = f v + total_over f vs
 
 module _ {B Sub : Type 0} (terms : Terms B Sub) (known : Knowledge) where
-  -- The cell of u at the slot s. If it is out, it is so with a worker that has this cell; if it is
-  -- there, it is as the notes say.
-  abbrev pub CellIs : ℕ → ℕ → std_option.Option (Option B) → Type 0
-  CellIs s u std_option.none = (w : ℕ) × (w < terms.shape.workers) × (known.outs w ≡ Some u)
-      × HasCell (state_after terms.shape known.trail) s u w
-  CellIs s u (some value) = CellOf (terms.fits terms.subject u) (moment_known terms known)
-      (record { slot = s; worker = u; value = value })
+  -- If the cell is out, it is so with a worker that has it; if it is there, it is as the notes say.
+  abbrev pub CellIs : CellName → std_option.Option (Option B) → Type 0
+  CellIs cell std_option.none = (w : ℕ) × (w < terms.shape.workers)
+      × (known.outs w ≡ Some cell.worker)
+      × HasCell (state_after terms.shape known.trail) cell.slot cell.worker w
+  CellIs cell (some value) =
+      CellOf (terms.fits terms.subject cell.worker) (moment_known terms known)
+      (record { slot = cell.slot; worker = cell.worker; value = value })
 
   -- what a seat was joined with is a beginning of the longest trail that has all of its worker's
   -- calls
@@ -106,7 +115,7 @@ module _ {B Sub : Type 0} (terms : Terms B Sub) (known : Knowledge) where
     pub cells : (s u : ℕ) → s < terms.shape.slots → u < terms.shape.workers
         → (home : std_option.Option (Option B))
         → get_elem? table.homes (cell_index terms.shape s u) ≡ some home
-        → CellIs s u home
+        → CellIs (named s u) home
     pub idle : (w : ℕ) → own_calls w known.trail ≡ []
         → (known.outs w ≡ None) × ((u : ℕ) → known.notes w u ≡ Loose)
 

@@ -12,7 +12,7 @@ ghost use Rattle.slot_station.specs.Desks.{caller_of, own_place, own_ranges, own
 ghost use Rattle.slot_station.specs.Replies.{look_act, claim_act, leave_act, SeesTaskSet};
 ghost use Rattle.slot_station.specs.Replies.{IsCutRange, LiesPast, OwesTaskSet};
 ghost use Rattle.slot_station.specs.Tokens.{ClaimGives, LeaveGives};
-ghost use Rattle.board_rule.specs.Passes.{HasExchanged, IsPassOf, seen_of};
+ghost use Rattle.board_rule.specs.Passes.{Advances, HasExchanged, IsPassOf, seen_of};
 
 use board_rule::atomic::{WordOperation, make_step};
 use board_rule::board::{Board, Pass};
@@ -33,9 +33,7 @@ pub fn enter<B: Fits, L: Ledger>(board: &Board<B>, pass: &mut Pass<B>, s: u32, s
     requires pass { IsPassOf board.now pass.old }
     requires place { own_place (seen_of board.now pass.old) ≡ Free }
     requires slot { s < (seen_of board.now pass.old).desk.shape.slots }
-    ensures pass { IsPassOf board.now pass.new }
-    ensures made { Makes B.total (Enter s)
-        (seen_of board.now pass.old) (seen_of board.now pass.new) }
+    ensures made { Advances board.now (Makes B.total (Enter s)) pass.old pass.new }
     ensures ticks { steps.new ≡ steps.old + 1 }
 {
     let own = Address::WorkerOf(pass.worker);
@@ -47,9 +45,7 @@ pub fn enter<B: Fits, L: Ledger>(board: &Board<B>, pass: &mut Pass<B>, s: u32, s
 pub fn look<B: Fits, L: Ledger>(board: &Board<B>, pass: &mut Pass<B>, steps: &mut Steps<L>) -> Look
     requires pass { IsPassOf board.now pass.old }
     requires place { (s : ℕ) × (own_place (seen_of board.now pass.old) ≡ Entered s) }
-    ensures pass { IsPassOf board.now pass.new }
-    ensures made { Makes B.total (look_act result)
-        (seen_of board.now pass.old) (seen_of board.now pass.new) }
+    ensures made { Advances board.now (Makes B.total (look_act result)) pass.old pass.new }
     ensures task_set { SeesTaskSet (totals_of B.total (seen_of board.now pass.old)) result }
     ensures ticks { steps.new ≡ steps.old + 1 }
 {
@@ -70,9 +66,7 @@ pub fn claim<B: Fits, L: Ledger>(
     requires pass { IsPassOf board.now pass.old }
     requires place { (s id : ℕ) × (own_place (seen_of board.now pass.old) ≡ Inside s id) }
     requires number { (0 < n) × (n ≤ MOST_CLAIM) }
-    ensures pass { IsPassOf board.now pass.new }
-    ensures made { Makes B.total (claim_act n result)
-        (seen_of board.now pass.old) (seen_of board.now pass.new) }
+    ensures made { Advances board.now (Makes B.total (claim_act n result)) pass.old pass.new }
     ensures range { IsCutRange (own_total B.total (seen_of board.now pass.old)) n result }
     ensures past { LiesPast (own_ranges (seen_of board.now pass.old)) result }
     ensures spent { Owns ClaimGives (seen_of board.now pass.new) result }
@@ -100,9 +94,7 @@ pub fn leave<B: Fits, L: Ledger>(
     requires pass { IsPassOf board.now pass.old }
     requires place { can_leave (own_place (seen_of board.now pass.old)) ≡ true }
     requires cell { LeavesKept (caller_of (seen_of board.now pass.old)) }
-    ensures pass { IsPassOf board.now pass.new }
-    ensures made { Makes B.total (leave_act result)
-        (seen_of board.now pass.old) (seen_of board.now pass.new) }
+    ensures made { Advances board.now (Makes B.total (leave_act result)) pass.old pass.new }
     ensures task_set { OwesTaskSet (totals_of B.total (seen_of board.now pass.old)) result }
     ensures coordinator { LeaderOwesNothing (seen_of board.now pass.old) result }
     ensures debt { Owns LeaveGives (seen_of board.now pass.new) result }
@@ -125,10 +117,8 @@ pub fn own_cell<B: Fits, L: Ledger>(
     requires pass { IsPassOf board.now pass.old }
     requires place { has_cell (own_place (seen_of board.now pass.old)) ≡ true }
     requires fits { IfSome new (OwnFits B.fits (seen_of board.now pass.old)) }
-    ensures pass { IsPassOf board.now pass.new }
     ensures says { OwnCellSays B.fits (seen_of board.now pass.old) result }
-    ensures put { ExchangesOwn (kept_note new)
-        (seen_of board.now pass.old) (seen_of board.now pass.new) }
+    ensures put { Advances board.now (ExchangesOwn (kept_note new)) pass.old pass.new }
     ensures exchanged { HasExchanged pass.old.worker (kept_note new) pass.old pass.new }
     ensures ticks { steps.new ≡ steps.old + 1 }
 {

@@ -18,9 +18,11 @@ returns-clause-says g c =
 
 pub returns-clause-put : goal.returns-clause-put
 returns-clause-put g c =
-    let x = seen_of c.args.board.now c.args.pass.now in
-    subst (λ n. Exchanges c.args.worker n x (seen_of c.args.board.now c.exchange_cell.new.pass))
-    ((exchanges-say g.B.Fits.fits _).held x _ _ c.requires.holder.place c.args.worker c.args.new).2 c.exchange_cell.ensures.put
+    let x = seen_of c.args.board.now c.args.pass.now in (
+      c.exchange_cell.ensures.pass,
+      subst (λ n. Exchanges c.args.worker n x (seen_of c.args.board.now c.exchange_cell.new.pass))
+          ((exchanges-say g.B.Fits.fits _).held x _ _ c.requires.holder.place c.args.worker c.args.new).2 c.exchange_cell.ensures.put,
+    )
 
 pub returns-clause-exchanged : goal.returns-clause-exchanged
 returns-clause-exchanged g c =

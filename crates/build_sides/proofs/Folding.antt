@@ -25,7 +25,7 @@ use Rattle.build_sides.proofs.Puts.{put_known, put_next}
 abbrev pub AllOf : Key → List FoldedRow → Type 0
 AllOf key rows = All (λ row. row.key ≡ key) rows
 
-nil_parts : {A : Type 0} (xs ys : List A) → xs ++ ys ≡ [] → (xs ≡ []) × (ys ≡ [])
+pub nil_parts : {A : Type 0} (xs ys : List A) → xs ++ ys ≡ [] → (xs ≡ []) × (ys ≡ [])
 nil_parts [] ys e = (refl, e)
 nil_parts (x ∷ xs) ys e = absurd (cc)
 
@@ -43,7 +43,7 @@ absent_more keys key k absent other = λ e lt is. grind (arith, common_steps, le
 abbrev pub values_at : ℕ → List FoldedRow → List ℤ
 values_at place rows = map (λ row. value_in row place) rows
 
-rows_with-append : (key : Key) (xs ys : List FoldedRow) → rows_with key (xs ++ ys) ≡ rows_with key xs ++ rows_with key ys
+pub rows_with-append : (key : Key) (xs ys : List FoldedRow) → rows_with key (xs ++ ys) ≡ rows_with key xs ++ rows_with key ys
 rows_with-append key xs ys = filter-append (λ row. same_key row.key key) xs ys
 
 -- rows that all have one key
@@ -94,7 +94,7 @@ module _ (keys : List Key) (key : Key) (n : ℕ) (column : Totals) (total : AggV
     (holds : (k : Key) → item_at (nothing_of column) keys column.values k ≡ total_of column.func place k rows)
     (all : AllOf key more) (is : total ≡ aggregate column.func (values_at place more))
     (fit_rows : All FitsRow rows) (fit_more : All FitsRow more) (few : length (rows_with key rows) + length more ≤ 2 ^ 62) where
-  known_column : n < length keys → key_at keys n ≡ key
+  pub known_column : n < length keys → key_at keys n ≡ key
       → (k : Key) → item_at (nothing_of column) keys (put wrapped_agg_sum column.values n total) k ≡ total_of column.func place k (rows ++ more)
   known_column lt at k =
       let old = slice_index_or column.values n total in

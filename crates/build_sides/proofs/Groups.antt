@@ -38,7 +38,7 @@ some_with side rows n folds lt = by (rows_with (key_at side.keys n) rows) (λ no
 func_at : (side : GroupTotals) (a : ℕ) → a < length side.columns → slice_index_or (funcs_of side) a Count ≡ (column_of side a).func
 func_at side a lt = get_or-map (λ (c : Totals). c.func) side.columns a no_totals Count lt
 
-All-one : {A : Type 0} (P : A → Type 0) (x : A) → P x → All P (x ∷ [])
+pub All-one : {A : Type 0} (P : A → Type 0) (x : A) → P x → All P (x ∷ [])
 All-one P x h = All-cons P x [] h (All-nil P)
 
 -- a row was folded

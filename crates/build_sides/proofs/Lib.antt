@@ -10,3 +10,6 @@ mod Merging
 mod PartKeys
 mod Places
 mod Groups
+mod Known
+pub mod TableRows
+pub mod Found

@@ -34,7 +34,7 @@ pub rest_less : (first now : List Column) (i : ℕ) (new : Column) → ((k : ℕ
     → (k : ℕ) (d : Column) → i + 1 ≤ k → slice_index_or (set now i new) k d ≡ slice_index_or first k d
 rest_less first now i new rest k d after = get_or-set_other now i k new d (λ e. omega arith) ∙ rest k d (omega arith)
 
-an_item : {A : Type 0} (xs : List A) (n : ℕ) → n < length xs → A
+pub an_item : {A : Type 0} (xs : List A) (n : ℕ) → n < length xs → A
 an_item [] n lt = absurd (omega arith)
 an_item (x ∷ xs) n lt = x
 
@@ -96,7 +96,7 @@ puts_totals keys keys' others_keys key n from first middle new others numbers is
     (each a d within).is ∙ ap (λ (c : Totals). with_total (totals_of (slice_index_or middle a d)) n (slice_index_or c.values from (nothing_of c)))
     (sym (column_at others a d (omega arith)))))
 
-same_funcs : (xs ys : List Totals) → length xs ≡ length ys
+pub same_funcs : (xs ys : List Totals) → length xs ≡ length ys
     → ((a : ℕ) → a < length ys → (slice_index_or xs a no_totals).func ≡ (slice_index_or ys a no_totals).func)
     → map (λ (c : Totals). c.func) xs ≡ map (λ (c : Totals). c.func) ys
 same_funcs [] [] count each = refl

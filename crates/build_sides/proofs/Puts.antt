@@ -1,10 +1,11 @@
 -- Items that are put at a number.
-use Rattle.std.proofs.Common.{◌≡◌, ℕ, ℤ, Some, ◌<◌, ◌≤◌, List, [], ◌∷◌, ◌++◌, length, set, map, slice_index_or, refl, sym, ap, ◌∙◌, inl, inr}
+use Rattle.std.proofs.Common.{◌≡◌, ℕ, zero, suc, ℤ, Some, ◌+◌, ◌<◌, ◌≤◌, List, [], ◌∷◌, ◌++◌, length, set, map, slice_index, slice_index_or, refl, sym, ap, ◌∙◌, inl, inr}
+use Rattle.std.proofs.Common.{add-one, arith}
 use Rattle.std.proofs.lemmas.Bool.{cases_lt, lt-ltb, le-ltb}
-use Rattle.std.proofs.lemmas.List.{get_or-map, map-set, map-append, length-map}
+use Rattle.std.proofs.lemmas.List.{get_or-map, map-set, map-append, length-map, length-set}
 use Rattle.std.specs.Int.{int_min, int_max}
 use Rattle.plan_ast.specs.declared.answers.AggValue.TheVariants as agg_value
-use Rattle.build_sides.specs.Columns.{count_sum, wrapped_agg_sum, put, wrapped_sum}
+use Rattle.build_sides.specs.Columns.{count_sum, wrapped_agg_sum, put, puts, wrapped_sum}
 
 pub put_known : {A : Type 0} (both : A → A → A) (items : List A) (n : ℕ) (item : A) → n < length items
     → put both items n item ≡ set items n (both (slice_index_or items n item) item)
@@ -43,3 +44,53 @@ pub greatest_put : (items items' : List ℤ) (n : ℕ) (value : ℤ) → items' 
     → map (λ x. agg_value.Greatest (Some x)) items' ≡ put wrapped_agg_sum (map (λ x. agg_value.Greatest (Some x)) items) n (agg_value.Greatest (Some value))
 greatest_put items items' n value is =
     ap (map (λ x. agg_value.Greatest (Some x))) is ∙ map-put (λ x. agg_value.Greatest (Some x)) int_max wrapped_agg_sum (λ a b. refl) items n value
+
+-- what is put for many numbers is put as what it stands for
+pub map-puts : {A B : Type 0} (f : A → B) (both : A → A → A) (together : B → B → B) → ((a b : A) → f (both a b) ≡ together (f a) (f b))
+    → (items : List A) (numbers : List ℕ) (item : ℕ → A) (count : ℕ)
+    → map f (puts both items numbers item count) ≡ puts together (map f items) numbers (λ k. f (item k)) count
+map-puts f both together same items numbers item zero = refl
+map-puts f both together same items numbers item (suc count) =
+    map-put f both together same (puts both items numbers item count) (slice_index numbers count) (item count)
+    ∙ ap (λ l. put together l (slice_index numbers count) (f (item count))) (map-puts f both together same items numbers item count)
+
+-- items for known numbers change no count
+pub length-puts : {A : Type 0} (both : A → A → A) (items : List A) (numbers : List ℕ) (item : ℕ → A) (count : ℕ)
+    → ((k : ℕ) → k < count → slice_index numbers k < length items) → length (puts both items numbers item count) ≡ length items
+length-puts both items numbers item zero known = refl
+length-puts both items numbers item (suc count) known =
+    let before = length-puts both items numbers item count (λ k lt. known k (omega arith)) in
+    let here : slice_index numbers count < length (puts both items numbers item count) = rw before (known count (omega arith)) in
+    ap length (put_known both (puts both items numbers item count) (slice_index numbers count) (item count) here) ∙ length-set _ _ _ ∙ before
+
+-- one item more for a known number
+pub puts_more : {A : Type 0} (both : A → A → A) (items now : List A) (numbers : List ℕ) (item : ℕ → A) (i : ℕ) → now ≡ puts both items numbers item i
+    → slice_index numbers i < length now
+    → set now (slice_index numbers i) (both (slice_index_or now (slice_index numbers i) (item i)) (item i)) ≡ puts both items numbers item (i + 1)
+puts_more both items now numbers item i is lt =
+    rw add-one (sym (put_known both now (slice_index numbers i) (item i) lt) ∙ ap (λ l. put both l (slice_index numbers i) (item i)) is)
+
+module _ (numbers : List ℕ) (count : ℕ) where
+  pub count_puts : (items items' : List ℕ) → items' ≡ puts count_sum items numbers (λ _. 1) count
+      → map (λ x. agg_value.Count x) items' ≡ puts wrapped_agg_sum (map (λ x. agg_value.Count x) items) numbers (λ _. agg_value.Count 1) count
+  count_puts items items' is =
+      ap (map (λ x. agg_value.Count x)) is ∙ map-puts (λ x. agg_value.Count x) count_sum wrapped_agg_sum (λ a b. refl) items numbers (λ _. 1) count
+
+  pub sum_puts : (items items' : List ℤ) (value : ℕ → ℤ) → items' ≡ puts wrapped_sum items numbers value count
+      → map (λ x. agg_value.Sum x) items' ≡ puts wrapped_agg_sum (map (λ x. agg_value.Sum x) items) numbers (λ k. agg_value.Sum (value k)) count
+  sum_puts items items' value is =
+      ap (map (λ x. agg_value.Sum x)) is ∙ map-puts (λ x. agg_value.Sum x) wrapped_sum wrapped_agg_sum (λ a b. refl) items numbers value count
+
+  pub least_puts : (items items' : List ℤ) (value : ℕ → ℤ) → items' ≡ puts int_min items numbers value count
+      → map (λ x. agg_value.Least (Some x)) items'
+      ≡ puts wrapped_agg_sum (map (λ x. agg_value.Least (Some x)) items) numbers (λ k. agg_value.Least (Some (value k))) count
+  least_puts items items' value is =
+      ap (map (λ x. agg_value.Least (Some x))) is
+      ∙ map-puts (λ x. agg_value.Least (Some x)) int_min wrapped_agg_sum (λ a b. refl) items numbers value count
+
+  pub greatest_puts : (items items' : List ℤ) (value : ℕ → ℤ) → items' ≡ puts int_max items numbers value count
+      → map (λ x. agg_value.Greatest (Some x)) items'
+      ≡ puts wrapped_agg_sum (map (λ x. agg_value.Greatest (Some x)) items) numbers (λ k. agg_value.Greatest (Some (value k))) count
+  greatest_puts items items' value is =
+      ap (map (λ x. agg_value.Greatest (Some x))) is
+      ∙ map-puts (λ x. agg_value.Greatest (Some x)) int_max wrapped_agg_sum (λ a b. refl) items numbers value count

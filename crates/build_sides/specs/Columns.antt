@@ -1,7 +1,7 @@
 -- The totals of one aggregate as the code keeps them, by the number of the group. Sums wrap.
-use Rattle.std.specs.Prelude.{◌≡◌, ℕ, ℤ, ◌+◌, ◌+ℤ◌, ◌%◌, ◌^◌, ◌<◌, ◌≤◌, nat_lt, List, [], ◌∷◌, ◌++◌}
-use Rattle.std.specs.Prelude.{Some, map, length, slice_set, slice_index_or, vec_len, vec_capacity}
-use Rattle.std.specs.Prelude.{if◌then◌else◌}
+use Rattle.std.specs.Prelude.{◌≡◌, ℕ, zero, suc, ℤ, pos, ◌+◌, ◌+ℤ◌, ◌%◌, ◌^◌, ◌<◌, ◌≤◌, nat_lt}
+use Rattle.std.specs.Prelude.{List, [], ◌∷◌, ◌++◌, Some, map, length, slice_set, slice_index}
+use Rattle.std.specs.Prelude.{slice_index_or, vec_len, vec_capacity, if◌then◌else◌}
 use Rattle.std.specs.Int.{w128, int_wrap}
 use Rattle.plan_ast.specs.Aggregates.{agg_sum}
 use Rattle.plan_ast.specs.Answer.{aggregate}
@@ -19,6 +19,12 @@ put both items number item =
     if nat_lt number (length items)
     then slice_set items number (both (slice_index_or items number item) item)
     else items ++ item ∷ []
+
+-- items for some numbers, one after another: the first so many, as `put` puts each
+abbrev pub puts : {A : Type 0} → (A → A → A) → List A → List ℕ → (ℕ → A) → ℕ → List A
+puts both items numbers item zero = items
+puts both items numbers item (suc count) =
+    put both (puts both items numbers item count) (slice_index numbers count) (item count)
 
 abbrev pub count_sum : ℕ → ℕ → ℕ
 count_sum a b = (a + b) % 2 ^ 64
@@ -72,6 +78,23 @@ with_total column number total =
 abbrev pub FoldsValue : ℕ → ℤ → Column → Column → Type 0
 FoldsValue number value old new =
     totals_of new ≡ with_total (totals_of old) number (aggregate (func_of old) (value ∷ []))
+
+-- the first so many values, one after another, each folded into the total of the group with its
+-- number
+abbrev pub with_values : Totals → List ℕ → (ℕ → ℤ) → ℕ → Totals
+with_values column numbers value count = record {
+  func = column.func;
+  values = puts wrapped_agg_sum column.values numbers
+      (λ k. aggregate column.func (value k ∷ [])) count;
+}
+
+-- values were folded, each into the total of the group with its number
+pub record FoldsValues (numbers : List ℕ) (value : ℕ → ℤ) (old new : Column) : Type 0 where
+  pub is : totals_of new ≡ with_values (totals_of old) numbers value (length numbers)
+
+-- the values of a column, row by row
+abbrev pub value_by : List ℤ → List ℕ → ℕ → ℤ
+value_by column rows k = slice_index_or column (slice_index rows k) (pos 0)
 
 -- another column's total of the group `from` was added to that of the group with this number
 pub record AddsTotal (number from : ℕ) (other old new : Column) : Type 0 where

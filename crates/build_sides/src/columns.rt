@@ -1,10 +1,10 @@
 // The totals of one aggregate over all groups, by the number of the group.
-ghost use Rattle.std.specs.Prelude.{◌≡◌, ◌<◌, ◌≤◌, [], length, vec_len, vec_capacity};
+ghost use Rattle.std.specs.Prelude.{◌≡◌, ◌<◌, ◌≤◌, pos, [], All, length, vec_len, vec_capacity};
 ghost use Rattle.std.specs.Prelude.{slice_index_or, OnOk};
 ghost use Rattle.std.specs.Int.{int_min, int_max};
-ghost use Rattle.build_sides.specs.Columns.{FoldsValue, HasRoom, HasRoomFor, IsTotal, count_sum};
-ghost use Rattle.build_sides.specs.Columns.{func_of, put, totals_of, values_of, with_total};
-ghost use Rattle.build_sides.specs.Columns.{wrapped_sum};
+ghost use Rattle.build_sides.specs.Columns.{FoldsValue, FoldsValues, HasRoom, HasRoomFor};
+ghost use Rattle.build_sides.specs.Columns.{IsTotal, count_sum, func_of, put, puts, totals_of};
+ghost use Rattle.build_sides.specs.Columns.{value_by, values_of, with_total, wrapped_sum};
 ghost use Rattle.build_sides.specs.GroupTotals.{nothing_of};
 
 use plan_ast::{AggValue, Func};
@@ -72,6 +72,60 @@ fn put_greatest(values: &mut Vec<i64>, number: usize, value: i64)
     }
 }
 
+// Counts a row for each of these groups.
+fn count_each(counts: &mut [u64], numbers: &[u32])
+    requires { All (λ n. n < length counts.old) numbers.now }
+    ensures { counts.new ≡ puts count_sum counts.old numbers.now (λ _. 1) (length numbers.now) }
+{
+    for number in numbers {
+        let number = *number as usize;
+        counts[number] = counts[number].wrapping_add(1);
+    }
+}
+
+// Adds the values of a column in these rows, each to the sum of its group.
+fn sum_each(sums: &mut [i128], numbers: &[u32], column: &[i64], rows: &[u32])
+    requires known { All (λ n. n < length sums.old) numbers.now }
+    requires rows { All (λ row. row < length column.now) rows.now }
+    requires same { length rows.now ≡ length numbers.now }
+    ensures { sums.new ≡ puts wrapped_sum sums.old numbers.now
+        (value_by column.now rows.now) (length numbers.now) }
+{
+    for (place, number) in numbers.iter().enumerate() {
+        let number = *number as usize;
+        let value = column[rows[place] as usize];
+        sums[number] = sums[number].wrapping_add(i128::from(value));
+    }
+}
+
+// Takes the values of a column in these rows, each into the least one of its group.
+fn least_each(values: &mut [i64], numbers: &[u32], column: &[i64], rows: &[u32])
+    requires known { All (λ n. n < length values.old) numbers.now }
+    requires rows { All (λ row. row < length column.now) rows.now }
+    requires same { length rows.now ≡ length numbers.now }
+    ensures { values.new ≡ puts int_min values.old numbers.now
+        (value_by column.now rows.now) (length numbers.now) }
+{
+    for (place, number) in numbers.iter().enumerate() {
+        let number = *number as usize;
+        values[number] = values[number].min(column[rows[place] as usize]);
+    }
+}
+
+// Takes the values of a column in these rows, each into the greatest one of its group.
+fn greatest_each(values: &mut [i64], numbers: &[u32], column: &[i64], rows: &[u32])
+    requires known { All (λ n. n < length values.old) numbers.now }
+    requires rows { All (λ row. row < length column.now) rows.now }
+    requires same { length rows.now ≡ length numbers.now }
+    ensures { values.new ≡ puts int_max values.old numbers.now
+        (value_by column.now rows.now) (length numbers.now) }
+{
+    for (place, number) in numbers.iter().enumerate() {
+        let number = *number as usize;
+        values[number] = values[number].max(column[rows[place] as usize]);
+    }
+}
+
 impl Column {
     // The totals of no groups.
     pub fn none(alloc: Global, func: Func) -> Column
@@ -109,6 +163,36 @@ impl Column {
             Column::Sum(sums) => put_sum(sums, number, i128::from(value)),
             Column::Least(values) => put_least(values, number, value),
             Column::Greatest(values) => put_greatest(values, number, value),
+        }
+    }
+
+    // Folds the values of a column in these rows, each into the total of its group. Each kind has a
+    // loop of its own.
+    pub fn fold_each(&mut self, numbers: &[u32], column: &[i64], rows: &[u32])
+        requires known { All (λ n. n < length (values_of self.old)) numbers.now }
+        requires rows { All (λ row. row < length column.now) rows.now }
+        requires same { length rows.now ≡ length numbers.now }
+        ensures { FoldsValues numbers.now (value_by column.now rows.now) self.old self.new }
+    {
+        match self {
+            Column::Count(counts) => count_each(counts.as_mut_slice(), numbers),
+            Column::Sum(sums) => sum_each(sums.as_mut_slice(), numbers, column, rows),
+            Column::Least(values) => least_each(values.as_mut_slice(), numbers, column, rows),
+            Column::Greatest(values) => greatest_each(values.as_mut_slice(), numbers, column, rows),
+        }
+    }
+
+    // Folds a zero for each of these rows into the total of its group.
+    pub fn fold_zeros(&mut self, numbers: &[u32])
+        requires { All (λ n. n < length (values_of self.old)) numbers.now }
+        ensures { FoldsValues numbers.now (λ _. pos 0) self.old self.new }
+    {
+        if let Column::Count(counts) = self {
+            count_each(counts.as_mut_slice(), numbers);
+            return;
+        }
+        for number in numbers {
+            self.fold(*number as usize, 0);
         }
     }
 

@@ -1,24 +1,27 @@
 // The totals of groups by their key.
 ghost use Rattle.std.specs.Prelude.{◌≡◌, ℕ, ℤ, pos, ◌+◌, ◌^◌, ◌<◌, ◌≤◌, ◌++◌, ◌∷◌, [], All, List};
-ghost use Rattle.std.specs.Prelude.{map, length, slice_index_or, IfOk, OnOk, OnErr, if◌then◌else◌};
+ghost use Rattle.std.specs.Prelude.{Some, map, length, slice_index, slice_index_or, take, IfOk};
+ghost use Rattle.std.specs.Prelude.{IfSome, OnOk, OnErr, if◌then◌else◌};
 ghost use Rattle.std.specs.Int.{w64};
 ghost use Rattle.std.specs.Int.RustNames.{FitsSigned};
 ghost use Rattle.plan_ast.specs.Bounds.{IsWithin};
 ghost use Rattle.build_sides.specs.Chains.{key_at};
-ghost use Rattle.build_sides.specs.Columns.{AddsTotal, FoldsValue, HasRoom, HasRoomFor, func_of};
-ghost use Rattle.build_sides.specs.Columns.{totals_of, values_of};
-ghost use Rattle.build_sides.specs.FoldedRows.{FoldedRow, group_key_of, row_of, rows_with};
-ghost use Rattle.build_sides.specs.FoldedRows.{total_of};
+ghost use Rattle.build_sides.specs.Columns.{AddsTotal, FoldsValue, FoldsValues, HasRoom};
+ghost use Rattle.build_sides.specs.Columns.{HasRoomFor, func_of, totals_of, value_by};
+ghost use Rattle.build_sides.specs.Columns.{values_of};
+ghost use Rattle.build_sides.specs.FoldedRows.{FoldedRow, column_in, folded_at, folded_value};
+ghost use Rattle.build_sides.specs.FoldedRows.{group_key_of, key_by, row_of, rows_with, total_of};
 ghost use Rattle.build_sides.specs.GroupSides.{Folds, FoldsSomeKeys, column_of, funcs_of, key_part};
 ghost use Rattle.build_sides.specs.GroupSides.{rows_in, total_at};
 ghost use Rattle.build_sides.specs.PartChains.{AreParts};
-ghost use Rattle.build_sides.specs.Numbered.{AreDistinct, Numbers};
+ghost use Rattle.build_sides.specs.Numbered.{AreDistinct, IsAbsent, NumberIs, Numbers};
 ghost use Rattle.build_sides.specs.declared.columns.Column.{Column};
 
 use super::columns::Column;
 use super::key_table::{Key, KeyTable};
 use super::links::Links;
-use plan_ast::{AggValue, Func};
+use col_table::Table;
+use plan_ast::{AggAt, AggValue, ColumnAt, Func};
 use std::alloc::{AllocError, Global};
 use std::marker::Model;
 
@@ -123,6 +126,106 @@ fn add_totals(columns: &mut Vec<Column>, number: usize, others: &[Column], from:
     }
 }
 
+// The numbers of the keys of a table's rows, up to the first key that there is not. It answers how
+// many these are.
+#[inline(always)]
+fn known_numbers(
+    keys: &KeyTable,
+    table: &Table,
+    by: &[ColumnAt],
+    rows: &[u32],
+    numbers: &mut [u32],
+) -> usize
+    requires width { IsWithin 1 2 (length by.now) }
+    requires by { All (λ at. at.column < length table.now.names) by.now }
+    requires rows { All (λ row. row < length table.now.rows) rows.now }
+    requires room { length rows.now ≤ length numbers.old }
+    ensures few { result ≤ length rows.now }
+    ensures known { (k : ℕ) → k < result → NumberIs keys.now
+        (key_by table.now by.now (slice_index rows.now k)) (Some (slice_index numbers.new k)) }
+    ensures stops { result < length rows.now → IsAbsent keys.now
+        (key_by table.now by.now (slice_index rows.now result)) }
+{
+    let first = table.column(by[0].column);
+    if by.len() > 1 {
+        let second = table.column(by[1].column);
+        keys.find_each(first, second, true, rows, numbers)
+    } else {
+        keys.find_each(first, first, false, rows, numbers)
+    }
+}
+
+// The values of a column in these rows are 64-bit numbers. It reads them.
+#[inline(always)]
+fn read_each(column: &[i64], rows: &[u32])
+    requires { All (λ row. row < length column.now) rows.now }
+    ensures { (k : ℕ) → k < length rows.now → FitsSigned w64 (value_by column.now rows.now k) }
+{
+    for row in rows {
+        let _value = column[*row as usize];
+    }
+}
+
+// Folds the values of a table's rows that an aggregate folds, each into the total of its group.
+fn fold_column(
+    column: &mut Column,
+    table: &Table,
+    at: Option<ColumnAt>,
+    rows: &[u32],
+    numbers: &[u32],
+)
+    requires column { IfSome at (λ at. at.column < length table.now.names) }
+    requires rows { All (λ row. row < length table.now.rows) rows.now }
+    requires same { length rows.now ≡ length numbers.now }
+    requires known { All (λ n. n < length (values_of column.old)) numbers.now }
+    ensures folds { FoldsValues numbers.now
+        (λ k. folded_value table.now (slice_index rows.now k) at) column.old column.new }
+    ensures fits { (k : ℕ) → k < length rows.now
+        → FitsSigned w64 (folded_value table.now (slice_index rows.now k) at) }
+{
+    match at {
+        Some(at) => {
+            let values = table.column(at.column);
+            read_each(values, rows);
+            column.fold_each(numbers, values, rows);
+        }
+        None => column.fold_zeros(numbers),
+    }
+}
+
+// Folds a table's rows into the totals of their groups, column by column.
+fn fold_columns(
+    columns: &mut Vec<Column>,
+    table: &Table,
+    aggs: &[AggAt],
+    rows: &[u32],
+    numbers: &[u32],
+)
+    requires aggs { length aggs.now ≡ length columns.old.items }
+    requires columns { All (λ agg. IfSome agg.column
+        (λ at. at.column < length table.now.names)) aggs.now }
+    requires rows { All (λ row. row < length table.now.rows) rows.now }
+    requires same { length rows.now ≡ length numbers.now }
+    requires known { All (λ c. All (λ n. n < length (values_of c)) numbers.now) columns.old.items }
+    ensures count { length columns.new.items ≡ length columns.old.items }
+    ensures each { (place : ℕ) (d : Column) → place < length columns.old.items
+        → FoldsValues numbers.now (λ k. folded_value table.now (slice_index rows.now k)
+        (column_in aggs.now place)) (slice_index_or columns.old.items place d)
+        (slice_index_or columns.new.items place d) }
+    ensures fits { (place k : ℕ) → k < length rows.now → FitsSigned w64
+        (folded_value table.now (slice_index rows.now k) (column_in aggs.now place)) }
+{
+    for place in 0..columns.len() {
+        fold_column(
+            &mut columns[place],
+            table,
+            aggs[place].column,
+            rows,
+            numbers,
+        );
+    }
+}
+
 /// The group side of a query: for each key, the totals of the rows with this key.
 ///
 /// A key belongs to one of 16 parts: the Euclidean remainder of its first value by 16. Contracts
@@ -178,6 +281,41 @@ impl GroupSide {
         let number = number_with_room(&mut self.keys, &mut self.parts, &mut self.columns, key)?;
         fold_values(&mut self.columns, number, values);
         Ok(())
+    }
+
+    /// Folds the first of at most 256 rows of a table, column by column: those before the first row
+    /// whose key the side doesn't have. It answers how many these are, and takes no memory.
+    ///
+    /// `by` are the one or two columns of the key, and `aggs` those of the side's aggregates. A
+    /// column's side is not read.
+    pub fn fold_known(
+        &mut self,
+        table: &Table,
+        by: &[ColumnAt],
+        aggs: &[AggAt],
+        rows: &[u32],
+    ) -> usize
+        requires width { IsWithin 1 2 (length by.now) }
+        requires by { All (λ at. at.column < length table.now.names) by.now }
+        requires aggs { length aggs.now ≡ length self.old.columns }
+        requires columns { All (λ agg. IfSome agg.column
+            (λ at. at.column < length table.now.names)) aggs.now }
+        requires few { length rows.now ≤ 256 }
+        requires rows { All (λ row. row < length table.now.rows) rows.now }
+        ensures few { result ≤ length rows.now }
+        ensures funcs { funcs_of self.new ≡ funcs_of self.old }
+        ensures keys { self.new.keys ≡ self.old.keys }
+        ensures stops { result < length rows.now → IsAbsent self.old.keys
+            (key_by table.now by.now (slice_index rows.now result)) }
+        ensures folds { (done : List FoldedRow) → length done + result ≤ 2 ^ 62
+            → Folds done self.old → Folds (done ++ map (folded_at table.now by.now aggs.now)
+            (take result rows.now)) self.new }
+    {
+        let mut buffer = [0u32; 256];
+        let known = known_numbers(&self.keys, table, by, rows, &mut buffer);
+        let rows = &rows[..known];
+        fold_columns(&mut self.columns, table, aggs, rows, &buffer[..known]);
+        known
     }
 
     // Adds the totals of another side's group to those of the same key.

@@ -1,0 +1,10 @@
+use Rattle.std.proofs.Common.{◌≡◌, length}
+use Rattle.std.specs.Int.{int_min}
+use Rattle.build_sides.specs.Columns.{puts, value_by}
+use Rattle.build_sides.proofs.columns.least_each.Given as goal
+
+abbrev pub invariant-loop-place : goal.invariant-loop-place
+invariant-loop-place l = record {
+  same : length l.values ≡ length l.initial.values;
+  is : l.values ≡ puts int_min l.initial.values l.numbers (value_by l.column l.rows) l.place;
+}

@@ -1,0 +1,53 @@
+use Rattle.std.proofs.Common.{◌≡◌, ◌<◌, length, slice_index, slice_index_or, take, ◌∙◌, arith}
+use Rattle.std.proofs.lemmas.List.{get_or_default, get_or-take, length-take}
+use Rattle.build_sides.proofs.Known.{folds_after, funcs_after, groups_after, known_first}
+use Rattle.build_sides.proofs.Places.{all_same}
+use Rattle.build_sides.proofs.group_side.GroupSide.fold_known.Goals as goal
+
+pub fold_columns-requires-clause-known : goal.fold_columns-requires-clause-known
+fold_columns-requires-clause-known c = λ a d lt k e short.
+    let m = c.known_numbers-known.result in
+    let numbers = c.known_numbers-known.new.numbers in
+    let before : k < m = omega (arith, length-take m numbers) in
+    let within : k < length numbers = omega (arith, length-take m numbers) in
+    let number : slice_index_or (take m numbers) k e ≡ slice_index numbers k = get_or-take m numbers k e before ∙ get_or_default numbers k e 0 within in
+    let same = all_same c.self.inside.columns.items (length c.self.inside.keys) c.self.invariant.groups.same a d lt in
+    rw (number, same) (c.known_numbers-known.ensures.known k before).0
+
+pub invariant_of-self : goal.invariant_of-self
+invariant_of-self c =
+    let m = c.known_numbers-known.result in
+    let rows = c.args.rows.now in
+    let numbers = c.known_numbers-known.new.numbers in
+    let same : length (take m rows) ≡ length (take m numbers) = omega (arith, length-take m rows, length-take m numbers) in
+    record {
+      groups = groups_after c.args.table.now c.args.by.now c.args.aggs.now c.self.inside.keys c.self.inside.columns.items c.fold_columns.new.columns.items
+          (take m rows) (take m numbers) c.self.invariant.groups same
+          (known_first c.args.table.now c.args.by.now c.self.inside.keys rows numbers m c.known_numbers-known.ensures.known)
+          c.fold_columns.ensures.count c.fold_columns.ensures.each c.fold_columns.ensures.fits;
+      parts = c.self.invariant.parts;
+    }
+
+pub returns-clause-funcs : goal.returns-clause-funcs
+returns-clause-funcs c =
+    let m = c.known_numbers-known.result in
+    let rows = c.args.rows.now in
+    let numbers = c.known_numbers-known.new.numbers in
+    let same : length (take m rows) ≡ length (take m numbers) = omega (arith, length-take m rows, length-take m numbers) in
+    rw (← c.self.view_is)
+    (funcs_after c.args.table.now c.args.by.now c.args.aggs.now c.self.inside.keys c.self.inside.columns.items c.fold_columns.new.columns.items
+    (take m rows) (take m numbers) c.self.invariant.groups same
+    (known_first c.args.table.now c.args.by.now c.self.inside.keys rows numbers m c.known_numbers-known.ensures.known)
+    c.fold_columns.ensures.count c.fold_columns.ensures.each c.fold_columns.ensures.fits)
+
+pub returns-clause-folds : goal.returns-clause-folds
+returns-clause-folds c =
+    let m = c.known_numbers-known.result in
+    let rows = c.args.rows.now in
+    let numbers = c.known_numbers-known.new.numbers in
+    let same : length (take m rows) ≡ length (take m numbers) = omega (arith, length-take m rows, length-take m numbers) in
+    rw (← c.self.view_is) (λ done few folds.
+    folds_after c.args.table.now c.args.by.now c.args.aggs.now c.self.inside.keys c.self.inside.columns.items c.fold_columns.new.columns.items
+    (take m rows) (take m numbers) c.self.invariant.groups same
+    (known_first c.args.table.now c.args.by.now c.self.inside.keys rows numbers m c.known_numbers-known.ensures.known)
+    c.fold_columns.ensures.count c.fold_columns.ensures.each c.fold_columns.ensures.fits done (omega (arith, length-take m rows)) folds)

@@ -1,5 +1,5 @@
 -- A group side that folds rows of groups that it has, column by column.
-use Rattle.std.proofs.Common.{◌≡◌, ◌≢◌, ℕ, zero, suc, ℤ, pos, ◌+◌, ◌^◌, ◌<◌, ◌≤◌, false, List, [], ◌∷◌, ◌++◌, Some, None, All, length, map, take, slice_index}
+use Rattle.std.proofs.Common.{◌≡◌, ◌≢◌, ℕ, zero, suc, ℤ, ◌+◌, ◌^◌, ◌<◌, ◌≤◌, false, List, [], ◌∷◌, ◌++◌, Some, All, length, map, take, slice_index}
 use Rattle.std.proofs.Common.{slice_index_or, refl, sym, ap, ◌∙◌, subst, inl, inr, append_assoc, arith, length-append, w64, FitsSigned}
 use Rattle.std.proofs.Math.Seq.{take-suc}
 use Rattle.std.proofs.lemmas.List.{append-nil, get_or_default, get_or-map, get_or-take, length-map, length-take, take_all}
@@ -8,7 +8,7 @@ use Rattle.col_table.specs.NamedRows.{NamedRows}
 use Rattle.plan_ast.specs.Answer.{aggregate}
 use Rattle.plan_ast.specs.declared.places.AggAt.{AggAt}
 use Rattle.plan_ast.specs.declared.places.ColumnAt.{ColumnAt}
-use Rattle.build_sides.specs.Chains.{key_at, no_key}
+use Rattle.build_sides.specs.Chains.{no_key}
 use Rattle.build_sides.specs.Columns.{FoldsValues, totals_of, with_values, wrapped_agg_sum}
 use Rattle.build_sides.specs.FoldedRows.{FoldedRow, column_in, folded_at, folded_value, key_by, rows_with, total_of, value_in}
 use Rattle.build_sides.specs.GroupSides.{AreGroups, FitsRow, Folds, column_of, funcs_of}
@@ -33,8 +33,14 @@ rows_with-none key (row ∷ rows) none =
     ] in
     rw here (rows_with-none key rows (All-tail (λ r. r.key ≢ key) row rows none))
 
-abbrev pub row_in : List FoldedRow → ℕ → FoldedRow
+abbrev row_in : List FoldedRow → ℕ → FoldedRow
 row_in rows k = slice_index_or rows k (record { key = no_key; values = [] })
+
+-- a side folds some rows more
+pub record IsFolded (old new : GroupTotals) (more : List FoldedRow) : Type 0 where
+  pub groups : AreGroups new
+  pub funcs : funcs_of new ≡ funcs_of old
+  pub folds : (done : List FoldedRow) → length done + length more ≤ 2 ^ 62 → Folds done old → Folds (done ++ more) new
 
 module _ (old new : GroupTotals) (numbers : List ℕ) (more : List FoldedRow) (value : ℕ → ℕ → ℤ) (groups : AreGroups old) (keys : new.keys ≡ old.keys)
     (count : length new.columns ≡ length old.columns)
@@ -49,7 +55,7 @@ module _ (old new : GroupTotals) (numbers : List ℕ) (more : List FoldedRow) (v
       length-puts wrapped_agg_sum (column_of old a).values numbers (λ j. aggregate (column_of old a).func (value a j ∷ [])) k
       (λ j lt. rw same (known j (omega arith)).0) ∙ same
 
-  pub groups_known : AreGroups new
+  groups_known : AreGroups new
   groups_known = record {
     distinct = rw keys groups.distinct;
     same = λ a lt.
@@ -57,7 +63,7 @@ module _ (old new : GroupTotals) (numbers : List ℕ) (more : List FoldedRow) (v
         ap (λ (c : Totals). length c.values) (each a within) ∙ same_after a (length more) within (omega arith) ∙ ap length (sym keys);
   }
 
-  pub funcs_known : funcs_of new ≡ funcs_of old
+  funcs_known : funcs_of new ≡ funcs_of old
   funcs_known = same_funcs new.columns old.columns count (λ a lt. ap (λ (c : Totals). c.func) (each a lt))
 
   module _ (done : List FoldedRow) (few : length done + length more ≤ 2 ^ 62) (folds : Folds done old) where
@@ -83,7 +89,7 @@ module _ (old new : GroupTotals) (numbers : List ℕ) (more : List FoldedRow) (v
         (omega (arith, length-rows_with row.key rows, taken)) (known k lt).0 (known k lt).1 key
         ∙ ap (total_of func a key) (append_assoc done (take k more) (row ∷ []) ∙ ap (λ l. done ++ l) (sym (take-suc more k _ lt)))
 
-    pub folds_known : Folds (done ++ more) new
+    folds_known : Folds (done ++ more) new
     folds_known = record {
       totals = λ a lt key.
           let within : a < length old.columns = omega arith in
@@ -101,15 +107,10 @@ module _ (old new : GroupTotals) (numbers : List ℕ) (more : List FoldedRow) (v
       fit = All-append FitsRow done more folds.fit fit;
     }
 
--- the numbers of the first rows
-pub known_first : (table : NamedRows) (by : List ColumnAt) (keys : List Key) (rows numbers : List ℕ) (m : ℕ)
-    → ((k : ℕ) → k < m → NumberIs keys (key_by table by (slice_index rows k)) (Some (slice_index numbers k)))
-    → (k : ℕ) → k < length (take m rows) → NumberIs keys (key_by table by (slice_index (take m rows) k)) (Some (slice_index (take m numbers) k))
-known_first table by keys rows numbers m known k lt =
-    let before : k < m = omega (arith, length-take m rows) in
-    rw (get_or-take m rows k 0 before, get_or-take m numbers k 0 before) (known k before)
+  folded : IsFolded old new more
+  folded = record { groups = groups_known; funcs = funcs_known; folds = folds_known }
 
--- the rows of a table
+-- rows of a table
 module _ (table : NamedRows) (by : List ColumnAt) (aggs : List AggAt) (keys : List Key) (columns columns' : List Column) (rows numbers : List ℕ)
     (groups : AreGroups (record { keys = keys; columns = map totals_of columns })) (same : length rows ≡ length numbers)
     (known : (k : ℕ) → k < length rows → NumberIs keys (key_by table by (slice_index rows k)) (Some (slice_index numbers k)))
@@ -157,13 +158,21 @@ module _ (table : NamedRows) (by : List ColumnAt) (aggs : List AggAt) (keys : Li
   fit_is : All FitsRow more
   fit_is = λ k d lt a. subst (FitsSigned w64) (value_is a k d lt) (fits a k (omega (arith, length_more)))
 
-  pub groups_after : AreGroups new_side
-  groups_after = groups_known old_side new_side numbers more value groups refl count_is known_is each_is (λ a k lt. value_is a k _ lt) fit_is
+  folded_rows : IsFolded old_side new_side more
+  folded_rows = folded old_side new_side numbers more value groups refl count_is known_is each_is (λ a k lt. value_is a k _ lt) fit_is
 
-  pub funcs_after : funcs_of new_side ≡ funcs_of old_side
-  funcs_after = funcs_known old_side new_side numbers more value groups refl count_is known_is each_is (λ a k lt. value_is a k _ lt) fit_is
-
-  pub folds_after : (done : List FoldedRow) → length done + length rows ≤ 2 ^ 62 → Folds done old_side → Folds (done ++ more) new_side
-  folds_after done few folds =
-      folds_known old_side new_side numbers more value groups refl count_is known_is each_is (λ a k lt. value_is a k _ lt) fit_is done
-      (omega (arith, length_more)) folds
+-- the first rows of a table
+pub folded_first : (table : NamedRows) (by : List ColumnAt) (aggs : List AggAt) (keys : List Key) (columns columns' : List Column) (rows numbers : List ℕ) (m : ℕ)
+    → AreGroups (record { keys = keys; columns = map totals_of columns }) → m ≤ length rows → length rows ≤ length numbers
+    → ((k : ℕ) → k < m → NumberIs keys (key_by table by (slice_index rows k)) (Some (slice_index numbers k))) → length columns' ≡ length columns
+    → ((a : ℕ) (d : Column) → a < length columns → FoldsValues (take m numbers)
+    (λ k. folded_value table (slice_index (take m rows) k) (column_in aggs a)) (slice_index_or columns a d) (slice_index_or columns' a d))
+    → ((a k : ℕ) → k < length (take m rows) → FitsSigned w64 (folded_value table (slice_index (take m rows) k) (column_in aggs a)))
+    → IsFolded (record { keys = keys; columns = map totals_of columns }) (record { keys = keys; columns = map totals_of columns' })
+    (map (folded_at table by aggs) (take m rows))
+folded_first table by aggs keys columns columns' rows numbers m groups few room known count each fits =
+    folded_rows table by aggs keys columns columns' (take m rows) (take m numbers) groups (omega (arith, length-take m rows, length-take m numbers))
+    (λ k lt.
+    let before : k < m = omega (arith, length-take m rows) in
+    rw (get_or-take m rows k 0 before, get_or-take m numbers k 0 before) (known k before))
+    count each fits

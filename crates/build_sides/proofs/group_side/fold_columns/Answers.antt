@@ -1,4 +1,4 @@
-use Rattle.std.proofs.Common.{ℕ, ◌<◌, None, Option, length, slice_index, sym, ap, ◌∙◌, subst, below_more, arith, w64, FitsSigned}
+use Rattle.std.proofs.Common.{ℕ, ◌<◌, None, Option, length, slice_index, sym, ◌∙◌, subst, below_more, arith, w64, FitsSigned}
 use Rattle.std.proofs.lemmas.List.{get_or-map, length-set}
 use Rattle.plan_ast.specs.declared.places.AggAt.{AggAt}
 use Rattle.plan_ast.specs.declared.places.ColumnAt.{ColumnAt}

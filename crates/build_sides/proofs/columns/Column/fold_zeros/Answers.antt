@@ -1,4 +1,4 @@
-use Rattle.std.proofs.Common.{◌≡◌, ℕ, pos, ◌<◌, ◌≤◌, [], ◌∷◌, add-one, length, map, slice_index, ap, ◌∙◌, arith}
+use Rattle.std.proofs.Common.{◌≡◌, pos, ◌<◌, [], ◌∷◌, add-one, length, map, slice_index, ap, ◌∙◌, arith}
 use Rattle.std.proofs.lemmas.List.{with_items_is}
 use Rattle.plan_ast.specs.Answer.{aggregate}
 use Rattle.plan_ast.specs.declared.queries.Func.TheVariants as func

@@ -1,6 +1,7 @@
 use Rattle.std.proofs.Common.{◌≡◌, ◌<◌, length, slice_index, slice_index_or, take, ◌∙◌, arith}
-use Rattle.std.proofs.lemmas.List.{get_or_default, get_or-take, length-take}
-use Rattle.build_sides.proofs.Known.{folds_after, funcs_after, groups_after, known_first}
+use Rattle.std.proofs.lemmas.List.{get_or_default, get_or-take, length-map, length-take}
+use Rattle.build_sides.specs.FoldedRows.{folded_at}
+use Rattle.build_sides.proofs.Known.{folded_first}
 use Rattle.build_sides.proofs.Places.{all_same}
 use Rattle.build_sides.proofs.group_side.GroupSide.fold_known.Goals as goal
 
@@ -16,38 +17,26 @@ fold_columns-requires-clause-known c = λ a d lt k e short.
 
 pub invariant_of-self : goal.invariant_of-self
 invariant_of-self c =
-    let m = c.known_numbers-known.result in
-    let rows = c.args.rows.now in
-    let numbers = c.known_numbers-known.new.numbers in
-    let same : length (take m rows) ≡ length (take m numbers) = omega (arith, length-take m rows, length-take m numbers) in
-    record {
-      groups = groups_after c.args.table.now c.args.by.now c.args.aggs.now c.self.inside.keys c.self.inside.columns.items c.fold_columns.new.columns.items
-          (take m rows) (take m numbers) c.self.invariant.groups same
-          (known_first c.args.table.now c.args.by.now c.self.inside.keys rows numbers m c.known_numbers-known.ensures.known)
-          c.fold_columns.ensures.count c.fold_columns.ensures.each c.fold_columns.ensures.fits;
-      parts = c.self.invariant.parts;
-    }
+    let folded = folded_first c.args.table.now c.args.by.now c.args.aggs.now c.self.inside.keys c.self.inside.columns.items
+    c.fold_columns.new.columns.items c.args.rows.now c.known_numbers-known.new.numbers c.known_numbers-known.result c.self.invariant.groups
+    c.known_numbers-known.ensures.few (omega arith) c.known_numbers-known.ensures.known c.fold_columns.ensures.count c.fold_columns.ensures.each
+    c.fold_columns.ensures.fits in
+    record { groups = folded.groups; parts = c.self.invariant.parts }
 
 pub returns-clause-funcs : goal.returns-clause-funcs
 returns-clause-funcs c =
-    let m = c.known_numbers-known.result in
-    let rows = c.args.rows.now in
-    let numbers = c.known_numbers-known.new.numbers in
-    let same : length (take m rows) ≡ length (take m numbers) = omega (arith, length-take m rows, length-take m numbers) in
-    rw (← c.self.view_is)
-    (funcs_after c.args.table.now c.args.by.now c.args.aggs.now c.self.inside.keys c.self.inside.columns.items c.fold_columns.new.columns.items
-    (take m rows) (take m numbers) c.self.invariant.groups same
-    (known_first c.args.table.now c.args.by.now c.self.inside.keys rows numbers m c.known_numbers-known.ensures.known)
-    c.fold_columns.ensures.count c.fold_columns.ensures.each c.fold_columns.ensures.fits)
+    let folded = folded_first c.args.table.now c.args.by.now c.args.aggs.now c.self.inside.keys c.self.inside.columns.items
+    c.fold_columns.new.columns.items c.args.rows.now c.known_numbers-known.new.numbers c.known_numbers-known.result c.self.invariant.groups
+    c.known_numbers-known.ensures.few (omega arith) c.known_numbers-known.ensures.known c.fold_columns.ensures.count c.fold_columns.ensures.each
+    c.fold_columns.ensures.fits in
+    rw (← c.self.view_is) folded.funcs
 
 pub returns-clause-folds : goal.returns-clause-folds
 returns-clause-folds c =
-    let m = c.known_numbers-known.result in
-    let rows = c.args.rows.now in
-    let numbers = c.known_numbers-known.new.numbers in
-    let same : length (take m rows) ≡ length (take m numbers) = omega (arith, length-take m rows, length-take m numbers) in
-    rw (← c.self.view_is) (λ done few folds.
-    folds_after c.args.table.now c.args.by.now c.args.aggs.now c.self.inside.keys c.self.inside.columns.items c.fold_columns.new.columns.items
-    (take m rows) (take m numbers) c.self.invariant.groups same
-    (known_first c.args.table.now c.args.by.now c.self.inside.keys rows numbers m c.known_numbers-known.ensures.known)
-    c.fold_columns.ensures.count c.fold_columns.ensures.each c.fold_columns.ensures.fits done (omega (arith, length-take m rows)) folds)
+    let folded = folded_first c.args.table.now c.args.by.now c.args.aggs.now c.self.inside.keys c.self.inside.columns.items
+    c.fold_columns.new.columns.items c.args.rows.now c.known_numbers-known.new.numbers c.known_numbers-known.result c.self.invariant.groups
+    c.known_numbers-known.ensures.few (omega arith) c.known_numbers-known.ensures.known c.fold_columns.ensures.count c.fold_columns.ensures.each
+    c.fold_columns.ensures.fits in
+    let rows = take c.known_numbers-known.result c.args.rows.now in
+    let count = length-map rows (folded_at c.args.table.now c.args.by.now c.args.aggs.now) in
+    rw (← c.self.view_is) (λ done few folds. folded.folds done (omega (arith, count, length-take c.known_numbers-known.result c.args.rows.now)) folds)

@@ -1,13 +1,14 @@
-use Rattle.std.proofs.Common.{◌≡◌, ℕ, ◌+◌, ◌-◌, ◌^◌, ◌<◌, ◌≤◌, Bool, true, false, List, length, get_or, set, length-set, min, max, refl, replicate}
+use Rattle.std.proofs.Common.{◌≡◌, ℕ, ◌+◌, ◌-◌, ◌*◌, ◌/◌, ◌^◌, ◌<◌, ◌≤◌, Bool, true, false, List, length, get_or, set, length-set, min, max, refl, replicate}
 use Rattle.std.proofs.Common.{sym, ap, ◌∙◌, ⊎_elim, arith}
 use Rattle.std.proofs.Math.Path.{fun_ext}
 use Rattle.std.proofs.lemmas.List.{get_or-set_same, get_or-set_other, get_or_read, get_or-replicate, length-replicate, get_or_past}
 use Rattle.std.proofs.lemmas.Bool.{cases_eq, cases_lt, false≢true}
 use Rattle.std.proofs.lemmas.Bool.Decides.{nat_tests}
 use Rattle.stride_set.specs.declared.Slot.{Slot}
+use Rattle.stride_set.specs.declared.TheConstants.{STRIDE_UNIT}
 use Rattle.stride_set.specs.Slots.{idle, active_in, pass_in, spread_from, spread_among}
 use Rattle.stride_set.proofs.Spreads.{spread_from-bound, spread_from-least}
-use Rattle.stride_set.specs.Strides.{StrideState, JoinChange, JoinReturn, DropSlot, Choose, Advance, strides_of, stride_after, advance_of}
+use Rattle.stride_set.specs.Strides.{StrideState, Strides, IsBounded, MayAdvance, moved_by, spread_of, JoinChange, JoinReturn, DropSlot, Choose, Advance, strides_of, stride_after, advance_of}
 use Rattle.stride_set.specs.Strides.{new_strides, with_one}
 
 -- the changed function at its place, and elsewhere
@@ -150,21 +151,72 @@ strides_of-drop_slot v s p below e counted =
     h : Becomes v.slots s slot active (pass_in v.slots)
     h = record { within = below; states = refl; passes = with_one-kept (pass_in v.slots) s p e }
 
--- what `advance` writes
-pub strides_of-advance : (v : StrideState) (s ns priority : ℕ) (slot : Slot) (largest widest : ℕ) → s < length v.slots
-    → slot.active ≡ active_in v.slots s → slot.pass ≡ min (pass_in v.slots s + advance_of ns priority) (2 ^ 128 - 1)
-    → largest ≡ max v.largest (advance_of ns priority) → widest ≡ max v.widest (spread_among (set v.slots s slot))
-    → strides_of (record { slots = set v.slots s slot; floor = v.floor; largest = largest; widest = widest }) ≡ stride_after (strides_of v)
-    (Advance s ns priority)
-strides_of-advance v s ns priority slot largest widest below state moved l w =
-    strides_of-set v s slot (active_in v.slots) pass largest (max v.largest (advance_of ns priority)) widest h l
-    (w ∙ ap (max v.widest) (spread_among-set v.slots s slot (active_in v.slots) pass h))
+-- a slot that may advance was behind all others, so it leads none of them by more than the advance
+advanced-spread : (st : Strides) (s ns priority : ℕ) → IsBounded st → MayAdvance st s
+    → spread_of (moved_by st (Advance s ns priority)) ≤ max st.widest (advance_of ns priority)
+advanced-spread st s ns priority h may = spread_from-least st.slots st.active pass (max st.widest (advance_of ns priority)) gap
   where
-    pass : ℕ → ℕ
-    pass = with_one (pass_in v.slots) s (min (pass_in v.slots s + advance_of ns priority) (2 ^ 128 - 1))
+    to : ℕ
+    to = min (st.pass s + advance_of ns priority) (2 ^ 128 - 1)
 
-    h : Becomes v.slots s slot (active_in v.slots) pass
-    h = record { within = below; states = with_one-kept (active_in v.slots) s slot.active state; passes = ap (with_one (pass_in v.slots) s) moved }
+    pass : ℕ → ℕ
+    pass = with_one st.pass s to
+
+    before : (t u : ℕ) → t < st.slots → u < st.slots → st.active t ≡ true → st.active u ≡ true → st.pass t - st.pass u ≤ st.widest
+    before t u ht hu on_t on_u = omega (arith, spread_from-bound st.slots st.active st.pass t u ht hu on_t on_u, h.counted)
+
+    gap : (t u : ℕ) → t < st.slots → u < st.slots → st.active t ≡ true → st.active u ≡ true → pass t - pass u ≤ max st.widest (advance_of ns priority)
+    gap t u ht hu on_t on_u =
+        ⊎_elim
+        (λ e. ⊎_elim
+        (λ f. omega (arith, with_one-same st.pass s t to e, with_one-same st.pass s u to f))
+        (λ other. omega (arith, with_one-same st.pass s t to e, with_one-other st.pass s u to other, may.at_floor, h.active u hu on_u))
+        (cases_eq u s))
+        (λ one. ⊎_elim
+        (λ f. omega (arith, with_one-other st.pass s t to one, with_one-same st.pass s u to f, before t s ht may.in_range on_t may.active, h.fits t ht))
+        (λ other. omega (arith, with_one-other st.pass s t to one, with_one-other st.pass s u to other, before t u ht hu on_t on_u))
+        (cases_eq u s))
+        (cases_eq t s)
+
+-- slot s of the set v becomes this slot by an advance
+pub record IsAdvanced (v : StrideState) (s ns priority : ℕ) (slot : Slot) : Type 0 where
+  within : s < length v.slots
+  state : slot.active ≡ active_in v.slots s
+  moved : slot.pass ≡ min (pass_in v.slots s + advance_of ns priority) (2 ^ 128 - 1)
+
+-- as the slot that is read there does when its pass grows by the advance
+pub advanced-is : (v : StrideState) (s ns priority : ℕ) (old : Slot) (divisor stride to : ℕ) → s < length v.slots → old ≡ get_or v.slots s old
+    → divisor ≡ priority → stride ≡ ns * STRIDE_UNIT / divisor → to ≡ min (old.pass + stride) (2 ^ 128 - 1)
+    → IsAdvanced v s ns priority (record { active = old.active; pass = to })
+advanced-is v s ns priority old divisor stride to below read d t e = record {
+  within = below;
+  state = active_in-read v.slots s old below read;
+  moved = e ∙ rw (pass_in-read v.slots s old below read, t, d) refl;
+}
+
+module _ (v : StrideState) (s ns priority : ℕ) (slot : Slot) (is : IsAdvanced v s ns priority slot) where
+  abbrev pass_then : ℕ → ℕ
+  pass_then = with_one (pass_in v.slots) s (min (pass_in v.slots s + advance_of ns priority) (2 ^ 128 - 1))
+
+  becomes : Becomes v.slots s slot (active_in v.slots) pass_then
+  becomes = record {
+    within = is.within;
+    states = with_one-kept (active_in v.slots) s slot.active is.state;
+    passes = ap (with_one (pass_in v.slots) s) is.moved;
+  }
+
+  -- what `advance` writes
+  pub strides_of-advance : (largest widest : ℕ) → largest ≡ max v.largest (advance_of ns priority) → widest ≡ max v.widest (spread_among (set v.slots s slot))
+      → strides_of (record { slots = set v.slots s slot; floor = v.floor; largest = largest; widest = widest }) ≡ stride_after (strides_of v)
+      (Advance s ns priority)
+  strides_of-advance largest widest l w =
+      strides_of-set v s slot (active_in v.slots) pass_then largest (max v.largest (advance_of ns priority)) widest becomes l
+      (w ∙ ap (max v.widest) (spread_among-set v.slots s slot (active_in v.slots) pass_then becomes))
+
+  -- and how far the passes lie apart then
+  pub spread_among-advance : IsBounded (strides_of v) → MayAdvance (strides_of v) s → spread_among (set v.slots s slot) ≤ max v.widest (advance_of ns priority)
+  spread_among-advance bounded may =
+      rw (spread_among-set v.slots s slot (active_in v.slots) pass_then becomes) (advanced-spread (strides_of v) s ns priority bounded may)
 
 -- what `choose` writes
 pub strides_of-choose : (v : StrideState) (s p : ℕ) → p ≡ pass_in v.slots s → spread_among v.slots ≤ v.widest

@@ -28,7 +28,7 @@
 #![tactic(auto)]
 
 ghost use Rattle.std.specs.Prelude.{◌≡◌, ◌↔◌, ℕ, List, ◌+◌, ◌*◌, ◌^◌, ◌<◌, ◌≤◌, length, fold, true};
-ghost use Rattle.std.specs.Prelude.{false, IfOk, IfSome, IfNone, IsTrue};
+ghost use Rattle.std.specs.Prelude.{false, max, IfOk, IfSome, IfNone, IsTrue};
 ghost use Rattle.std.specs.Option.{ForSome};
 ghost use Rattle.stride_set.specs.Slots.{pass_in, spread_among, choice_among, comes_before};
 ghost use Rattle.stride_set.specs.Strides.{StrideState, Strides, Call, JoinChange, JoinReturn};
@@ -156,7 +156,7 @@ impl StrideSet {
     /// The pass of slot `s` grows by its stride for `ns` nanoseconds at this priority (100 to
     /// 10,000 in use), and stays at 2^128 - 1 where it would pass it. The slot is active and at the
     /// floor, as after the `choose` that answered it, with no advance since. Takes one pass over
-    /// the slots.
+    /// the slots if the advance is greater than the widest gap so far, else constant time.
     pub fn advance(&mut self, s: u32, ns: u64, priority: u32)
         requires chosen { MayAdvance (strides_of self.old) s }
         requires time { ns ≤ 2 ^ 36 }
@@ -167,7 +167,7 @@ impl StrideSet {
         let slot = &mut self.slots[s as usize];
         slot.pass = slot.pass.saturating_add(u128::from(advance));
         self.largest = self.largest.max(advance);
-        self.widest = self.widest.max(spread(&self.slots));
+        self.widest = widened(self.widest, advance, &self.slots);
     }
 
     /// Whether slot `s` may advance, for a caller who did not keep what `choose` answered. Takes
@@ -235,6 +235,19 @@ fn spread(slots: &[Slot]) -> u128
         }
     }
     greatest.saturating_sub(least)
+}
+
+// The widest gap after an advance of the slot that was behind all others: it leads none of them by
+// more than the advance, so that a small one needs no pass over the slots.
+fn widened(widest: u128, advance: u64, slots: &[Slot]) -> u128
+    requires { spread_among slots.now ≤ max widest advance }
+    ensures { result ≡ max widest (spread_among slots.now) }
+{
+    if u128::from(advance) <= widest {
+        widest
+    } else {
+        widest.max(spread(slots))
+    }
 }
 
 // The first active slot of least pass.

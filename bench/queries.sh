@@ -17,29 +17,8 @@ rounds=${1:-15}
 here=$(CDPATH='' cd -- "$(dirname -- "$0")" && pwd)
 . "$here/common.sh"
 
-# Our program is made in a copy of the crates below it, where it is proved and built as they are.
-# Its files are kept here with .txt behind their names, since each .rt file of the repository
-# belongs to a crate.
-crates='col_table plan_ast build_sides csv_tables script_json load_gen pipe_ops report_text'
-for name in $crates; do
-    mkdir -p "$work/crates/$name"
-    cp -R "$here/../crates/$name/src" "$here/../crates/$name/specs" \
-        "$here/../crates/$name/proofs" "$work/crates/$name"
-    grep "^$name:" "$here/../crates.txt" >>"$work/crates.txt"
-done
-echo 'query_times: build_sides load_gen pipe_ops plan_ast report_text' >>"$work/crates.txt"
-program=$work/crates/query_times
-cp -R "$here/query_times" "$program"
-find "$program" -name '*.txt' | while read -r file; do
-    mv "$file" "${file%.txt}"
-done
-
 compile queries
-echo 'bench: proving and building query_times, which can take minutes' >&2
-(cd "$program" && rt run) >"$work/build.log" 2>&1 </dev/null || {
-    tail -n 20 "$work/build.log" >&2
-    exit 1
-}
+program=$(stages_program)
 
 # NAME WORD..: runs a program, and keeps its times as one line and its answers.
 keep() {
@@ -52,7 +31,7 @@ keep() {
 
 round=0
 while [ "$round" -lt "$rounds" ]; do
-    keep ours "$program/out/query_times"
+    keep ours "$program"
     keep plain "$work/queries"
     cmp "$work/ours.answers" "$work/plain.answers"
     round=$((round + 1))

@@ -49,12 +49,7 @@ fifty='n=0; while [ "$n" -lt 50 ]; do "$@"; n=$((n + 1)); done'
 compile load
 compile make
 
-# The launcher proves and builds the program if that is not done yet. Without words the program
-# ends with 2.
-status=0
-"$here/../sched_tool" >/dev/null || status=$?
-[ "$status" -eq 2 ]
-program=$(ls -t "$here"/../out/sched_tool-* | head -n 1)
+program=$(built_program)
 
 inputs='1048576x3 1048576x8'
 made=make-7-t-x50

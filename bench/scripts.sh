@@ -7,12 +7,9 @@
 #
 #   bench/scripts.sh [ROUNDS]        5 rounds by default
 
-set -eu
-export LC_ALL=C
 rounds=${1:-5}
 here=$(CDPATH='' cd -- "$(dirname -- "$0")" && pwd)
-work=$(mktemp -d)
-trap 'rm -rf "$work"' EXIT
+. "$here/common.sh"
 most=67108864
 
 # BEGIN PIECE END: BEGIN, as many PIECEs as a script has room for, and END.
@@ -29,18 +26,7 @@ filled() {
     }'
 }
 
-# FILE COLUMN: the median of a column.
-median() {
-    sort -n -k "$2,$2" "$1" | awk -v column="$2" '{ all[NR] = $column }
-        END { print NR % 2 ? all[(NR + 1) / 2] : (all[NR / 2] + all[NR / 2 + 1]) / 2 }'
-}
-
-# The launcher proves and builds the program if that is not done yet. Without words the program
-# ends with 2.
-status=0
-"$here/../sched_tool" >/dev/null || status=$?
-[ "$status" -eq 2 ]
-program=$(ls -t "$here"/../out/sched_tool-* | head -n 1)
+program=$(built_program)
 
 cd "$work"
 none='"tables":[],"queries":[]'

@@ -8,12 +8,14 @@ use Rattle.slot_history.specs.declared.act.Act.TheVariants.{Announce, TakeReturn
 use Rattle.slot_history.specs.States.{next_id}
 use Rattle.slot_station.specs.Desks.{Desk}
 use Rattle.turn_model.specs.Workloads.{Workload}
-use Rattle.turn_model.specs.Moves.{Move, Made, Exchanged}
-use Rattle.turn_model.specs.Learned.{arrived_by}
+use Rattle.turn_model.specs.declared.turn.Turn.TheVariants.{Over}
+use Rattle.turn_model.specs.Moves.{Move, Made, Exchanged, times_of}
+use Rattle.turn_model.specs.Learned.{arrived_by, strides_by, priority_in}
 use Rattle.turn_model.specs.Points.{Point, Ready, Return, Change, Count, Arrive, Scan, Admit, Fill, Opens, Tells, FreeIt, Enters, Look, Early, Take, Claim}
 use Rattle.turn_model.specs.Points.{Shut, Back, Leave, Ask, Sweep, Pay, Fetch, rest_of, point_by}
 use Rattle.turn_model.specs.Driven.{size_by, held_by, GivesUp, MayCall, MayExchange, AreDriven}
 use Rattle.turn_model.specs.Keeping.{is_number}
+use Rattle.turn_model.specs.Examples.{Done, Plays}
 use Rattle.turn_model.proofs.Keeping.{is-number}
 
 both : (a b : Bool) → a && b ≡ true → (a ≡ true) × (b ≡ true)
@@ -135,3 +137,9 @@ are-driven D (Made a t ∷ ms) e =
     let two = both (may_call D ms (point_by D ms) a) (are_driven D ms) e in (call-is D ms (point_by D ms) a two.0, are-driven D ms two.1)
 are-driven D (Exchanged ∷ ms) e =
     let two = both (may_exchange D ms (point_by D ms)) (are_driven D ms) e in (exchange-is D ms (point_by D ms) two.0, are-driven D ms two.1)
+
+-- so worked examples compute
+pub plays : {done : Done} (D : Desk Workload) (ms : List Move) → are_driven D ms ≡ true → point_by D ms ≡ Ready Over → times_of ms ≡ done.times
+    → (strides_by D ms).largest ≡ done.largest → (strides_by D ms).widest ≡ done.widest → priority_in D 0 ms ≡ done.priority → Plays D ms done
+plays D ms driven over times largest widest priority =
+    record { driven = are-driven D ms driven; over = over; times = times; largest = largest; widest = widest; priority = priority }

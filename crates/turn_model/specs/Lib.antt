@@ -14,6 +14,6 @@ pub mod Activity
 pub mod Keeping
 pub mod Fitting
 pub mod Measure
+pub mod ExampleTurns
 pub mod Examples
-pub mod MoreExamples
-pub mod LongExample
+pub mod RareExamples

@@ -1,8 +1,9 @@
 //! Laws of a worker's moves. A function here does nothing; its contract is the law.
 ghost use Rattle.turn_model.specs.Laws.{MovesTell};
 ghost use Rattle.turn_model.specs.Examples.{OnePlays, Pair0Plays, Pair1Plays, NonePlays};
-ghost use Rattle.turn_model.specs.MoreExamples.{EmptyPlays, TwoPlays, ThreePlays};
-ghost use Rattle.turn_model.specs.LongExample.{LongPlays};
+ghost use Rattle.turn_model.specs.Examples.{EmptyPlays, TwoPlays, ThreePlays, LongPlays};
+ghost use Rattle.turn_model.specs.RareExamples.{MarksPlays, PaysPlays, PaysEarlyPlays};
+ghost use Rattle.turn_model.specs.RareExamples.{StrangerPlays, GivesUpPlays, GivesUpLatePlays};
 ghost use Rattle.turn_model.specs.Fitting.{StridesAreCalls, SizeFits, RangeFits};
 ghost use Rattle.turn_model.specs.Activity.{ActiveByRecords};
 ghost use Rattle.turn_model.specs.Keeping.{LooksKeep, RangesKeep};
@@ -61,4 +62,16 @@ pub fn examples()
     ensures none { NonePlays }
     ensures three { ThreePlays }
     ensures long { LongPlays }
+{}
+
+/// Worked examples of what is rare: workers that meet in a task set, mark, owe and pay; an idle
+/// turn; a query that another worker admits first; a query that is found before its notice; and
+/// queries that are given up.
+pub fn rare_examples()
+    ensures marks { MarksPlays }
+    ensures pays { PaysPlays }
+    ensures pays_early { PaysEarlyPlays }
+    ensures stranger { StrangerPlays }
+    ensures gives_up { GivesUpPlays }
+    ensures gives_up_late { GivesUpLatePlays }
 {}

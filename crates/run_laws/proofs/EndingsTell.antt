@@ -5,9 +5,9 @@ use Rattle.std.specs.Prelude.{IsSome, is_some}
 use Rattle.std.proofs.lemmas.Bool.{true≢false, cond_both, eqb-true, eqb-false}
 use Rattle.slot_history.specs.declared.shape.TheConstants.{STAGES, PARTS}
 use Rattle.slot_history.specs.declared.act.Act.{Act}
-use Rattle.slot_history.specs.declared.act.Act.TheVariants.{Enter, LookOpen, LookInvalid, LookVacant, ClaimRange, ClaimUsed, ShutWon, ShutLost, LeaveLeft}
-use Rattle.slot_history.specs.declared.act.Act.TheVariants.{LeaveOwe, PayLast, PayDone, MarkMarked, MarkMissed, SweepLast, SweepOthers, ReserveGot}
-use Rattle.slot_history.specs.declared.act.Act.TheVariants.{ReserveTaken, AdmitGot, AdmitLost, Arrivals, Finished, NoteDone, SetTotal, Install, Release}
+use Rattle.slot_history.specs.declared.act.Act.TheVariants.{LookOpen, LeaveLeft}
+use Rattle.slot_history.specs.declared.act.Act.TheVariants.{PayLast, MarkMarked, MarkMissed, SweepLast}
+use Rattle.slot_history.specs.declared.act.Act.TheVariants.{ReserveTaken, AdmitLost, Arrivals, NoteDone, Release}
 use Rattle.slot_history.specs.declared.act.Act.TheVariants.{Announce, TakeReturn, TakeChange}
 use Rattle.slot_history.specs.declared.place.Held.{Held}
 use Rattle.slot_history.specs.declared.place.Place.{Place}
@@ -22,8 +22,8 @@ use Rattle.turn_model.specs.declared.turn.Turn.TheVariants.{Acted}
 use Rattle.turn_model.specs.Workloads.{Workload, sets_of}
 use Rattle.turn_model.specs.Moves.{Move, Made, Exchanged}
 use Rattle.turn_model.specs.Learned.{place_by, lets_in, strides_by, finished_by}
-use Rattle.turn_model.specs.Points.{Point, Ready, Return, Change, Count, Arrive, Scan, Admit, Fill, Opens, Tells, FreeIt, Enters, Look, Early, Take, Claim}
-use Rattle.turn_model.specs.Points.{Shut, Back, Leave, Ask, Sweep, Pay, Fetch, ended_as, picked, pick, asked, told, is_due, goes_on, after, exchanged, point_by}
+use Rattle.turn_model.specs.Points.{Point, Ready, Return, Change, Count, Arrive, Scan, Admit, Fill, Tells, FreeIt, Look, Early, Take}
+use Rattle.turn_model.specs.Points.{Back, Leave, Ask, Sweep, Pay, Fetch, ended_as, picked, pick, asked, told, is_due, goes_on, after, exchanged, point_by}
 use Rattle.turn_model.specs.Driven.{MayCall, MayExchange, AreDriven}
 use Rattle.turn_model.specs.Measure.{is_query}
 use Rattle.run_laws.specs.Completes.{is_release}
@@ -69,32 +69,44 @@ still_spread n id (Fetch v) p = cond (ltb v n && eqb (finalised_id (held_at p)) 
 still_spread n id x p = 0
 
 -- points at which nothing is left to be released, or to be gathered
-record IsPlain (x : Point) : Type 0 where
-  held : (q : ℕ) (p : Place) → still_held q x p ≡ 0
-  spread : (n id : ℕ) (p : Place) → still_spread n id x p ≡ 0
+abbrev is_plain : Point → Bool
+is_plain FreeIt = false
+is_plain (Fetch v) = false
+is_plain x = true
 
-plain-cond : (b : Bool) (x y : Point) → IsPlain x → IsPlain y → IsPlain (cond b x y)
+none-held : (q : ℕ) (x : Point) (p : Place) → is_plain x ≡ true → still_held q x p ≡ 0
+none-held q FreeIt p plain = absurd (cc)
+none-held q x p plain = refl
+
+none-spread : (n id : ℕ) (x : Point) (p : Place) → is_plain x ≡ true → still_spread n id x p ≡ 0
+none-spread n id (Fetch v) p plain = absurd (cc)
+none-spread n id x p plain = refl
+
+plain-cond : (b : Bool) (x y : Point) → is_plain x ≡ true → is_plain y ≡ true → is_plain (cond b x y) ≡ true
 plain-cond true x y one other = one
 plain-cond false x y one other = other
 
-plain-picked : (o : Option ℕ) (turn : Turn) → IsPlain (picked o turn)
-plain-picked None turn = record { held = λ q p. refl; spread = λ n id p. refl }
-plain-picked (Some s) turn = record { held = λ q p. refl; spread = λ n id p. refl }
+plain-picked : (o : Option ℕ) (turn : Turn) → is_plain (picked o turn) ≡ true
+plain-picked None turn = refl
+plain-picked (Some s) turn = refl
 
-plain-asked : (n : ℕ) (p : Place) → IsPlain (asked n p)
-plain-asked n (Asking s id i k) = plain-cond (ltb (i + 1) n) Ask Sweep
-    (record { held = λ q p. refl; spread = λ n id p. refl }) (record { held = λ q p. refl; spread = λ n id p. refl })
-plain-asked n p = record { held = λ q p. refl; spread = λ n id p. refl }
+plain-asked : (n : ℕ) (p : Place) → is_plain (asked n p) ≡ true
+plain-asked n (Asking s id i k) = plain-cond (ltb (i + 1) n) Ask Sweep refl refl
+plain-asked n p = refl
 
-plain-told : (p : Place) → IsPlain (told p)
-plain-told (Announcing s again k) = record { held = λ q p. refl; spread = λ n id p. refl }
-plain-told p = record { held = λ q p. refl; spread = λ n id p. refl }
+plain-told : (p : Place) → is_plain (told p) ≡ true
+plain-told (Announcing s again k) = refl
+plain-told p = refl
 
--- a call that notes nothing, releases nothing and is not answered Last
 abbrev is_note : Act → Bool
 is_note (NoteDone n) = true
 is_note _ = false
 
+abbrev is_lost : Act → Bool
+is_lost (AdmitLost q late) = true
+is_lost _ = false
+
+-- a call that notes nothing, releases nothing and is not answered Last
 record IsStill (a : Act) : Type 0 where
   note : is_note a ≡ false
   release : is_release a ≡ false
@@ -116,18 +128,18 @@ record Leads (n : ℕ) (x : Point) (a : Act) (p : Place) (y : Point) (r : Place)
   ends : (q k : ℕ) (before : List Held) → EndsFor q before k x p → EndsFor q (ended_after a y (held_at p) before) (release_of q a p + k) y r
   gathers : (id k : ℕ) (before : List ℕ) → GathersOf n id before k x p → GathersOf n id before (last_of id a p + k) y r
 
-leads-plain : (n : ℕ) (x : Point) (a : Act) (p : Place) (y : Point) (r : Place) → IsStill a → IsPlain x → IsPlain y → Leads n x a p y r
+leads-plain : (n : ℕ) (x : Point) (a : Act) (p : Place) (y : Point) (r : Place) → IsStill a → is_plain x ≡ true → is_plain y ≡ true → Leads n x a p y r
 leads-plain n x a p y r still from to = record {
   ends = λ q k before h.
       let one : ended_for q (ended_after a y (held_at p) before) ≡ ended_for q before = ap (ended_for q) (unended a y (held_at p) before still.note) in
       let none : release_of q a p ≡ 0 = ap (λ b. cond (b && is_query (held_at p).query q) 1 0) still.release in
-      let z : still_held q x p ≡ 0 = from.held q p in
-      let o : still_held q y r ≡ 0 = to.held q r in
+      let z : still_held q x p ≡ 0 = none-held q x p from in
+      let o : still_held q y r ≡ 0 = none-held q y r to in
       omega (arith, one, none, z, o, h);
   gathers = λ id k before h.
       let none : last_of id a p ≡ 0 = ap (λ b. cond (b && eqb (id_at p) id) 1 0) still.last in
-      let z : still_spread n id x p ≡ 0 = from.spread n id p in
-      let o : still_spread n id y r ≡ 0 = to.spread n id r in
+      let z : still_spread n id x p ≡ 0 = none-spread n id x p from in
+      let o : still_spread n id y r ≡ 0 = none-spread n id y r to in
       omega (arith, none, z, o, h);
 }
 
@@ -135,35 +147,35 @@ finalised-same : (id : ℕ) → finalised_id (finalisation id) ≡ id
 finalised-same id = omega arith
 
 -- an answer Last
-leads-last : (n : ℕ) (x : Point) (a : Act) (p : Place) (s : ℕ) → 0 < n → IsPlain x → is_note a ≡ false → is_release a ≡ false → is_last a ≡ true
+leads-last : (n : ℕ) (x : Point) (a : Act) (p : Place) (s : ℕ) → 0 < n → is_plain x ≡ true → is_note a ≡ false → is_release a ≡ false → is_last a ≡ true
     → Leads n x a p (Fetch 0) (Holding s (finalisation (id_at p)))
 leads-last n x a p s some from note release last = record {
   ends = λ q k before h.
       let one : ended_for q (ended_after a (Fetch 0) (held_at p) before) ≡ ended_for q before =
       ap (ended_for q) (unended a (Fetch 0) (held_at p) before note) in
       let none : release_of q a p ≡ 0 = ap (λ b. cond (b && is_query (held_at p).query q) 1 0) release in
-      let z : still_held q x p ≡ 0 = from.held q p in
+      let z : still_held q x p ≡ 0 = none-held q x p from in
       let g : ended_for q (ended_after a (Fetch 0) (held_at p) before) ≡ release_of q a p + k + 0 = omega (arith, one, none, z, h) in g;
   gathers = λ id k before h.
       let one : last_of id a p ≡ cond (eqb (id_at p) id) 1 0 = ap (λ b. cond (b && eqb (id_at p) id) 1 0) last in
-      let z : still_spread n id x p ≡ 0 = from.spread n id p in
+      let z : still_spread n id x p ≡ 0 = none-spread n id x p from in
       let o : still_spread n id (Fetch 0) (Holding s (finalisation (id_at p))) ≡ cond (eqb (id_at p) id) 1 0 =
       ap₂ (λ b i. cond (b && eqb i id) 1 0) (lt-ltb 0 n some) (finalised-same (id_at p)) in
       omega (arith, one, z, o, h);
 }
 
 -- a note that ends the holding
-leads-ended : (n k : ℕ) (x : Point) (p : Place) → IsPlain x → ((s : ℕ) × (held : Held) × (p ≡ Holding s held))
+leads-ended : (n k : ℕ) (x : Point) (p : Place) → is_plain x ≡ true → ((s : ℕ) × (held : Held) × (p ≡ Holding s held))
     → Leads n x (NoteDone k) p FreeIt (holding_after (NoteDone k) p)
 leads-ended n k x p from (s, held, at) = record {
   ends = λ q r before h.
-      let z : still_held q x p ≡ 0 = from.held q p in
+      let z : still_held q x p ≡ 0 = none-held q x p from in
       let same : cond {A = ℕ} (is_query (held_at (holding_after (NoteDone k) p)).query q) 1 0 ≡ cond (is_query (held_at p).query q) 1 0 =
       ap (λ o. cond (is_query (held_at (holding_after (NoteDone k) o)).query q) 1 0) at ∙ sym (ap (λ o. cond (is_query (held_at o).query q) 1 0) at) in
       let g : cond {A = ℕ} (is_query (held_at p).query q) 1 0 + ended_for q before
       ≡ 0 + r + cond {A = ℕ} (is_query (held_at (holding_after (NoteDone k) p)).query q) 1 0 = omega (arith, z, same, h) in g;
   gathers = λ id r before h.
-      let z : still_spread n id x p ≡ 0 = from.spread n id p in
+      let z : still_spread n id x p ≡ 0 = none-spread n id x p from in
       let g : 0 + r ≡ times_in id before + 0 = omega (arith, z, h) in g;
 }
 
@@ -208,115 +220,46 @@ module _ (D : Desk Workload) (some : 0 < D.shape.workers) where
   abbrev LeadsOn : List Move → Point → Act → Type 0
   LeadsOn ms x a = Leads D.shape.workers x a (place_by D ms) (after D ms x a) (moved D.shape a (place_by D ms))
 
-  still : (ms : List Move) (x : Point) (a : Act) → IsStill a → IsPlain x → IsPlain (after D ms x a) → LeadsOn ms x a
-  still ms x a quiet from to = leads-plain D.shape.workers x a (place_by D ms) (after D ms x a) (moved D.shape a (place_by D ms)) quiet from to
+  -- most calls lead to a point at which nothing is left to be released or gathered
+  plain-after : (ms : List Move) (x : Point) (a : Act) → MayCall D ms x a → IsStill a → is_lost a ≡ false → is_plain (after D ms x a) ≡ true
+  plain-after ms (Return k) (TakeReturn part bits) m still kept = plain-cond (ltb (k + 1) PARTS) (Return (k + 1)) (Change 0) refl refl
+  plain-after ms (Change k) (TakeChange part bits) m still kept = plain-cond (ltb (k + 1) PARTS) (Change (k + 1)) Count refl refl
+  plain-after ms Arrive (Arrivals k) m still kept = plain-cond (is_due D k (finished_by D ms)) (Scan 0) (pick D ms) refl
+      (plain-picked (choice_of (strides_by D ms)) (ended_as (finished_by D ms) (sets_of D.shape D.subject)))
+  plain-after ms (Scan s) (ReserveTaken k word) m still kept = plain-cond (ltb (s + 1) D.shape.slots) (Scan (s + 1)) (pick D ms) refl
+      (plain-picked (choice_of (strides_by D ms)) (ended_as (finished_by D ms) (sets_of D.shape D.subject)))
+  plain-after ms Tells Announce m still kept = plain-told (moved D.shape Announce (place_by D ms))
+  plain-after ms Look (LookOpen id) m still kept = plain-cond (lets_in D ms (id / STAGES)) Take Early refl refl
+  plain-after ms Leave LeaveLeft m still kept = plain-asked D.shape.workers (moved D.shape LeaveLeft (place_by D ms))
+  plain-after ms Ask MarkMarked m still kept = plain-asked D.shape.workers (moved D.shape MarkMarked (place_by D ms))
+  plain-after ms Ask MarkMissed m still kept = plain-asked D.shape.workers (moved D.shape MarkMissed (place_by D ms))
+  plain-after ms x (NoteDone k) m still kept = absurd (true≢false still.note)
+  plain-after ms x Release m still kept = absurd (true≢false still.release)
+  plain-after ms x SweepLast m still kept = absurd (true≢false still.last)
+  plain-after ms x PayLast m still kept = absurd (true≢false still.last)
+  plain-after ms x (AdmitLost q late) m still kept = absurd (true≢false kept)
+  plain-after ms FreeIt a m still kept = absurd m
+  plain-after ms (Fetch v) a m still kept = absurd m
+  plain-after ms x a m still kept = refl
 
   call-leads : (ms : List Move) (x : Point) (a : Act) → MayCall D ms x a → Stands D.subject x (place_by D ms) → LeadsOn ms x a
-  call-leads ms (Ready e) (TakeReturn part bits) m p =
-      still ms (Ready e) (TakeReturn part bits) (record { note = refl; release = refl; last = refl }) (record { held = λ q p. refl; spread = λ n id p. refl })
-      (record { held = λ q p. refl; spread = λ n id p. refl })
-  call-leads ms (Return k) (TakeReturn part bits) m p =
-      still ms (Return k) (TakeReturn part bits) (record { note = refl; release = refl; last = refl }) (record { held = λ q p. refl; spread = λ n id p. refl })
-      (plain-cond (ltb (k + 1) PARTS) (Return (k + 1)) (Change 0)
-      (record { held = λ q p. refl; spread = λ n id p. refl })
-      (record { held = λ q p. refl; spread = λ n id p. refl }))
-  call-leads ms (Change k) (TakeChange part bits) m p =
-      still ms (Change k) (TakeChange part bits) (record { note = refl; release = refl; last = refl }) (record { held = λ q p. refl; spread = λ n id p. refl })
-      (plain-cond (ltb (k + 1) PARTS) (Change (k + 1)) Count
-      (record { held = λ q p. refl; spread = λ n id p. refl })
-      (record { held = λ q p. refl; spread = λ n id p. refl }))
-  call-leads ms Count (Finished k) m p =
-      still ms Count (Finished k) (record { note = refl; release = refl; last = refl }) (record { held = λ q p. refl; spread = λ n id p. refl })
-      (record { held = λ q p. refl; spread = λ n id p. refl })
-  call-leads ms Arrive (Arrivals k) m p =
-      still ms Arrive (Arrivals k) (record { note = refl; release = refl; last = refl }) (record { held = λ q p. refl; spread = λ n id p. refl })
-      (plain-cond (is_due D k (finished_by D ms)) (Scan 0) (pick D ms)
-      (record { held = λ q p. refl; spread = λ n id p. refl })
-      (plain-picked (choice_of (strides_by D ms)) (ended_as (finished_by D ms) (sets_of D.shape D.subject))))
-  call-leads ms (Scan s) (ReserveGot k) m p =
-      still ms (Scan s) (ReserveGot k) (record { note = refl; release = refl; last = refl }) (record { held = λ q p. refl; spread = λ n id p. refl })
-      (record { held = λ q p. refl; spread = λ n id p. refl })
-  call-leads ms (Scan s) (ReserveTaken k word) m p =
-      still ms (Scan s) (ReserveTaken k word) (record { note = refl; release = refl; last = refl }) (record { held = λ q p. refl; spread = λ n id p. refl })
-      (plain-cond (ltb (s + 1) D.shape.slots) (Scan (s + 1)) (pick D ms)
-      (record { held = λ q p. refl; spread = λ n id p. refl })
-      (plain-picked (choice_of (strides_by D ms)) (ended_as (finished_by D ms) (sets_of D.shape D.subject))))
-  call-leads ms Admit (AdmitGot q) m p =
-      still ms Admit (AdmitGot q) (record { note = refl; release = refl; last = refl }) (record { held = λ q p. refl; spread = λ n id p. refl })
-      (record { held = λ q p. refl; spread = λ n id p. refl })
-  call-leads ms (Fill v) (SetTotal k) m p =
-      still ms (Fill v) (SetTotal k) (record { note = refl; release = refl; last = refl }) (record { held = λ q p. refl; spread = λ n id p. refl })
-      (record { held = λ q p. refl; spread = λ n id p. refl })
-  call-leads ms Opens (Install id) m p =
-      still ms Opens (Install id) (record { note = refl; release = refl; last = refl }) (record { held = λ q p. refl; spread = λ n id p. refl })
-      (record { held = λ q p. refl; spread = λ n id p. refl })
-  call-leads ms Tells Announce m p =
-      still ms Tells Announce (record { note = refl; release = refl; last = refl }) (record { held = λ q p. refl; spread = λ n id p. refl })
-      (plain-told (moved D.shape Announce (place_by D ms)))
-  call-leads ms (Enters s) (Enter k) m p =
-      still ms (Enters s) (Enter k) (record { note = refl; release = refl; last = refl }) (record { held = λ q p. refl; spread = λ n id p. refl })
-      (record { held = λ q p. refl; spread = λ n id p. refl })
-  call-leads ms Look (LookOpen id) m p =
-      still ms Look (LookOpen id) (record { note = refl; release = refl; last = refl }) (record { held = λ q p. refl; spread = λ n id p. refl })
-      (plain-cond (lets_in D ms (id / STAGES)) Take Early
-      (record { held = λ q p. refl; spread = λ n id p. refl })
-      (record { held = λ q p. refl; spread = λ n id p. refl }))
-  call-leads ms Look LookInvalid m p =
-      still ms Look LookInvalid (record { note = refl; release = refl; last = refl }) (record { held = λ q p. refl; spread = λ n id p. refl })
-      (record { held = λ q p. refl; spread = λ n id p. refl })
-  call-leads ms Look LookVacant m p =
-      still ms Look LookVacant (record { note = refl; release = refl; last = refl }) (record { held = λ q p. refl; spread = λ n id p. refl })
-      (record { held = λ q p. refl; spread = λ n id p. refl })
-  call-leads ms Early LeaveLeft m p =
-      still ms Early LeaveLeft (record { note = refl; release = refl; last = refl }) (record { held = λ q p. refl; spread = λ n id p. refl })
-      (record { held = λ q p. refl; spread = λ n id p. refl })
-  call-leads ms Early (LeaveOwe id) m p =
-      still ms Early (LeaveOwe id) (record { note = refl; release = refl; last = refl }) (record { held = λ q p. refl; spread = λ n id p. refl })
-      (record { held = λ q p. refl; spread = λ n id p. refl })
-  call-leads ms Claim (ClaimRange k from to) m p =
-      still ms Claim (ClaimRange k from to) (record { note = refl; release = refl; last = refl }) (record { held = λ q p. refl; spread = λ n id p. refl })
-      (record { held = λ q p. refl; spread = λ n id p. refl })
-  call-leads ms Claim (ClaimUsed k) m p =
-      still ms Claim (ClaimUsed k) (record { note = refl; release = refl; last = refl }) (record { held = λ q p. refl; spread = λ n id p. refl })
-      (record { held = λ q p. refl; spread = λ n id p. refl })
-  call-leads ms Shut ShutWon m p =
-      still ms Shut ShutWon (record { note = refl; release = refl; last = refl }) (record { held = λ q p. refl; spread = λ n id p. refl })
-      (record { held = λ q p. refl; spread = λ n id p. refl })
-  call-leads ms Shut ShutLost m p =
-      still ms Shut ShutLost (record { note = refl; release = refl; last = refl }) (record { held = λ q p. refl; spread = λ n id p. refl })
-      (record { held = λ q p. refl; spread = λ n id p. refl })
-  call-leads ms Leave LeaveLeft m p =
-      still ms Leave LeaveLeft (record { note = refl; release = refl; last = refl }) (record { held = λ q p. refl; spread = λ n id p. refl })
-      (plain-asked D.shape.workers (moved D.shape LeaveLeft (place_by D ms)))
-  call-leads ms Leave (LeaveOwe id) m p =
-      still ms Leave (LeaveOwe id) (record { note = refl; release = refl; last = refl }) (record { held = λ q p. refl; spread = λ n id p. refl })
-      (record { held = λ q p. refl; spread = λ n id p. refl })
-  call-leads ms Ask MarkMarked m p =
-      still ms Ask MarkMarked (record { note = refl; release = refl; last = refl }) (record { held = λ q p. refl; spread = λ n id p. refl })
-      (plain-asked D.shape.workers (moved D.shape MarkMarked (place_by D ms)))
-  call-leads ms Ask MarkMissed m p =
-      still ms Ask MarkMissed (record { note = refl; release = refl; last = refl }) (record { held = λ q p. refl; spread = λ n id p. refl })
-      (plain-asked D.shape.workers (moved D.shape MarkMissed (place_by D ms)))
-  call-leads ms Sweep (SweepOthers k) m p =
-      still ms Sweep (SweepOthers k) (record { note = refl; release = refl; last = refl }) (record { held = λ q p. refl; spread = λ n id p. refl })
-      (record { held = λ q p. refl; spread = λ n id p. refl })
-  call-leads ms Pay PayDone m p =
-      still ms Pay PayDone (record { note = refl; release = refl; last = refl }) (record { held = λ q p. refl; spread = λ n id p. refl })
-      (record { held = λ q p. refl; spread = λ n id p. refl })
   call-leads ms Admit (AdmitLost q late) m p =
       leads-lost D.shape.workers q late (place_by D ms) (ap (λ o. (held_at o).query) p.at ∙ ap (λ (h : Held). h.query) p.has)
-  call-leads ms (Fill v) (NoteDone k) m p =
-      leads-ended D.shape.workers k (Fill v) (place_by D ms) (record { held = λ q p. refl; spread = λ n id p. refl }) (p.slot, p.held, p.at)
-  call-leads ms FreeIt Release m p = leads-released D.shape.workers (place_by D ms) Acted (moved D.shape Release (place_by D ms))
-  call-leads ms Sweep SweepLast m p =
-      leads-last D.shape.workers Sweep SweepLast (place_by D ms) (slot_of (place_by D ms)) some
-      (record { held = λ q p. refl; spread = λ n id p. refl }) refl refl refl
-  call-leads ms Pay PayLast m p =
-      leads-last D.shape.workers Pay PayLast (place_by D ms) (slot_of (place_by D ms)) some
-      (record { held = λ q p. refl; spread = λ n id p. refl }) refl refl refl
+  call-leads ms x (AdmitLost q late) m p = absurd m
+  call-leads ms (Fill v) (NoteDone k) m p = leads-ended D.shape.workers k (Fill v) (place_by D ms) refl (p.slot, p.held, p.at)
   call-leads ms (Fetch v) (NoteDone k) m p =
       leads-noted D.shape.workers k v (goes_on D.subject (held_at (place_by D ms)) k) (place_by D ms) m.0 (p.slot, p.held, p.at)
-  call-leads ms x a m p = absurd m
+  call-leads ms x (NoteDone k) m p = absurd m
+  call-leads ms FreeIt Release m p = leads-released D.shape.workers (place_by D ms) Acted (moved D.shape Release (place_by D ms))
+  call-leads ms x Release m p = absurd m
+  call-leads ms Sweep SweepLast m p = leads-last D.shape.workers Sweep SweepLast (place_by D ms) (slot_of (place_by D ms)) some refl refl refl refl
+  call-leads ms x SweepLast m p = absurd m
+  call-leads ms Pay PayLast m p = leads-last D.shape.workers Pay PayLast (place_by D ms) (slot_of (place_by D ms)) some refl refl refl refl
+  call-leads ms x PayLast m p = absurd m
+  call-leads ms FreeIt a m p = absurd m
+  call-leads ms (Fetch v) a m p = absurd m
+  call-leads ms x a m p = let still : IsStill a = record { note = refl; release = refl; last = refl } in
+      leads-plain D.shape.workers x a (place_by D ms) (after D ms x a) (moved D.shape a (place_by D ms)) still refl (plain-after ms x a m still refl)
 
   -- an exchange of a cell
   gather-step : (v id k : ℕ) (p : Place) (before : List ℕ) → v < D.shape.workers → GathersOf D.shape.workers id before k (Fetch v) p

@@ -22,6 +22,14 @@ pub record Done : Type 0 where
   pub widest : ℕ
   pub priority : ℕ
 
+abbrev pub gave : List ℕ → ℕ → ℕ → ℕ → Done
+gave times largest widest priority = record {
+  times = times;
+  largest = largest;
+  widest = widest;
+  priority = priority;
+}
+
 -- the moves, newest first, are whole turns, of which the last ended with Over
 pub record Plays (D : Desk Workload) (ms : List Move) (done : Done) : Type 0 where
   pub driven : AreDriven D ms
@@ -49,12 +57,7 @@ one_moves =
     opens 1 0 3 ++ admits 0 0 ++ begins 0 0 0 0
 
 abbrev pub OnePlays : Type 0
-OnePlays = Plays one_desk one_moves (record {
-  times = 300 ∷ 1600 ∷ [];
-  largest = 167772;
-  widest = 0;
-  priority = 10000;
-})
+OnePlays = Plays one_desk one_moves (gave (300 ∷ 1600 ∷ []) 167772 0 10000)
 
 -- the same query, two workers by the order 1, 0, 1
 abbrev pub pair_0_desk : Desk Workload
@@ -68,12 +71,7 @@ pair_0_moves =
     works 16 0 3 300 ++ enters 0 0 ++ begins 0 1 0 1
 
 abbrev pub Pair0Plays : Type 0
-Pair0Plays = Plays pair_0_desk pair_0_moves (record {
-  times = 300 ∷ 1600 ∷ [];
-  largest = 167772;
-  widest = 0;
-  priority = 10000;
-})
+Pair0Plays = Plays pair_0_desk pair_0_moves (gave (300 ∷ 1600 ∷ []) 167772 0 10000)
 
 abbrev pub pair_1_desk : Desk Workload
 pair_1_desk = desk_of 1 2 grouping
@@ -88,12 +86,7 @@ pair_1_moves =
     opens 2 0 3 ++ admits 0 0 ++ begins 0 0 0 0
 
 abbrev pub Pair1Plays : Type 0
-Pair1Plays = Plays pair_1_desk pair_1_moves (record {
-  times = [];
-  largest = 0;
-  widest = 0;
-  priority = 10000;
-})
+Pair1Plays = Plays pair_1_desk pair_1_moves (gave [] 0 0 10000)
 
 -- no query, one worker
 abbrev pub none_desk : Desk Workload
@@ -104,12 +97,7 @@ none_moves =
     begins 0 0 0 0
 
 abbrev pub NonePlays : Type 0
-NonePlays = Plays none_desk none_moves (record {
-  times = [];
-  largest = 0;
-  widest = 0;
-  priority = 10000;
-})
+NonePlays = Plays none_desk none_moves (gave [] 0 0 10000)
 
 -- a query that groups no rows, one worker
 abbrev pub empty_desk : Desk Workload
@@ -125,12 +113,7 @@ empty_moves =
     opens 1 0 0 ++ admits 0 0 ++ begins 0 0 0 0
 
 abbrev pub EmptyPlays : Type 0
-EmptyPlays = Plays empty_desk empty_moves (record {
-  times = 1600 ∷ [];
-  largest = 167772;
-  widest = 0;
-  priority = 10000;
-})
+EmptyPlays = Plays empty_desk empty_moves (gave (1600 ∷ []) 167772 0 10000)
 
 -- two queries of weights 10 and 5, one worker
 abbrev two_load : Workload
@@ -153,12 +136,7 @@ two_moves =
     admits 0 0 ++ begins 0 0 0 0
 
 abbrev pub TwoPlays : Type 0
-TwoPlays = Plays two_desk two_moves (record {
-  times = 300 ∷ 300 ∷ [];
-  largest = 62914;
-  widest = 31457;
-  priority = 10000;
-})
+TwoPlays = Plays two_desk two_moves (gave (300 ∷ 300 ∷ []) 62914 31457 10000)
 
 -- three queries and one slot, one worker
 abbrev pub three_desk : Desk Workload
@@ -179,12 +157,7 @@ three_moves =
     Made (ReserveTaken 0 6) 0 ∷ begins 0 1 0 1 ++ opens 1 0 3 ++ admits 0 0 ++ begins 0 0 0 0
 
 abbrev pub ThreePlays : Type 0
-ThreePlays = Plays three_desk three_moves (record {
-  times = 300 ∷ 300 ∷ 300 ∷ [];
-  largest = 31457;
-  widest = 0;
-  priority = 10000;
-})
+ThreePlays = Plays three_desk three_moves (gave (300 ∷ 300 ∷ 300 ∷ []) 31457 0 10000)
 
 -- one query over 200,000 rows, one worker: how sizes grow, settle and share the rest
 abbrev pub long_desk : Desk Workload
@@ -218,11 +191,7 @@ long_moves =
     opens 1 0 200000 ++ admits 0 0 ++ begins 0 0 0 0
 
 abbrev pub LongPlays : Type 0
-LongPlays = Plays long_desk long_moves (record {
-  times = 1600 ∷ 3200 ∷ 6400 ∷ 12800 ∷ 25600 ∷ 51200 ∷ 102400 ∷ 204800 ∷ 409600 ∷ 819200
-      ∷ 1638400 ∷ 2000000 ∷ 2000000 ∷ 2000000 ∷ 2000000 ∷ 2000000 ∷ 2000000 ∷ 2000000 ∷ 2000000
-      ∷ 724800 ∷ [];
-  largest = 233016888;
-  widest = 0;
-  priority = 7290;
-})
+LongPlays = Plays long_desk long_moves (gave
+    (1600 ∷ 3200 ∷ 6400 ∷ 12800 ∷ 25600 ∷ 51200 ∷ 102400 ∷ 204800 ∷ 409600 ∷ 819200 ∷ 1638400
+    ∷ 2000000 ∷ 2000000 ∷ 2000000 ∷ 2000000 ∷ 2000000 ∷ 2000000 ∷ 2000000 ∷ 2000000 ∷ 724800 ∷ [])
+    233016888 0 7290)

@@ -8,7 +8,7 @@ use Rattle.slot_history.specs.declared.act.Act.TheVariants.{NoteDone, Release}
 use Rattle.slot_station.specs.Desks.{Desk}
 use Rattle.turn_model.specs.Workloads.{Workload}
 use Rattle.turn_model.specs.Moves.{Move, Made, Exchanged}
-use Rattle.turn_model.specs.Examples.{Plays}
+use Rattle.turn_model.specs.Examples.{Plays, gave}
 use Rattle.turn_model.specs.ExampleTurns.{plain_load, desk_of, begins, admits, opens, enters}
 use Rattle.turn_model.specs.ExampleTurns.{works, shuts, notes}
 
@@ -30,12 +30,7 @@ marks_moves =
     opens 2 0 8 ++ admits 0 0 ++ begins 0 0 0 0
 
 abbrev pub MarksPlays : Type 0
-MarksPlays = Plays marks_desk marks_moves (record {
-  times = 800 ∷ [];
-  largest = 83886;
-  widest = 0;
-  priority = 10000;
-})
+MarksPlays = Plays marks_desk marks_moves (gave (800 ∷ []) 83886 0 10000)
 
 -- Worker 1 was marked: it owes when it leaves, pays last, and so finishes the task set.
 abbrev pub pays_desk : Desk Workload
@@ -48,12 +43,7 @@ pays_moves =
     Made ShutLost 0 ∷ Made (ClaimUsed 16) 0 ∷ Exchanged ∷ enters 0 0 ++ begins 0 1 0 1
 
 abbrev pub PaysPlays : Type 0
-PaysPlays = Plays pays_desk pays_moves (record {
-  times = [];
-  largest = 0;
-  widest = 0;
-  priority = 10000;
-})
+PaysPlays = Plays pays_desk pays_moves (gave [] 0 0 10000)
 
 -- Worker 2 of three pays before another does. It was first too late to admit the query.
 abbrev pub pays_early_desk : Desk Workload
@@ -67,12 +57,7 @@ pays_early_moves =
     Made Release 0 ∷ Made (AdmitLost 0 1) 0 ∷ Made (ReserveGot 0) 0 ∷ begins 0 0 0 0
 
 abbrev pub PaysEarlyPlays : Type 0
-PaysEarlyPlays = Plays pays_early_desk pays_early_moves (record {
-  times = [];
-  largest = 0;
-  widest = 0;
-  priority = 10000;
-})
+PaysEarlyPlays = Plays pays_early_desk pays_early_moves (gave [] 0 0 10000)
 
 -- Two queries, one slot. Worker 1 worked on query 0, finds query 1 in the slot before it knows of
 -- it, and leaves early.
@@ -90,12 +75,7 @@ stranger_moves =
     works 16 0 16 1600 ++ enters 0 0 ++ begins 0 1 0 1
 
 abbrev pub StrangerPlays : Type 0
-StrangerPlays = Plays stranger_desk stranger_moves (record {
-  times = 1600 ∷ [];
-  largest = 167772;
-  widest = 0;
-  priority = 10000;
-})
+StrangerPlays = Plays stranger_desk stranger_moves (gave (1600 ∷ []) 167772 0 10000)
 
 -- one query of two stages, which is given up when it was admitted
 abbrev staged : Workload
@@ -111,12 +91,7 @@ gives_up_moves =
     Made Release 0 ∷ Made (NoteDone 2) 0 ∷ admits 0 0 ++ begins 0 0 0 0
 
 abbrev pub GivesUpPlays : Type 0
-GivesUpPlays = Plays gives_up_desk gives_up_moves (record {
-  times = [];
-  largest = 0;
-  widest = 0;
-  priority = 10000;
-})
+GivesUpPlays = Plays gives_up_desk gives_up_moves (gave [] 0 0 10000)
 
 -- the same query, given up after its first stage by the one worker of two that finished it
 abbrev pub gives_up_late_desk : Desk Workload
@@ -131,9 +106,4 @@ gives_up_late_moves =
     opens 2 0 8 ++ admits 0 0 ++ begins 0 0 0 0
 
 abbrev pub GivesUpLatePlays : Type 0
-GivesUpLatePlays = Plays gives_up_late_desk gives_up_late_moves (record {
-  times = 800 ∷ [];
-  largest = 83886;
-  widest = 0;
-  priority = 10000;
-})
+GivesUpLatePlays = Plays gives_up_late_desk gives_up_late_moves (gave (800 ∷ []) 83886 0 10000)

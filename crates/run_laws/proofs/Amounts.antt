@@ -25,7 +25,7 @@ use Rattle.slot_history.proofs.Numbers.{named-low}
 use Rattle.slot_station.specs.Desks.{Desk}
 use Rattle.turn_model.specs.Workloads.{Workload}
 use Rattle.turn_model.specs.Moves.{Move, Made, Exchanged}
-use Rattle.turn_model.specs.Learned.{query_by, time_in}
+use Rattle.turn_model.specs.Learned.{place_by, query_by, time_in}
 use Rattle.turn_model.specs.Runs.{desk_at}
 use Rattle.turn_model.specs.Measure.{unclaimed}
 use Rattle.turn_model.specs.Reports.{tuples_by}
@@ -174,31 +174,27 @@ ranges-tuples d (e ∷ es) legal =
 
 -- ---- of one worker and one query
 
+-- a measure that each range adds to by what its call counts for
+module _ (m : List ℕ → ℕ) (c : Act → Place → ℕ) (none : m [] ≡ 0)
+    (one : (n from to : ℕ) (p : Place) (xs : List ℕ) → m (xs ++ (to - from) ∷ []) ≡ m xs + c (ClaimRange n from to) p) where
+  query-most : (D : Desk Workload) (q : ℕ) (ms : List Move) → m (tuples_by D q ms) ≤ by_moves c D ms
+  query-most D q [] = omega (arith, none)
+  query-most D q (Made (ClaimRange n from to) t ∷ ms) =
+      let before : m (tuples_by D q ms) ≤ by_moves c D ms = query-most D q ms in
+      cond_both (eqb (query_by D ms) q) (tuples_by D q ms ++ (to - from) ∷ []) (tuples_by D q ms)
+      (λ l. m l ≤ c (ClaimRange n from to) (place_by D ms) + by_moves c D ms)
+      (λ here. let more = one n from to (place_by D ms) (tuples_by D q ms) in omega (arith, more, before))
+      (λ other. omega (arith, before))
+  query-most D q (Made a t ∷ ms) =
+      let before : m (tuples_by D q ms) ≤ by_moves c D ms = query-most D q ms in
+      let r : m (tuples_by D q ms) ≤ c a (place_by D ms) + by_moves c D ms = omega (arith, before) in r
+  query-most D q (Exchanged ∷ ms) = query-most D q ms
+
 tuples-more : (D : Desk Workload) (q : ℕ) (ms : List Move) → sum (tuples_by D q ms) ≤ by_moves tuples_of D ms
-tuples-more D q [] = omega arith
-tuples-more D q (Made (ClaimRange n from to) t ∷ ms) =
-    let before : sum (tuples_by D q ms) ≤ by_moves tuples_of D ms = tuples-more D q ms in
-    cond_both (eqb (query_by D ms) q) (tuples_by D q ms ++ (to - from) ∷ []) (tuples_by D q ms) (λ l. sum l ≤ (to - from) + by_moves tuples_of D ms)
-    (λ here. let more : sum (tuples_by D q ms ++ (to - from) ∷ []) ≡ sum (tuples_by D q ms) + (to - from) = sum-push (tuples_by D q ms) (to - from) in
-    omega (arith, more, before))
-    (λ other. omega (arith, before))
-tuples-more D q (Made a t ∷ ms) =
-    let before : sum (tuples_by D q ms) ≤ by_moves tuples_of D ms = tuples-more D q ms in
-    let r : sum (tuples_by D q ms) ≤ 0 + by_moves tuples_of D ms = omega (arith, before) in r
-tuples-more D q (Exchanged ∷ ms) = tuples-more D q ms
+tuples-more = query-most sum tuples_of refl (λ n from to p xs. sum-push xs (to - from))
 
 ranges-more : (D : Desk Workload) (q : ℕ) (ms : List Move) → length (tuples_by D q ms) ≤ by_moves range_of D ms
-ranges-more D q [] = omega arith
-ranges-more D q (Made (ClaimRange n from to) t ∷ ms) =
-    let before : length (tuples_by D q ms) ≤ by_moves range_of D ms = ranges-more D q ms in
-    cond_both (eqb (query_by D ms) q) (tuples_by D q ms ++ (to - from) ∷ []) (tuples_by D q ms) (λ l. length l ≤ 1 + by_moves range_of D ms)
-    (λ here. let more : length (tuples_by D q ms ++ (to - from) ∷ []) ≡ length (tuples_by D q ms) + 1 = length-append (tuples_by D q ms) ((to - from) ∷ []) in
-    omega (arith, more, before))
-    (λ other. omega (arith, before))
-ranges-more D q (Made a t ∷ ms) =
-    let before : length (tuples_by D q ms) ≤ by_moves range_of D ms = ranges-more D q ms in
-    let r : length (tuples_by D q ms) ≤ 0 + by_moves range_of D ms = omega (arith, before) in r
-ranges-more D q (Exchanged ∷ ms) = ranges-more D q ms
+ranges-more = query-most length range_of refl (λ n from to p xs. length-append xs ((to - from) ∷ []))
 
 times-short : (D : Desk Workload) (q : ℕ) (ms : List Move) → AreShort ms → time_in D q ms ≤ length (tuples_by D q ms) * 2 ^ 36
 times-short D q [] short = omega arith

@@ -243,4 +243,5 @@ module _ (D : Desk Workload) where
       record { slots = before.slots; bounded = before.bounded; says = exchange-says ms (point_by D ms) driven.0 before.says }
 
 pub workers-are-fair : WorkersAreFair
-workers-are-fair d load run w played low = (fair-after (desk_at d load w) (run.team w) run.history played.legal (played.mine w low) (played.driven w low)).bounded.widest
+workers-are-fair d load run w played low =
+    (fair-after (desk_at d load w) (run.team w) run.history played.legal (played.mine w low) (played.driven w low)).bounded.widest

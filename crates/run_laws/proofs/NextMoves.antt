@@ -15,7 +15,8 @@ use Rattle.slot_history.specs.Steps.{state_after}
 use Rattle.slot_history.specs.Allowed.{IsAllowed}
 use Rattle.slot_history.specs.Histories.{IsLegal}
 use Rattle.slot_history.specs.Calls.{Call, Entering, Looking, Claiming, Shutting, Leaving, Paying, MarkingNext, Sweeping, Reserving, Admitting}
-use Rattle.slot_history.specs.Calls.{AskingArrivals, AskingFinished, NotingDone, SettingTotal, Installing, Releasing, AnnouncingNext, TakingReturn, TakingChange}
+use Rattle.slot_history.specs.Calls.{AskingArrivals, AskingFinished, NotingDone, SettingTotal, Installing, Releasing, AnnouncingNext}
+use Rattle.slot_history.specs.Calls.{TakingReturn, TakingChange}
 use Rattle.slot_history.specs.Calls.{call_of, reply_of}
 use Rattle.slot_history.proofs.OneAnswer.{only-answer}
 use Rattle.slot_station.specs.Desks.{Desk}
@@ -144,7 +145,8 @@ module _ (time : ℕ → ℕ → ℕ) (D : Desk Workload) where
       → IsAllowed D.shape (state_after D.shape h) D.worker a → IsTimedCall (takes time) D.subject (query_by D ms) a t → Made a t ≡ next_move h ms
   call-next h ms a t may one allowed timed =
       let only : a ≡ reply_of D.shape (state_after D.shape h) D.worker (next_call D ms (point_by D ms)) =
-      only-answer D.shape (state_after D.shape h) D.worker a allowed ∙ ap (reply_of D.shape (state_after D.shape h) D.worker) (call-is D ms (point_by D ms) a may one) in
+      only-answer D.shape (state_after D.shape h) D.worker a allowed
+      ∙ ap (reply_of D.shape (state_after D.shape h) D.worker) (call-is D ms (point_by D ms) a may one) in
       ap (Made a) (time-is (query_by D ms) a t timed) ∙ ap (made ms) only
       ∙ ap (λ b. cond b Exchanged (made ms (reply_of D.shape (state_after D.shape h) D.worker (next_call D ms (point_by D ms)))))
       (sym (no-exchange D ms (point_by D ms) a may one))
@@ -178,7 +180,8 @@ module _ (time : ℕ → ℕ → ℕ) (D : Desk Workload) where
   one-more h ms (Made a t) plain legal = call-next h ms a t plain.driven.0 plain.none.0 legal.1 plain.timed.0
   one-more h ms Exchanged plain legal = exchange-next h ms plain.driven.0
 
-  legal-rest : (m : Move) (more : List Move) (h : List Entry) → IsLegal D.shape (entries D.worker (m ∷ more) ++ h) → IsLegal D.shape (entries D.worker more ++ h)
+  legal-rest : (m : Move) (more : List Move) (h : List Entry) → IsLegal D.shape (entries D.worker (m ∷ more) ++ h)
+      → IsLegal D.shape (entries D.worker more ++ h)
   legal-rest (Made a t) more h legal = legal.2
   legal-rest Exchanged more h legal = legal
 
@@ -200,7 +203,8 @@ module _ (time : ℕ → ℕ → ℕ) (D : Desk Workload) where
   -- ---- the moves that end a turn
 
   -- while the turn goes on, it has not ended
-  not-ended : (h : List Entry) (ms : List Move) (n k : ℕ) → GoesOn D (next_moves h ms n) ms → k < n → has_ended (point_by D (next_moves h ms (suc k) ++ ms)) ≡ false
+  not-ended : (h : List Entry) (ms : List Move) (n k : ℕ) → GoesOn D (next_moves h ms n) ms → k < n
+      → has_ended (point_by D (next_moves h ms (suc k) ++ ms)) ≡ false
   not-ended h ms zero k goes less = absurd (omega (arith, less))
   not-ended h ms (suc n) k goes less = ⊎_elim
       (λ below. not-ended h ms n k goes.2 below)

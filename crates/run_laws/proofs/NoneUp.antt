@@ -164,7 +164,8 @@ module _ (D : Desk Workload) where
     call-counts ms (Fetch v) (NoteDone k) before m =
         cond_both (goes_on D.subject (held_at (place_by D ms)) k) (Fill 0) FreeIt
         (λ y. 0 + (whole_for D.subject q before + cond {A = ℕ} (ends_query D.subject q (held_at (place_by D ms))) 1 0)
-        ≤ whole_for D.subject q (ended_after (NoteDone k) y (held_at (place_by D ms)) before) + unnoted D.subject q y (moved D.shape (NoteDone k) (place_by D ms)))
+        ≤ whole_for D.subject q (ended_after (NoteDone k) y (held_at (place_by D ms)) before)
+        + unnoted D.subject q y (moved D.shape (NoteDone k) (place_by D ms)))
         (λ goes. goes-more (whole_for D.subject q before) (cond (ends_query D.subject q (held_at (place_by D ms))) 1 0)
         (goes-unended D.subject q (held_at (place_by D ms)) k goes))
         (λ stops. ended-more (whole_for D.subject q before) (cond (ends_query D.subject q (held_at (place_by D ms))) 1 0)

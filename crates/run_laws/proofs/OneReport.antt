@@ -87,7 +87,8 @@ module _ (d : Shape) (load : Workload) (run : Run) where
   same-reply q Memory s none also is has = absurd (none refl)
   same-reply q (Answer a) Memory also none is has = absurd (none refl)
 
-  same-replies : (one other : Report) → IsReportOf d load run one → IsReportOf d load run other → NoneRanOut one → NoneRanOut other → one.replies ≡ other.replies
+  same-replies : (one other : Report) → IsReportOf d load run one → IsReportOf d load run other → NoneRanOut one → NoneRanOut other
+      → one.replies ≡ other.replies
   same-replies one other is also none more = same-by-place one.replies other.replies (is.replies.count ∙ sym also.replies.count)
       (λ i x y gx gy.
       let this : x.query ≡ i = is.replies.in_order i x gx in
@@ -152,7 +153,8 @@ module _ (d : Shape) (load : Workload) (run : Run) where
       let D : ℕ → Desk Workload = desk_at d load in
       ap (λ k. record a { worker = k }) worker ∙ ap (λ k. record a { worker = b.worker; query = k }) query
       ∙ ap (λ k. record a { worker = b.worker; query = b.query; ranges = k }) (is.ranges
-      ∙ ap (λ w. length (tuples_by (D w) a.query (run.team w))) worker ∙ ap (λ q. length (tuples_by (D b.worker) q (run.team b.worker))) query ∙ sym also.ranges)
+      ∙ ap (λ w. length (tuples_by (D w) a.query (run.team w))) worker
+      ∙ ap (λ q. length (tuples_by (D b.worker) q (run.team b.worker))) query ∙ sym also.ranges)
       ∙ ap (λ k. record b { tuples = k; ns = a.ns; priority = a.priority }) (is.tuples
       ∙ ap (λ w. sum (tuples_by (D w) a.query (run.team w))) worker ∙ ap (λ q. sum (tuples_by (D b.worker) q (run.team b.worker))) query ∙ sym also.tuples)
       ∙ ap (λ k. record b { ns = k; priority = a.priority }) (is.ns
@@ -184,7 +186,8 @@ module _ (d : Shape) (load : Workload) (run : Run) where
 
   same-gap : (w : ℕ) (a b : Gap) → IsGapOf (desk_at d load w) (run.team w) a → IsGapOf (desk_at d load w) (run.team w) b → a ≡ b
   same-gap w a b is also = ap (λ k. record a { worker = k }) (is.worker ∙ sym also.worker)
-      ∙ ap (λ k. record b { widest = k; largest = a.largest }) (is.widest ∙ sym also.widest) ∙ ap (λ k. record b { largest = k }) (is.largest ∙ sym also.largest)
+      ∙ ap (λ k. record b { widest = k; largest = a.largest }) (is.widest ∙ sym also.widest)
+      ∙ ap (λ k. record b { largest = k }) (is.largest ∙ sym also.largest)
 
   same-gaps : (one other : Report) → IsReportOf d load run one → IsReportOf d load run other → one.gaps ≡ other.gaps
   same-gaps one other is also = same-by-place one.gaps other.gaps (is.gaps.count ∙ sym also.gaps.count)

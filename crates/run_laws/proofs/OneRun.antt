@@ -83,7 +83,8 @@ module _ (d : Shape) (load : Workload) (time : ℕ → ℕ → ℕ) where
       (one-end time (desk_at d load w) run.history (run.team w) more these turn last e f one.0 two.0 one.1 two.1)
 
   one-turn : OneNext (PlaysTurn d load)
-  one-turn run next other w low p q plain more = one-ending run next other w p.more q.more p.turn q.turn low p.turns.turns q.turns.turns p.next_is q.next_is plain more
+  one-turn run next other w low p q plain more =
+      one-ending run next other w p.more q.more p.turn q.turn low p.turns.turns q.turns.turns p.next_is q.next_is plain more
 
   one-rest : OneNext (PlaysOn d load)
   one-rest run next other w low p q plain more = one-ending run next other w p.more q.more p.turn q.turn low p.turns q.turns p.next_is q.next_is plain more

@@ -73,18 +73,18 @@ pub fn workers_are_fair()
     ensures { WorkersAreFair }
 {}
 
-/// The scheduling theorem. In a run that ended with all workers over, the calls of all workers stand
-/// in one legal history, each once, as each worker saw them. Every tuple of a finalised task set
-/// lies in exactly one claimed morsel. Finalisation ran once, after the last worker left the task
-/// set and before its slot held another. In the end all is done, each query that was answered has
-/// its one-thread answer, and a worker's active passes differ by at most its largest advance.
+/// The scheduling theorem. In a run that ended with all workers over, the calls of all workers
+/// stand in one legal history, each once, as each worker saw them. Every tuple of a finalised task
+/// set lies in exactly one claimed morsel. Finalisation ran once, after the last worker left the
+/// task set and before its slot held another. In the end all is done, each query that was answered
+/// has its one-thread answer, and a worker's active passes differ by at most its largest advance.
 pub fn runs_are_scheduled()
     ensures { RunsAreScheduled }
 {}
 
 /// Two complete runs of the same work by the same order, by whole turns or by single moves, are one
 /// run: the same history, moves and times. This holds if the meter takes one time for each range,
-/// and if no query is given up for want of memory in either run.
+/// and if neither run gives a query up because memory ran out.
 pub fn runs_agree()
     ensures turns { RunsByTurnsAgree }
     ensures moves { RunsByMovesAgree }

@@ -1,5 +1,5 @@
--- Parts of turns, and plain work, for worked examples. Lists of moves have the newest first, so each
--- part is followed by what came before it.
+-- Parts of turns, and plain work, for worked examples. Lists of moves have the newest first, so
+-- each part is followed by what came before it.
 use Rattle.std.specs.Prelude.{ℕ, List, [], ◌∷◌, ◌++◌, replicate, Option, None}
 use Rattle.slot_history.specs.declared.act.Act.TheVariants.{Enter, LookOpen, ClaimRange, ClaimUsed}
 use Rattle.slot_history.specs.declared.act.Act.TheVariants.{ShutWon, LeaveLeft, ReserveGot}

@@ -12,9 +12,9 @@ use Rattle.turn_model.specs.Examples.{Plays, gave}
 use Rattle.turn_model.specs.ExampleTurns.{plain_load, desk_of, begins, admits, opens, enters}
 use Rattle.turn_model.specs.ExampleTurns.{works, shuts, notes}
 
--- One query over 8 rows, two workers. Worker 0 shuts the task set while worker 1 is inside. It marks
--- worker 1, and its sweep finds a debt. Its next turn is idle: the task set is not done, and no slot
--- is active.
+-- One query over 8 rows, two workers. Worker 0 shuts the task set while worker 1 is inside. It
+-- marks worker 1, and its sweep finds a debt. Its next turn is idle: the task set is not done, and
+-- no slot is active.
 abbrev counting : Workload
 counting = plain_load (λ q. cond (ltb q 1) 1 0) (λ id. cond (eqb id 0) (Some 8) None)
 

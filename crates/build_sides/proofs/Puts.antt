@@ -4,7 +4,10 @@ use Rattle.std.proofs.Common.{add-one, arith}
 use Rattle.std.proofs.lemmas.Bool.{cases_lt, lt-ltb, le-ltb}
 use Rattle.std.proofs.lemmas.List.{get_or-map, map-set, map-append, length-map, length-set}
 use Rattle.std.specs.Int.{int_min, int_max}
+use Rattle.plan_ast.specs.declared.queries.Func.{Func}
+use Rattle.plan_ast.specs.declared.answers.AggValue.{AggValue}
 use Rattle.plan_ast.specs.declared.answers.AggValue.TheVariants as agg_value
+use Rattle.build_sides.specs.GroupTotals.{Totals}
 use Rattle.build_sides.specs.Columns.{count_sum, wrapped_agg_sum, put, puts, wrapped_sum}
 
 pub put_known : {A : Type 0} (both : A → A → A) (items : List A) (n : ℕ) (item : A) → n < length items
@@ -45,6 +48,9 @@ pub greatest_put : (items items' : List ℤ) (n : ℕ) (value : ℤ) → items' 
 greatest_put items items' n value is =
     ap (map (λ x. agg_value.Greatest (Some x))) is ∙ map-put (λ x. agg_value.Greatest (Some x)) int_max wrapped_agg_sum (λ a b. refl) items n value
 
+abbrev pub totals : Func → List AggValue → Totals
+totals kind values = record { func = kind; values = values }
+
 -- what is put for many numbers is put as what it stands for
 pub map-puts : {A B : Type 0} (f : A → B) (both : A → A → A) (together : B → B → B) → ((a b : A) → f (both a b) ≡ together (f a) (f b))
     → (items : List A) (numbers : List ℕ) (item : ℕ → A) (count : ℕ)
@@ -70,27 +76,9 @@ pub puts_more : {A : Type 0} (both : A → A → A) (items now : List A) (number
 puts_more both items now numbers item i is lt =
     rw add-one (sym (put_known both now (slice_index numbers i) (item i) lt) ∙ ap (λ l. put both l (slice_index numbers i) (item i)) is)
 
-module _ (numbers : List ℕ) (count : ℕ) where
-  pub count_puts : (items items' : List ℕ) → items' ≡ puts count_sum items numbers (λ _. 1) count
-      → map (λ x. agg_value.Count x) items' ≡ puts wrapped_agg_sum (map (λ x. agg_value.Count x) items) numbers (λ _. agg_value.Count 1) count
-  count_puts items items' is =
-      ap (map (λ x. agg_value.Count x)) is ∙ map-puts (λ x. agg_value.Count x) count_sum wrapped_agg_sum (λ a b. refl) items numbers (λ _. 1) count
-
-  pub sum_puts : (items items' : List ℤ) (value : ℕ → ℤ) → items' ≡ puts wrapped_sum items numbers value count
-      → map (λ x. agg_value.Sum x) items' ≡ puts wrapped_agg_sum (map (λ x. agg_value.Sum x) items) numbers (λ k. agg_value.Sum (value k)) count
-  sum_puts items items' value is =
-      ap (map (λ x. agg_value.Sum x)) is ∙ map-puts (λ x. agg_value.Sum x) wrapped_sum wrapped_agg_sum (λ a b. refl) items numbers value count
-
-  pub least_puts : (items items' : List ℤ) (value : ℕ → ℤ) → items' ≡ puts int_min items numbers value count
-      → map (λ x. agg_value.Least (Some x)) items'
-      ≡ puts wrapped_agg_sum (map (λ x. agg_value.Least (Some x)) items) numbers (λ k. agg_value.Least (Some (value k))) count
-  least_puts items items' value is =
-      ap (map (λ x. agg_value.Least (Some x))) is
-      ∙ map-puts (λ x. agg_value.Least (Some x)) int_min wrapped_agg_sum (λ a b. refl) items numbers value count
-
-  pub greatest_puts : (items items' : List ℤ) (value : ℕ → ℤ) → items' ≡ puts int_max items numbers value count
-      → map (λ x. agg_value.Greatest (Some x)) items'
-      ≡ puts wrapped_agg_sum (map (λ x. agg_value.Greatest (Some x)) items) numbers (λ k. agg_value.Greatest (Some (value k))) count
-  greatest_puts items items' value is =
-      ap (map (λ x. agg_value.Greatest (Some x))) is
-      ∙ map-puts (λ x. agg_value.Greatest (Some x)) int_max wrapped_agg_sum (λ a b. refl) items numbers value count
+-- a column's totals after items were put for many numbers, where the items stand for totals
+pub column_puts : {A : Type 0} (f : A → AggValue) (both : A → A → A) → ((a b : A) → f (both a b) ≡ wrapped_agg_sum (f a) (f b)) → (kind : Func)
+    (items new after : List A) (numbers : List ℕ) (value : ℕ → A) → after ≡ new → new ≡ puts both items numbers value (length numbers)
+    → totals kind (map f after) ≡ totals kind (puts wrapped_agg_sum (map f items) numbers (λ k. f (value k)) (length numbers))
+column_puts f both same kind items new after numbers value is are =
+    ap (totals kind) (ap (map f) (is ∙ are) ∙ map-puts f both wrapped_agg_sum same items numbers value (length numbers))

@@ -3,7 +3,8 @@ ghost use Rattle.std.specs.Prelude.{◌≡◌, ◌∷◌, [], IfOk};
 ghost use Rattle.build_sides.specs.GroupSides.{funcs_of};
 
 use super::*;
-use plan_ast::{AggValue, Func};
+use col_table::{ColumnName, Table};
+use plan_ast::{AggAt, AggValue, ColumnAt, Func};
 use std::process::Abort;
 use std::test::Fail;
 
@@ -28,8 +29,7 @@ fn rows_by_their_key(rt: HostRuntime) -> Result<(), Fail> {
     assert!(rt; side.matches(2) == [1].as_slice());
     assert!(rt; side.matches(-1) == [3].as_slice());
     assert!(rt; side.matches(0).is_empty());
-    assert!(rt; side.first_match(1) == Some(0) && side.first_match(-1) == Some(3));
-    assert!(rt; side.first_match(0).is_none() && !side.is_unique());
+    assert!(rt; !side.is_unique());
     Ok(())
 }
 
@@ -61,6 +61,23 @@ fn finds_the_rows_of_crowded_keys(rt: HostRuntime) -> Result<(), Fail> {
     }
     assert!(rt; side.matches(crowded(CROWD)).is_empty());
     assert!(rt; side.is_unique());
+    Ok(())
+}
+
+#[test]
+fn finds_the_one_row_of_many_keys(rt: HostRuntime) -> Result<(), Fail> {
+    let mut side = HashSide::new(rt.alloc());
+    for (row, key) in [5, -1, 7].into_iter().enumerate() {
+        side.add_row(key, row as u32)?;
+    }
+    assert!(rt; side.is_unique());
+    let column = [7, 4, -1, 7];
+    let mut lefts = [9u32; 4];
+    let mut rights = [9u32; 4];
+    let count = side.unique_matches(&column, &[3, 1, 2, 0], &mut lefts, &mut rights);
+    assert!(rt; count == 3);
+    assert!(rt; lefts[0] == 3 && lefts[1] == 2 && lefts[2] == 0);
+    assert!(rt; rights[0] == 2 && rights[1] == 1 && rights[2] == 2);
     Ok(())
 }
 
@@ -148,6 +165,56 @@ fn keys_of_two_values_differ_in_either(rt: HostRuntime) -> Result<(), Fail> {
     fold(&rt, &mut side, &[1, 2], 40)?;
     assert!(rt; side.len() == 3);
     assert!(rt; has(&rt, &side, 0, (2, 50, 10, 40)));
+    Ok(())
+}
+
+// A table of keys and values.
+fn keyed(rt: &(impl Abort + AllocGlobal), rows: &[[i64; 2]]) -> Result<Table, Fail> {
+    let mut names = Vec::new(rt.alloc());
+    for text in ["k", "v"] {
+        names.push(ColumnName::new(String::from_str(rt.alloc(), text)?).expect(rt, "a name"))?;
+    }
+    let mut table = Table::new(rt.alloc(), names).expect(rt, "a table");
+    for row in rows {
+        assert!(rt; table.cols() == 2);
+        table.push_row(row).expect(rt, "a row");
+    }
+    Ok(table)
+}
+
+#[test]
+fn folds_rows_of_known_groups(rt: HostRuntime) -> Result<(), Fail> {
+    let table = keyed(&rt, &[[1, 10], [-1, -5], [1, 20], [3, 0], [1, 40]])?;
+    let mut side = groups(&rt)?;
+    fold(&rt, &mut side, &[1], 15)?;
+    fold(&rt, &mut side, &[-1], 15)?;
+    let by = [ColumnAt { side: 0, column: 0 }];
+    let value = Some(ColumnAt { side: 0, column: 1 });
+    let aggs = [
+        AggAt {
+            func: Func::Count,
+            column: None,
+        },
+        AggAt {
+            func: Func::Sum,
+            column: value,
+        },
+        AggAt {
+            func: Func::Min,
+            column: value,
+        },
+        AggAt {
+            func: Func::Max,
+            column: value,
+        },
+    ];
+    assert!(rt; table.cols() == 2);
+    assert!(rt; table.rows() == 5);
+    assert!(rt; side.aggregates() == 4);
+    assert!(rt; side.fold_known(&table, &by, &aggs, &[0, 1, 2, 3, 4]) == 3);
+    assert!(rt; side.len() == 2);
+    assert!(rt; has(&rt, &side, 0, (3, 45, 10, 20)));
+    assert!(rt; has(&rt, &side, 1, (2, 10, -5, 15)));
     Ok(())
 }
 

@@ -1,22 +1,18 @@
-use Rattle.std.proofs.Common.{◌≡◌, pos, ◌<◌, [], ◌∷◌, add-one, length, map, slice_index, ap, ◌∙◌, arith}
+use Rattle.std.proofs.Common.{◌≡◌, pos, ◌<◌, [], ◌∷◌, add-one, length, slice_index, ap, ◌∙◌, refl, arith}
 use Rattle.std.proofs.lemmas.List.{with_items_is}
 use Rattle.plan_ast.specs.Answer.{aggregate}
 use Rattle.plan_ast.specs.declared.queries.Func.TheVariants as func
 use Rattle.plan_ast.specs.declared.answers.AggValue.TheVariants as agg_value
-use Rattle.build_sides.specs.Columns.{totals_of, values_of, with_total, wrapped_agg_sum}
+use Rattle.build_sides.specs.Columns.{count_sum, totals_of, values_of, with_total, wrapped_agg_sum}
 use Rattle.build_sides.specs.GroupTotals.{Totals}
-use Rattle.build_sides.proofs.Puts.{count_puts, length-puts}
+use Rattle.build_sides.proofs.Puts.{column_puts, length-puts}
 use Rattle.build_sides.proofs.columns.Column.fold_zeros.Goals as goal
 
 pub returns-in-Count : goal.returns-in-Count
-returns-in-Count c =
-    let numbers = c.args.numbers.now in
-    let after = with_items_is c.in-Count.counts c.count_each.new.counts (omega arith) in
-    record {
-      is = rw c.in-Count.is (ap (λ l. record { func = func.Count; values = l })
-          (ap (map (λ x. agg_value.Count x)) after
-          ∙ count_puts numbers (length numbers) _ _ (rw c.as_mut_slice.ensures.value at c.count_each.ensures)));
-    }
+returns-in-Count c = record {
+  is = rw c.in-Count.is (column_puts (λ x. agg_value.Count x) count_sum (λ a b. refl) func.Count _ c.count_each.new.counts _ c.args.numbers.now (λ _. 1)
+      (with_items_is c.in-Count.counts c.count_each.new.counts (omega arith)) (rw c.as_mut_slice.ensures.value at c.count_each.ensures));
+}
 
 pub fold-requires : goal.fold-requires
 fold-requires c =

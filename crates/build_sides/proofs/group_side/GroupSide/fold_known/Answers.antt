@@ -1,4 +1,4 @@
-use Rattle.std.proofs.Common.{◌≡◌, ◌<◌, length, slice_index, slice_index_or, take, ◌∙◌, arith}
+use Rattle.std.proofs.Common.{◌≡◌, ◌<◌, length, slice_index, slice_index_or, take, ◌∙◌, refl, arith}
 use Rattle.std.proofs.lemmas.List.{get_or_default, get_or-take, length-map, length-take}
 use Rattle.build_sides.specs.FoldedRows.{folded_at}
 use Rattle.build_sides.proofs.Known.{folded_first}
@@ -23,20 +23,19 @@ invariant_of-self c =
     c.fold_columns.ensures.fits in
     record { groups = folded.groups; parts = c.self.invariant.parts }
 
-pub returns-clause-funcs : goal.returns-clause-funcs
-returns-clause-funcs c =
-    let folded = folded_first c.args.table.now c.args.by.now c.args.aggs.now c.self.inside.keys c.self.inside.columns.items
-    c.fold_columns.new.columns.items c.args.rows.now c.known_numbers-known.new.numbers c.known_numbers-known.result c.self.invariant.groups
-    c.known_numbers-known.ensures.few (omega arith) c.known_numbers-known.ensures.known c.fold_columns.ensures.count c.fold_columns.ensures.each
-    c.fold_columns.ensures.fits in
-    rw (← c.self.view_is) folded.funcs
-
-pub returns-clause-folds : goal.returns-clause-folds
-returns-clause-folds c =
+pub returns : goal.returns
+returns c =
     let folded = folded_first c.args.table.now c.args.by.now c.args.aggs.now c.self.inside.keys c.self.inside.columns.items
     c.fold_columns.new.columns.items c.args.rows.now c.known_numbers-known.new.numbers c.known_numbers-known.result c.self.invariant.groups
     c.known_numbers-known.ensures.few (omega arith) c.known_numbers-known.ensures.known c.fold_columns.ensures.count c.fold_columns.ensures.each
     c.fold_columns.ensures.fits in
     let rows = take c.known_numbers-known.result c.args.rows.now in
     let count = length-map rows (folded_at c.args.table.now c.args.by.now c.args.aggs.now) in
-    rw (← c.self.view_is) (λ done few folds. folded.folds done (omega (arith, count, length-take c.known_numbers-known.result c.args.rows.now)) folds)
+    record {
+      few = c.known_numbers-known.ensures.few;
+      funcs = rw (← c.self.view_is) folded.funcs;
+      keys = rw (← c.self.view_is) refl;
+      stops = rw (← c.self.view_is) c.known_numbers-known.ensures.stops;
+      folds = rw (← c.self.view_is)
+          (λ done few folds. folded.folds done (omega (arith, count, length-take c.known_numbers-known.result c.args.rows.now)) folds);
+    }

@@ -15,7 +15,12 @@ use csv::{ByteRecord, WriterBuilder};
 use itoa::Buffer;
 use std::alloc::{AllocError, Global};
 
+// The room that a value gets in the text before any row is written, with the byte after it.
+const VALUE_BYTES: usize = 8;
+
 /// The CSV text of a table: one line for its names, then one line for each row.
+///
+/// The text is reserved once: 8 bytes for each value. It grows only if the values take more.
 ///
 /// A name with a comma or a quote is quoted. A header of one empty name is `""`. `load` gives the
 /// same table again, unless the first name begins with U+FEFF: `load` takes that for a byte order
@@ -26,6 +31,7 @@ pub fn write_table(alloc: Global, table: &Table) -> Result<Vec<u8>, AllocError>
         → LoadsTable bytes.items table.now) }
 {
     let mut text = header_text(alloc, table)?;
+    text.reserve((table.rows() as usize).saturating_mul(VALUE_BYTES * table.cols() as usize))?;
     for row in 0..table.rows() {
         push_row(&mut text, table, row)?;
     }

@@ -1,13 +1,17 @@
 -- Which bytes are a name.
-use Rattle.std.specs.Prelude.{ℕ, ◌≤◌, ◌≢◌, List, length, All, IsUtf8}
+use Rattle.std.specs.Prelude.{ℕ, List, length, Bool, not, ◌&&◌, ◌==◌, nat_le, IsTrue, IsUtf8}
+use Rattle.std.specs.List.{list_all}
 use Rattle.col_table.specs.declared.name.TheConstants.{MAX_NAME_BYTES}
 
--- a byte that is not an ASCII control character (in UTF-8 no other character contains such a byte)
-abbrev pub IsPlain : ℕ → Type 0
-IsPlain byte = (0x20 ≤ byte) × (byte ≢ 0x7f)
+-- no byte is an ASCII control character (in UTF-8 no other character contains such a byte)
+abbrev pub is_plain : List ℕ → Bool
+is_plain bytes = list_all (λ byte. nat_le 0x20 byte && not (byte == 0x7f)) bytes
 
--- bytes that are a name: text, short, and without ASCII control characters
+-- short, and without ASCII control characters
+abbrev pub is_name : List ℕ → Bool
+is_name bytes = nat_le (length bytes) MAX_NAME_BYTES && is_plain bytes
+
+-- bytes that are a name: a text of this kind
 pub record IsName (bytes : List ℕ) : Type 0 where
   pub text : IsUtf8 bytes
-  pub short : length bytes ≤ MAX_NAME_BYTES
-  pub plain : All IsPlain bytes
+  pub is : IsTrue (is_name bytes)

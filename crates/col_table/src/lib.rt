@@ -9,11 +9,13 @@
 #![tactic(auto)]
 
 mod lists;
+mod mark;
 mod name;
 mod table;
 
 pub use crate::lists::{ListOf, Text};
-pub use crate::name::{BadName, ColumnName, MAX_NAME_BYTES};
+pub use crate::mark::without_mark;
+pub use crate::name::{BadName, ColumnName, MAX_NAME_BYTES, is_plain};
 pub use crate::table::{MAX_COLUMNS, MAX_ROWS, RowRefusal, ShapeRefusal, Table, limits};
 
 /// The name of a column or of a table.

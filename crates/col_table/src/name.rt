@@ -1,7 +1,7 @@
 // Names of columns and tables.
-ghost use Rattle.std.specs.Prelude.{◌≡◌, ◌↔◌, IsTrue, IfOk, IfErr};
+ghost use Rattle.std.specs.Prelude.{◌≡◌, IfOk, IfErr};
 ghost use Rattle.std.specs.String.{string_bytes};
-ghost use Rattle.col_table.specs.Name.{IsName};
+ghost use Rattle.col_table.specs.Name.{IsName, is_name, is_plain};
 
 use std::marker::Model;
 
@@ -81,7 +81,14 @@ impl Eq for ColumnName {
 
 // Whether a text may be a name.
 fn is_name(text: &str) -> bool
-    ensures { IsTrue result ↔ IsName text.now }
+    ensures { result ≡ is_name text.now }
 {
-    text.len() <= MAX_NAME_BYTES && text.bytes().all(|byte| byte >= 0x20 && byte != 0x7f)
+    text.len() <= MAX_NAME_BYTES && is_plain(text)
+}
+
+/// Whether a text has no ASCII control character. It doesn't allocate.
+pub fn is_plain(text: &str) -> bool
+    ensures { result ≡ is_plain text.now }
+{
+    text.bytes().all(|byte| byte >= 0x20 && byte != 0x7f)
 }

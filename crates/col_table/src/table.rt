@@ -38,17 +38,6 @@ pub enum ShapeRefusal {
     OutOfMemory,
 }
 
-impl From<AllocError> for ShapeRefusal {
-    ghost use Rattle.std.specs.Prelude.{◌≡◌};
-    ghost use Rattle.col_table.specs.declared.table.ShapeRefusal.TheVariants.{OutOfMemory};
-
-    ghost from_gives = { λ _ refusal. refusal ≡ OutOfMemory };
-
-    fn from(_: AllocError) -> ShapeRefusal {
-        ShapeRefusal::OutOfMemory
-    }
-}
-
 /// Why a row was not added.
 #[derive(Clone, Copy, Debug, PartialEq, Eq, Error)]
 pub enum RowRefusal {
@@ -58,17 +47,6 @@ pub enum RowRefusal {
     /// Out of memory.
     #[error("out of memory")]
     OutOfMemory,
-}
-
-impl From<AllocError> for RowRefusal {
-    ghost use Rattle.std.specs.Prelude.{◌≡◌};
-    ghost use Rattle.col_table.specs.declared.table.RowRefusal.TheVariants.{OutOfMemory};
-
-    ghost from_gives = { λ _ refusal. refusal ≡ OutOfMemory };
-
-    fn from(_: AllocError) -> RowRefusal {
-        RowRefusal::OutOfMemory
-    }
 }
 
 /// A table of `i64` values: 1 to 32 named columns and at most 1,048,576 rows.
@@ -105,7 +83,9 @@ impl Table {
         ensures refused { IfErr result (RefusesNames names.items) }
     {
         check_heading(names.as_slice())?;
-        let columns = empty_columns(alloc, names.len())?;
+        let Ok(columns) = empty_columns(alloc, names.len()) else {
+            return Err(ShapeRefusal::OutOfMemory);
+        };
         Ok(Table {
             names,
             columns,
@@ -150,7 +130,9 @@ impl Table {
             return Err(RowRefusal::Full);
         }
         let columns = self.columns.as_mut_slice();
-        make_room(columns)?;
+        let Ok(()) = make_room(columns) else {
+            return Err(RowRefusal::OutOfMemory);
+        };
         push_each(columns, row);
         self.row_count += 1;
         Ok(())

@@ -10,12 +10,11 @@ use Rattle.std.specs.Char.{digit_value}
 use Rattle.std.specs.Int.Signed.{mag}
 use Rattle.std.proofs.lemmas.Bool.{cases_Bool, cases_eq, cases_lt, false≢true}
 use Rattle.std.proofs.lemmas.List.{append-nil, length-map, length_push}
-use Rattle.std.proofs.lemmas.List.Elements.{All-cons, All-head, All-map, All-nil, All-push, All-tail, All-weaker}
+use Rattle.std.proofs.lemmas.List.Elements.{All-map, All-nil, All-push, All-weaker}
 use Rattle.std.proofs.lemmas.Slice.Eq.{bytes_eq-Decides}
 use Rattle.std.proofs.lemmas.Str.{IsUtf8-from_is_utf8, is_utf8-from_IsUtf8}
-use Rattle.col_table.specs.Name.{IsName, IsPlain}
+use Rattle.col_table.specs.Name.{IsName, is_name}
 use Rattle.col_table.specs.NamedRows.{NamedRows, no_rows}
-use Rattle.col_table.specs.declared.name.TheConstants.{MAX_NAME_BYTES}
 use Rattle.col_table.specs.declared.table.TheConstants.{MAX_COLUMNS, MAX_ROWS}
 use Rattle.csv.specs.Machine.{Read, next_record}
 use Rattle.csv.specs.Reading.{default_config, records, records_from, records_next}
@@ -33,35 +32,14 @@ use Rattle.csv_tables.proofs.Records.{record-some}
 abbrev OrNot : Type 0 → Type 0
 OrNot P = P ⊎ ¬ P
 
-all_or_not : {A : Type 0} (P : A → Type 0) → ((x : A) → OrNot (P x)) → (xs : List A) → OrNot (All P xs)
-all_or_not P test [] = inl (All-nil P)
-all_or_not P test (x ∷ xs) =
-    elim (test x) [
-      | inl here ↦ elim (all_or_not P test xs) [ inl rest ↦ inl (All-cons P x xs here rest) | inr not ↦ inr (λ all. not (All-tail P x xs all)) ]
-      | inr not ↦ inr (λ all. not (All-head P x xs all))
-    ]
-
 -- whether a field is a name
-plain_or_not : (byte : ℕ) → OrNot (IsPlain byte)
-plain_or_not byte =
-    elim (cases_lt byte 0x20) [
-      | inl low ↦ inr (λ plain. omega (arith, plain.0))
-      | inr high ↦ elim (cases_eq byte 0x7f) [ inl delete ↦ inr (λ plain. plain.1 delete) | inr other ↦ inl (high, other) ]
-    ]
-
-text_or_not : (bytes : List ℕ) → is_utf8 bytes ≡ true ⊎ is_utf8 bytes ≡ false
-text_or_not bytes = cases_Bool (is_utf8 bytes)
-
 name_or_not : (field : List ℕ) → OrNot (IsName field)
 name_or_not field =
-    elim (text_or_not field) [
+    elim (cases_Bool (is_utf8 field)) [
       | inr not ↦ inr (λ name. false≢true (sym not ∙ is_utf8-from_IsUtf8 field name.text))
-      | inl text ↦ elim (cases_lt MAX_NAME_BYTES (length field)) [
-        | inl long ↦ inr (λ name. omega (arith, long, name.short))
-        | inr short ↦ elim (all_or_not IsPlain plain_or_not field) [
-          | inl plain ↦ inl (record { text = IsUtf8-from_is_utf8 field text; short = short; plain = plain })
-          | inr not ↦ inr (λ name. not name.plain)
-        ]
+      | inl text ↦ elim (cases_Bool (is_name field)) [
+        | inl is ↦ inl (record { text = IsUtf8-from_is_utf8 field text; is = is })
+        | inr not ↦ inr (λ name. false≢true (sym not ∙ name.is))
       ]
     ]
 

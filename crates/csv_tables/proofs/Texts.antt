@@ -1,10 +1,9 @@
 -- What the text of a table reads as.
 use Rattle.std.proofs.Common.{◌≡◌, ◌==◌, ◌&&◌, ℕ, suc, ℤ, pos, negsuc, neg_ℤ, ◌<◌, ◌++◌, ◌∷◌, Bool, true, false, List, [], All, length, map, get_or}
 use Rattle.std.proofs.Common.{if◌then◌else◌, ap, arith, inl, inr, refl, subst, sym, ◌∙◌, append_assoc, FitsSigned, nat_eq, take, drop}
-use Rattle.std.specs.Cmp.Lexicographic.{pointwise}
 use Rattle.std.specs.Fmt.{decimal, signed_decimal}
 use Rattle.std.specs.Int.{w64}
-use Rattle.std.specs.List.{flat_map, list_any}
+use Rattle.std.specs.List.{flat_map, list_any, starts_with}
 use Rattle.std.specs.Str.Parse.{AllDigits, IsNumeral, digits_value, starts_with_minus}
 use Rattle.std.proofs.lemmas.Bool.{cases_Bool, eqb-true, false≢true, ne_eqb}
 use Rattle.std.proofs.lemmas.Int.{ints}
@@ -12,6 +11,7 @@ use Rattle.std.proofs.lemmas.List.{length-map, take-append-drop}
 use Rattle.std.proofs.lemmas.Slice.Eq.{bytes_eq-Decides}
 use Rattle.std.proofs.lemmas.Fmt.{decimal_is_IsNumeral}
 use Rattle.std.proofs.lemmas.List.Elements.{All-cons, All-head, All-map, All-tail, All-weaker}
+use Rattle.col_table.specs.Mark.{without_mark}
 use Rattle.col_table.specs.Name.{IsName}
 use Rattle.col_table.specs.NamedRows.{IsTable, NamedRows, name_at, no_rows}
 use Rattle.csv.specs.Machine.{next_record}
@@ -131,14 +131,17 @@ stripped : (rest : List ℕ) → strip_bom (0xEF ∷ 0xBB ∷ 0xBF ∷ rest) ≡
 unfolding strip_bom
 stripped rest = refl
 
-pub mark_stripped : (text : List ℕ) → pointwise nat_eq (take 3 text) (0xEF ∷ 0xBB ∷ 0xBF ∷ []) ≡ true → drop 3 text ≡ strip_bom text
-mark_stripped text found =
-    let mark = (bytes_eq-Decides (take 3 text) (0xEF ∷ 0xBB ∷ 0xBF ∷ [])).0 found in
-    sym (ap strip_bom (sym (take-append-drop 3 text) ∙ ap (λ front. front ++ drop 3 text) mark) ∙ stripped (drop 3 text))
-
-pub no_mark_stripped : (text : List ℕ) → pointwise nat_eq (take 3 text) (0xEF ∷ 0xBB ∷ 0xBF ∷ []) ≡ false → text ≡ strip_bom text
-no_mark_stripped text missing =
-    sym (kept text (λ (rest, begins). absurd (false≢true (sym missing ∙ (bytes_eq-Decides (take 3 text) (0xEF ∷ 0xBB ∷ 0xBF ∷ [])).1 (ap (take 3) begins)))))
+-- so reading without a mark is what `csv` does
+pub without_mark_is : (text : List ℕ) → without_mark text ≡ strip_bom text
+without_mark_is text =
+    let mark : List ℕ = 0xEF ∷ 0xBB ∷ 0xBF ∷ [] in
+    elim (cases_Bool (starts_with nat_eq text mark)) [
+      | inl found ↦
+          let begins : mark ≡ take 3 text = (bytes_eq-Decides mark (take 3 text)).0 found in
+          rw found (sym (ap strip_bom (sym (take-append-drop 3 text) ∙ ap (λ front. front ++ drop 3 text) (sym begins)) ∙ stripped (drop 3 text)))
+      | inr missing ↦
+          rw missing (sym (kept text (λ (rest, begins). absurd (false≢true (sym missing ∙ (bytes_eq-Decides mark (take 3 text)).1 (sym (ap (take 3) begins)))))))
+    ]
 
 -- the text of a table reads as its records, if its first name begins with no mark
 pub records_kept : (name : List ℕ) (fields : List (List ℕ)) (rows : List (List (List ℕ))) → All (λ fields. 0 < length fields) rows → ¬ (BeginsWithMark name)

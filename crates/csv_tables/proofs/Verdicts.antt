@@ -6,6 +6,7 @@ use Rattle.std.specs.List.{Contains}
 use Rattle.std.proofs.lemmas.List.{get_or_append_left, get_or_at, get_or_default, length-append, length-map}
 use Rattle.col_table.specs.Name.{IsName}
 use Rattle.col_table.specs.NamedRows.{NamedRows}
+use Rattle.col_table.specs.Verdicts.{HasOneVerdict}
 use Rattle.col_table.specs.declared.table.TheConstants.{MAX_COLUMNS, MAX_ROWS}
 use Rattle.csv.specs.Reading.{strip_bom}
 use Rattle.csv_tables.specs.Loading.{GrowsBy, IsHeader, IsRow, RecordsStandFor, records_of}
@@ -14,7 +15,7 @@ use Rattle.csv_tables.specs.Refusals.{AreNames, IsWide, Reaches, RefusesHeader, 
 use Rattle.csv_tables.specs.declared.refusal.TableRefusal.{TableRefusal}
 use Rattle.csv_tables.specs.declared.refusal.TableRefusal.TheVariants.{NoHeader, TooManyColumns, BadName, TwiceNamed, Ragged, NotANumber, OutOfRange}
 use Rattle.csv_tables.specs.declared.refusal.TableRefusal.TheVariants.{TooManyRows, OutOfMemory}
-use Rattle.csv_tables.specs.Verdicts.{HasOneVerdict, IsVerdict}
+use Rattle.csv_tables.specs.Verdicts.{IsVerdict}
 use Rattle.csv_tables.proofs.Deciding.{verdict_of}
 use Rattle.csv_tables.proofs.Loading.{one_table}
 use Rattle.csv_tables.proofs.Splits.{compared, good_at, one_reach}
@@ -247,7 +248,7 @@ at_most_one bytes (Ok a) (Err b) x y = absurd (not_both (records_of bytes) a b x
 at_most_one bytes (Err a) (Ok b) x y = absurd (not_both (records_of bytes) b a y x)
 at_most_one bytes (Err a) (Err b) x y = ap (λ refusal. Err refusal) (one_refusal (records_of bytes) b a y x)
 
-pub one_verdict : (bytes : List ℕ) → HasOneVerdict bytes
+pub one_verdict : (bytes : List ℕ) → HasOneVerdict (IsVerdict bytes)
 one_verdict bytes =
     elim (verdict_of (strip_bom bytes)) [
       | inl (table, stands) ↦ record { verdict = Ok table; is = stands; only = λ other h. at_most_one bytes (Ok table) other stands h }

@@ -1,5 +1,5 @@
 -- What each text gives: a table, or a first refusal.
-use Rattle.std.specs.Prelude.{ℕ, ◌≡◌, List, Result, Ok, Err}
+use Rattle.std.specs.Prelude.{ℕ, List, Result, Ok, Err}
 use Rattle.col_table.specs.NamedRows.{NamedRows}
 use Rattle.csv_tables.specs.Loading.{LoadsTable, records_of}
 use Rattle.csv_tables.specs.Refusals.{RefusesRecords}
@@ -9,9 +9,3 @@ use Rattle.csv_tables.specs.declared.refusal.TableRefusal.{TableRefusal}
 abbrev pub IsVerdict : List ℕ → Result NamedRows TableRefusal → Type 0
 IsVerdict bytes (Ok table) = LoadsTable bytes table
 IsVerdict bytes (Err refusal) = RefusesRecords (records_of bytes) refusal
-
--- a text has exactly one verdict
-pub record HasOneVerdict (bytes : List ℕ) : Type 0 where
-  pub verdict : Result NamedRows TableRefusal
-  pub is : IsVerdict bytes verdict
-  pub only : (other : Result NamedRows TableRefusal) → IsVerdict bytes other → other ≡ verdict

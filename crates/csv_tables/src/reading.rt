@@ -7,8 +7,8 @@ ghost use Rattle.csv_tables.specs.Refusals.{RefusesTable};
 use crate::header::table_under;
 use crate::refusal::TableRefusal;
 use crate::rows::read_rows;
-use crate::scan::{Found, read_record, without_mark};
-use col_table::Table;
+use crate::scan::{Found, read_record};
+use col_table::{Table, without_mark};
 use csv::ByteRecord;
 use std::alloc::Global;
 
@@ -29,6 +29,7 @@ use std::alloc::Global;
 ///
 /// `OutOfMemory` may happen at any text. `load` keeps no copy of the text. It reads no further than
 /// to the 33rd field of a record.
+#[tactic(auto, using(crate::proofs::Texts::without_mark_is))]
 pub fn load(alloc: Global, bytes: &[u8]) -> Result<Table, TableRefusal>
     ensures loaded { IfOk result (LoadsTable bytes.now) }
     ensures unique { IfOk result (λ table.

@@ -4,7 +4,6 @@
 // `csv`. It is written again here because `csv` has no call that goes on in the middle of a text.
 // The rows of most tables take a shorter way (`plain`). All other records are read here.
 ghost use Rattle.std.specs.Prelude.{◌≡◌, ◌<◌, ◌≤◌, ◌++◌, ◌∷◌, [], IfOk, OnOk, length};
-ghost use Rattle.csv.specs.Reading.{strip_bom};
 ghost use Rattle.csv.specs.Records.{fields_of, partial_of};
 ghost use Rattle.csv.specs.declared.parser.State.TheVariants as st;
 ghost use Rattle.csv_tables.specs.Reading.{IsFound, IsStep, TakesByte, state_of};
@@ -176,14 +175,4 @@ fn end_field(fields: &mut ByteRecord, field: &mut Vec<u8>) -> Result<(), AllocEr
     fields.push_field(field.as_slice())?;
     field.clear();
     Ok(())
-}
-
-// The bytes after a byte order mark at the very start.
-pub(crate) fn without_mark(bytes: &[u8]) -> &[u8]
-    ensures { result.now ≡ strip_bom bytes.now }
-{
-    match bytes.strip_prefix(b"\xef\xbb\xbf") {
-        Some(rest) => rest,
-        None => bytes,
-    }
 }

@@ -1,12 +1,12 @@
 -- The tables that are drawn load from their texts.
-use Rattle.std.proofs.Common.{◌≡◌, ◌≢◌, ℕ, zero, suc, ◌+◌, ◌*◌, ◌<◌, ◌≤◌, ℤ, pos, List, [], ◌∷◌, All, FitsSigned, slice_index, length, codes, refl}
+use Rattle.std.proofs.Common.{true, ◌≡◌, ◌≢◌, ℕ, zero, suc, ◌+◌, ◌*◌, ◌<◌, ◌≤◌, ℤ, pos, List, [], ◌∷◌, All, FitsSigned, slice_index, length, codes, refl}
 use Rattle.std.proofs.Common.{Result, Ok, Err, IfErr, sym, ◌∙◌, arith}
 use Rattle.std.specs.Prelude.{IsOk}
 use Rattle.std.specs.Int.{w64}
 use Rattle.std.proofs.lemmas.Int.{ints}
 use Rattle.std.proofs.lemmas.Str.{IsUtf8-from_ascii}
-use Rattle.std.proofs.lemmas.List.Elements.{All-cons, All-from_recursion, All-nil}
-use Rattle.col_table.specs.Name.{IsName, IsPlain}
+use Rattle.std.proofs.lemmas.List.Elements.{All-from_recursion}
+use Rattle.col_table.specs.Name.{IsName, is_name}
 use Rattle.col_table.specs.NamedRows.{AllDiffer, IsHeading, IsTable, name_at}
 use Rattle.col_table.specs.Refusals.{RefusesHeading}
 use Rattle.col_table.specs.declared.table.ShapeRefusal.{ShapeRefusal}
@@ -25,11 +25,10 @@ letter_is_ascii : (letter i : ℕ) → letter < 0x7f → slice_index (letter ∷
 letter_is_ascii letter zero low = omega arith
 letter_is_ascii letter (suc i) low = omega arith
 
-IsName-letter : (letter : ℕ) → 0x20 ≤ letter → letter < 0x7f → IsName (letter ∷ [])
-IsName-letter letter high low = record {
+IsName-letter : (letter : ℕ) → letter < 0x7f → is_name (letter ∷ []) ≡ true → IsName (letter ∷ [])
+IsName-letter letter low plain = record {
   text = IsUtf8-from_ascii (letter ∷ []) (λ i. letter_is_ascii letter i low);
-  short = omega arith;
-  plain = All-cons IsPlain letter [] (high, λ same. omega arith) (All-nil IsPlain);
+  is = plain;
 }
 
 pub no_mark-k : (rest : List ℕ) → codes "k" ≡ 0xEF ∷ 0xBB ∷ 0xBF ∷ rest → ⊥
@@ -91,8 +90,8 @@ table_t-loads state count few =
     let names = (table_t state count).names in
     table-loads names count (row_of_t state) t-heading
     (All-from_recursion IsName names (
-      IsName-letter 107 (omega arith) (omega arith),
-      (IsName-letter 103 (omega arith) (omega arith), (IsName-letter 118 (omega arith) (omega arith), tt)),
+      IsName-letter 107 (omega arith) refl,
+      (IsName-letter 103 (omega arith) refl, (IsName-letter 118 (omega arith) refl, tt)),
     ))
     refl few (λ row. refl)
     (λ row before.
@@ -109,7 +108,7 @@ table_u-loads state count few =
     let Fits : ℤ → Type 0 = FitsSigned w64 in
     let names = (table_u state count).names in
     table-loads names count (row_of_u state) u-heading
-    (All-from_recursion IsName names (IsName-letter 107 (omega arith) (omega arith), (IsName-letter 119 (omega arith) (omega arith), tt)))
+    (All-from_recursion IsName names (IsName-letter 107 (omega arith) refl, (IsName-letter 119 (omega arith) refl, tt)))
     refl few (λ row. refl)
     (λ row before.
     All-from_recursion Fits (row_of_u state row) (

@@ -12,7 +12,8 @@ use Rattle.plan_ast.specs.declared.queries.Op.{Op}
 use Rattle.plan_ast.specs.declared.queries.Op.TheVariants.{Eq, Ge}
 use Rattle.plan_ast.specs.declared.queries.NameRef.{NameRef}
 use Rattle.plan_ast.specs.declared.queries.Query.{Query}
-use Rattle.script_json.specs.Format.{first_early, is_i64, is_name}
+use Rattle.script_json.specs.Format.{first_early, is_i64}
+use Rattle.col_table.specs.Name.{is_name}
 use Rattle.script_json.specs.declared.script.TableEntry.{TableEntry}
 use Rattle.script_json.specs.WellFormed.{IsAgg, IsEntry, IsFilter, IsJoin, IsOutput, IsQuery, IsReference, IsScript}
 use Rattle.load_gen.specs.Draws.{each_below, next_state, signed_of}

@@ -1,7 +1,7 @@
 // The large input of a number.
 ghost use Rattle.std.specs.Prelude.{◌≡◌, All, IfOk, IsTrue, None};
 ghost use Rattle.plan_ast.specs.Names.{refusal_of};
-ghost use Rattle.script_json.specs.Format.{is_name};
+ghost use Rattle.col_table.specs.Name.{is_name};
 ghost use Rattle.script_json.specs.WellFormed.{IsScript};
 ghost use Rattle.load_gen.specs.Generated.{LoadsBack, entry_of, generated, named, script_from};
 

@@ -1,6 +1,6 @@
 // The names of tables and columns.
 ghost use Rattle.std.specs.Prelude.{◌≡◌, IfOk, IsTrue};
-ghost use Rattle.script_json.specs.Format.{is_name};
+ghost use Rattle.col_table.specs.Name.{is_name};
 
 use col_table::Name;
 use std::alloc::{AllocError, Global};

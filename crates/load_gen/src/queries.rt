@@ -1,6 +1,6 @@
 // The queries of a large input.
 ghost use Rattle.std.specs.Prelude.{◌≡◌, ◌<◌, ◌≤◌, IfOk, IsTrue, OnOk};
-ghost use Rattle.script_json.specs.Format.{is_name};
+ghost use Rattle.col_table.specs.Name.{is_name};
 ghost use Rattle.load_gen.specs.Draws.{next_state};
 ghost use Rattle.load_gen.specs.Queries.{after_filters, column_of, count_and_sum_of, filter_of};
 ghost use Rattle.load_gen.specs.Queries.{filters_of, joins_of, kind_of, output_of, queries_from};

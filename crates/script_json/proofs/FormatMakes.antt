@@ -19,9 +19,10 @@ use Rattle.plan_ast.specs.declared.queries.Func.TheVariants.{Count, Sum, Min, Ma
 use Rattle.plan_ast.specs.declared.queries.Output.{Output}
 use Rattle.plan_ast.specs.declared.queries.Query.{Query}
 use Rattle.script_json.specs.Forms.{Form, Reading, ◌>>◌, array_of, or_refuse, required, optional, bad_text, twice_named, whole, wrong_number, wrong_shape}
+use Rattle.col_table.specs.Name.{is_name}
 use Rattle.script_json.specs.Format.{entry_layout, filter_layout, function_layout, groups_layout, join_layout, query_layout}
 use Rattle.script_json.specs.Format.{aggregate, aggregates, any_number, count_of_rows, counts, file_name, filter, filters, first_early, function}
-use Rattle.script_json.specs.Format.{function_named, function_of_column, groups, groups_of, has, is_file_name, is_i64, is_name, join, joined_column, joins}
+use Rattle.script_json.specs.Format.{function_named, function_of_column, groups, groups_of, has, is_file_name, is_i64, join, joined_column, joins}
 use Rattle.script_json.specs.Format.{name, new_name, operator, operator_named, output, output_among, output_keys, query, reference, reference_among}
 use Rattle.script_json.specs.Format.{references, refuse_early, rows_of, script, table_entry, totals_of, version}
 use Rattle.script_json.specs.WellFormed.{IsAgg, IsEntry, IsFilter, IsOutput, IsQuery, IsReference, IsScript}

@@ -1,7 +1,7 @@
 pub mod ArrayLemmas
 pub mod FormatMakes
+pub mod KeptLemmas
 pub mod Makes
-pub mod NameLemmas
 pub mod ObjectLemmas
 pub mod Outlines
 pub mod Parts

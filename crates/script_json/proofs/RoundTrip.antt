@@ -29,12 +29,14 @@ use Rattle.script_json.specs.Objects.{array_with}
 use Rattle.script_json.specs.Format.{aggregate_of, aggregate_value, entry_value, filter_value, function_word, join_value, operator_word, output_value}
 use Rattle.script_json.specs.Format.{query_value, reference_value}
 use Rattle.script_json.specs.Forms.{Form, array_of, each, whole}
-use Rattle.script_json.specs.Format.{aggregate, any_number, file_name, filter, filters, function, is_file_name, is_i64, is_name, join, joins, name, operator}
+use Rattle.script_json.specs.Format.{aggregate, any_number, file_name, filter, filters, function, is_file_name, is_i64, join, joins, name, operator}
 use Rattle.script_json.specs.Format.{output, query, reference, script, table_entry}
 use Rattle.script_json.specs.WellFormed.{IsAgg, IsEntry, IsFilter, IsOutput, IsQuery, IsReference, IsScript}
 use Rattle.script_json.specs.declared.script.TableEntry.{TableEntry}
 use Rattle.script_json.specs.declared.script.Script.{Script}
-use Rattle.script_json.proofs.NameLemmas.{false-from_not, kept-true}
+use Rattle.script_json.proofs.KeptLemmas.{kept-true}
+use Rattle.col_table.specs.Name.{is_name}
+use Rattle.col_table.proofs.NameLemmas.{false-from_not}
 use Rattle.script_json.proofs.Parts.{AnyAgg, FewJoin}
 
 -- ---- numbers, texts and words

@@ -6,10 +6,12 @@ use Rattle.std.specs.Prelude.{◌⊎◌, IsUtf8}
 use Rattle.std.specs.Str.{is_utf8}
 use Rattle.serde_json.specs.Data.{Data}
 use Rattle.serde_json.specs.Read.{read}
+use Rattle.col_table.specs.Mark.{without_mark}
+use Rattle.col_table.specs.Verdicts.{HasOneVerdict}
 use Rattle.script_json.specs.Forms.{Reading}
 use Rattle.script_json.specs.Format.{script}
-use Rattle.script_json.specs.Scripts.{IsJson, ReadsScript, RefusesJson, RefusesScript, without_mark}
-use Rattle.script_json.specs.Verdicts.{HasOneVerdict, IsVerdict}
+use Rattle.script_json.specs.Scripts.{IsJson, ReadsScript, RefusesJson, RefusesScript}
+use Rattle.script_json.specs.Verdicts.{IsVerdict}
 use Rattle.script_json.specs.WellFormed.{IsScript}
 use Rattle.script_json.specs.declared.refusal.ScriptRefusal.{ScriptRefusal}
 use Rattle.script_json.specs.declared.refusal.ScriptRefusal.TheVariants.{NotJson, VersionUnknown, UnknownKey, WrongShape, WrongNumber, TooMany, BadText}
@@ -81,14 +83,14 @@ verdict_said bytes value (Ok s) json says makes = record { value = value; json =
 verdict_said bytes value (Err refusal) json says makes =
     (RefusesScript-said bytes value refusal json (inr says), λ memory. subst IsOfValue memory makes)
 
-HasOneVerdict-of : (bytes : List ℕ) (verdict : Reading Script) → IsVerdict bytes verdict → HasOneVerdict bytes
+HasOneVerdict-of : (bytes : List ℕ) (verdict : Reading Script) → IsVerdict bytes verdict → HasOneVerdict (IsVerdict bytes)
 HasOneVerdict-of bytes verdict is = record {
   verdict = verdict;
   is = is;
   only = λ other x. same_verdict bytes other verdict x is;
 }
 
-pub HasOneVerdict-any : (bytes : List ℕ) → HasOneVerdict bytes
+pub HasOneVerdict-any : (bytes : List ℕ) → HasOneVerdict (IsVerdict bytes)
 HasOneVerdict-any bytes =
     elim (json_or_not bytes) [
       | inl (value, json) ↦ HasOneVerdict-of bytes (script value) (verdict_said bytes value (script value) json refl (script-makes value))

@@ -4,11 +4,12 @@ use Rattle.std.specs.Prelude.{ℕ, ◌+◌, ◌^◌, ℤ, pos, negsuc, List, [],
 use Rattle.std.specs.Prelude.{false, not, ◌&&◌, ◌==◌, nat_le, nat_lt, nat_eq, bytes_eq, is_some}
 use Rattle.std.specs.Prelude.{Option, Some, None, option_map, find, option_and_then, if◌then◌else◌}
 use Rattle.std.specs.Prelude.{Ok, Err, ⊤}
-use Rattle.std.specs.List.{list_any, list_all}
+use Rattle.std.specs.List.{list_any}
 use Rattle.std.specs.Option.{option_map_or}
 use Rattle.serde_json.specs.Data.{Data, Items, array, item, no_items, number, string, unsigned}
 use Rattle.serde_json.specs.Find.{get, as_array, as_object, as_number, as_str, as_i64, as_u64}
 use Rattle.serde_json.specs.Find.{of_integer}
+use Rattle.col_table.specs.Name.{is_name, is_plain}
 use Rattle.plan_ast.specs.Stages.{stages_of}
 use Rattle.plan_ast.specs.declared.queries.Op.{Op}
 use Rattle.plan_ast.specs.declared.queries.Op.TheVariants.{Eq, Ne, Lt, Le, Gt, Ge}
@@ -35,18 +36,11 @@ use Rattle.script_json.specs.declared.script.Script.{Script}
 
 -- ---- texts and words
 
--- no byte of an ASCII control character
-abbrev pub is_plain : List ℕ → Bool
-is_plain bytes = list_all (λ byte. nat_le 0x20 byte && not (byte == 0x7f)) bytes
-
--- the name of a table or a column: at most 64 bytes
-abbrev pub is_name : List ℕ → Bool
-is_name bytes = nat_le (length bytes) 64 && is_plain bytes
-
 -- the name of a file: 1 to 255 bytes
 abbrev pub is_file_name : List ℕ → Bool
 is_file_name bytes = nat_le 1 (length bytes) && nat_le (length bytes) 255 && is_plain bytes
 
+-- the name of a table or a column
 abbrev pub name : Form (List ℕ)
 name value = text_of is_name value
 

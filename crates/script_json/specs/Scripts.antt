@@ -1,9 +1,8 @@
 -- Which bytes are a script, and which refusal the others get.
-use Rattle.std.specs.Prelude.{ℕ, ◌≡◌, List, [], ◌∷◌, drop, nat_eq, Some, if◌then◌else◌, Ok, Err}
-use Rattle.std.specs.Prelude.{IsUtf8, ⊤}
-use Rattle.std.specs.List.{starts_with}
+use Rattle.std.specs.Prelude.{ℕ, ◌≡◌, List, Some, Ok, Err, IsUtf8, ⊤}
 use Rattle.serde_json.specs.Data.{Data}
 use Rattle.serde_json.specs.Read.{read}
+use Rattle.col_table.specs.Mark.{without_mark}
 use Rattle.script_json.specs.Format as format
 use Rattle.script_json.specs.declared.refusal.ScriptRefusal.{ScriptRefusal}
 use Rattle.script_json.specs.declared.refusal.ScriptRefusal.TheVariants.{NotJson, VersionUnknown}
@@ -12,11 +11,6 @@ use Rattle.script_json.specs.declared.refusal.ScriptRefusal.TheVariants.{WrongNu
 use Rattle.script_json.specs.declared.refusal.ScriptRefusal.TheVariants.{BadText, TwiceNamed}
 use Rattle.script_json.specs.declared.refusal.ScriptRefusal.TheVariants.{AfterTooLarge, OutOfMemory}
 use Rattle.script_json.specs.declared.script.Script.{Script}
-
--- the bytes after a leading byte order mark, or all of them if there is none
-abbrev pub without_mark : List ℕ → List ℕ
-without_mark bytes =
-    if starts_with nat_eq bytes (0xEF ∷ 0xBB ∷ 0xBF ∷ []) then drop 3 bytes else bytes
 
 -- bytes are JSON of this value
 pub record IsJson (bytes : List ℕ) (value : Data) : Type 0 where

@@ -1,5 +1,5 @@
 -- What bytes are: a script, or a first refusal.
-use Rattle.std.specs.Prelude.{ℕ, ◌≡◌, ◌≢◌, List, Ok, Err}
+use Rattle.std.specs.Prelude.{ℕ, ◌≢◌, List, Ok, Err}
 use Rattle.script_json.specs.Forms.{Reading}
 use Rattle.script_json.specs.Scripts.{ReadsScript, RefusesScript}
 use Rattle.script_json.specs.declared.refusal.ScriptRefusal.TheVariants.{OutOfMemory}
@@ -9,9 +9,3 @@ use Rattle.script_json.specs.declared.script.Script.{Script}
 abbrev pub IsVerdict : List ℕ → Reading Script → Type 0
 IsVerdict bytes (Ok script) = ReadsScript bytes script
 IsVerdict bytes (Err refusal) = RefusesScript bytes refusal × (refusal ≢ OutOfMemory)
-
--- bytes have exactly one verdict
-pub record HasOneVerdict (bytes : List ℕ) : Type 0 where
-  pub verdict : Reading Script
-  pub is : IsVerdict bytes verdict
-  pub only : (other : Reading Script) → IsVerdict bytes other → other ≡ verdict

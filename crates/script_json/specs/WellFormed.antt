@@ -1,5 +1,6 @@
 -- The scripts that can be read and written.
 use Rattle.std.specs.Prelude.{◌≡◌, ◌≢◌, ◌≤◌, length, All, AllPairs, IfSome, IsTrue, None}
+use Rattle.col_table.specs.Name.{is_name}
 use Rattle.plan_ast.specs.Bounds.{IsInBounds}
 use Rattle.plan_ast.specs.declared.queries.NameRef.{NameRef}
 use Rattle.plan_ast.specs.declared.queries.Filter.{Filter}
@@ -8,7 +9,7 @@ use Rattle.plan_ast.specs.declared.queries.Agg.{Agg}
 use Rattle.plan_ast.specs.declared.queries.Output.{Output}
 use Rattle.plan_ast.specs.declared.queries.Output.TheVariants.{Rows, Totals, Groups}
 use Rattle.plan_ast.specs.declared.queries.Query.{Query}
-use Rattle.script_json.specs.Format.{first_early, is_file_name, is_i64, is_name}
+use Rattle.script_json.specs.Format.{first_early, is_file_name, is_i64}
 use Rattle.script_json.specs.declared.script.TableEntry.{TableEntry}
 use Rattle.script_json.specs.declared.script.Script.{Script}
 

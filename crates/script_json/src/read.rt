@@ -5,7 +5,7 @@ ghost use Rattle.serde_json.specs.View.{view};
 ghost use Rattle.plan_ast.specs.Bounds.{IsInBounds};
 ghost use Rattle.script_json.specs.Forms.{Gives};
 ghost use Rattle.script_json.specs.Format.{first_early, script, version};
-ghost use Rattle.script_json.specs.Scripts.{IsJson, ReadsScript, RefusesScript, without_mark};
+ghost use Rattle.script_json.specs.Scripts.{IsJson, ReadsScript, RefusesScript};
 ghost use Rattle.script_json.specs.WellFormed.{IsScript};
 
 use crate::form::{ArrayForm, Form, check_keys, read_required};
@@ -13,6 +13,7 @@ use crate::queries::QueryForm;
 use crate::refusal::ScriptRefusal;
 use crate::script::{MAX_QUERIES, Script};
 use crate::tables::TablesForm;
+use col_table::without_mark;
 use plan_ast::{Query, stages};
 use serde_json::{Category, Value};
 use std::alloc::Global;
@@ -45,16 +46,6 @@ fn parse(alloc: Global, bytes: &[u8]) -> Result<Value, ScriptRefusal>
         Ok(value) => Ok(value),
         Err(e) if e.classify() == Category::Memory => Err(ScriptRefusal::OutOfMemory),
         Err(_e) => Err(ScriptRefusal::NotJson),
-    }
-}
-
-// The bytes after a byte order mark, if they begin with one.
-fn without_mark(bytes: &[u8]) -> &[u8]
-    ensures { result.now ≡ without_mark bytes.now }
-{
-    match bytes.strip_prefix(b"\xEF\xBB\xBF") {
-        Some(rest) => rest,
-        None => bytes,
     }
 }
 

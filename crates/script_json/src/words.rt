@@ -2,15 +2,15 @@
 ghost use Rattle.std.specs.Prelude.{◌≡◌, Ok, Err};
 ghost use Rattle.serde_json.specs.Find.{as_str};
 ghost use Rattle.serde_json.specs.View.{view};
+ghost use Rattle.col_table.specs.Name.{is_name};
 ghost use Rattle.script_json.specs.Forms.{Gives, Shows, kept, or_refuse, wrong_shape};
 ghost use Rattle.script_json.specs.Format.{any_number, file_name, function, function_named};
-ghost use Rattle.script_json.specs.Format.{is_file_name, is_name, is_plain, name, operator};
-ghost use Rattle.script_json.specs.Format.{operator_named};
+ghost use Rattle.script_json.specs.Format.{is_file_name, name, operator, operator_named};
 
 use crate::form::Form;
 use crate::refusal::ScriptRefusal;
 use crate::script::MAX_FILE_BYTES;
-use col_table::{MAX_NAME_BYTES, Name, Text};
+use col_table::{MAX_NAME_BYTES, Name, Text, is_plain};
 use plan_ast::{Func, Op};
 use serde_json::Value;
 use std::alloc::Global;
@@ -74,12 +74,6 @@ fn may_name_a_file(text: &str) -> bool
     ensures { result ≡ is_file_name text.now }
 {
     !text.is_empty() && text.len() <= MAX_FILE_BYTES && is_plain(text)
-}
-
-fn is_plain(text: &str) -> bool
-    ensures { result ≡ is_plain text.now }
-{
-    text.bytes().all(|byte| byte >= 0x20 && byte != 0x7f)
 }
 
 /// The operator of a filter.

@@ -6,7 +6,7 @@ use Rattle.col_table.proofs.table.Table.new.Goals as goal
 pub invariant_of-result : goal.invariant_of-result
 invariant_of-result c = record {
   heading = subst IsHeading c.as_slice.ensures.value c.in_ok-check_heading.ensures.ok;
-  columns = omega (arith, c.in_ok-columns.ensures.0);
-  heights = All-map (λ values. length values ≡ 0) (λ column. column.items) c.in_ok-columns.columns.items (λ k d h. ap length (c.in_ok-columns.ensures.1 k d h));
+  columns = omega (arith, c.in-Ok.ensures.0);
+  heights = All-map (λ values. length values ≡ 0) (λ column. column.items) c.in-Ok.columns.items (λ k d h. ap length (c.in-Ok.ensures.1 k d h));
   few = omega arith;
 }

@@ -1,7 +1,6 @@
 use Rattle.std.proofs.Common.{◌∙◌, ap, arith, length, refl, sym}
 use Rattle.std.specs.Vec.{with_items}
 use Rattle.std.proofs.lemmas.List.{with_items_is}
-use Rattle.std.proofs.lemmas.Result.{err_from_is_err_and}
 use Rattle.col_table.specs.Columns.{values_of}
 use Rattle.col_table.specs.NamedRows.{with_row}
 use Rattle.col_table.proofs.Stored.{IsStored-pushed, length-rows_stored, table_stored-pushed}
@@ -14,14 +13,12 @@ returns-then-self-eq-MAX_ROWS-clause-full c = (
   λ _. refl,
 )
 
-pub returns-in_err-make_room-clause-full : goal.returns-in_err-make_room-clause-full
-returns-in_err-make_room-clause-full c =
-    let p = err_from_is_err_and c.from_residual.result c.from_residual.ensures.1 in
-    rw (p.1, p.2) (
-      λ e. absurd (cc),
-      λ full. absurd (c.if-self-eq-MAX_ROWS.false
-          (sym (ap (λ table. length table.rows) (sym c.self.view_is) ∙ length-rows_stored c.self.inside) ∙ full)),
-    )
+pub returns-in_default-clause-full : goal.returns-in_default-clause-full
+returns-in_default-clause-full c = (
+  λ e. absurd (cc),
+  λ full. absurd (c.if-self-eq-MAX_ROWS.false
+      (sym (ap (λ table. length table.rows) (sym c.self.view_is) ∙ length-rows_stored c.self.inside) ∙ full)),
+)
 
 pub invariant_of-self-2 : goal.invariant_of-self-2
 invariant_of-self-2 c =

@@ -20,6 +20,7 @@ pub mod MergingLemmas
 pub mod PermutationLemmas
 pub mod PlacedLemmas
 pub mod RowsLemmas
+pub mod ScanGroupsLemmas
 pub mod ScanInputsLemmas
 pub mod ScanLemmas
 pub mod ScanTuplesLemmas

@@ -1,14 +1,16 @@
 -- The rows of a range that pass.
 use Rattle.std.proofs.Common.{◌≡◌, ℕ, ◌+◌, ◌<◌, ◌≤◌, List, [], ◌∷◌, ◌++◌, ◌&&◌, Bool, true, false, cond, drop, filter, get_or, length, set, take, refl}
-use Rattle.std.proofs.Common.{sym, ap, ◌∙◌, add-zero, append-nil, arith}
-use Rattle.std.proofs.lemmas.List.{get_or-drop, take-set, take_more_set}
+use Rattle.std.proofs.Common.{sym, ap, ◌∙◌, add-zero, append-nil, arith, ℤ, pos, w64, to_z, of_z}
+use Rattle.std.proofs.lemmas.Int.{to_z-of_z}
+use Rattle.std.proofs.lemmas.List.{get_or-drop, length-append, take-set, take_more_set}
 use Rattle.std.proofs.lemmas.List.Elements.{filter-append, filter_agree}
-use mir.Val.{bool_byte}
+use mir.Val.{SFits, bool_byte}
 use Rattle.std.proofs.lemmas.List.Folds.{list_all_more}
 use Rattle.std.proofs.Math.Bool.{and-true}
 use Rattle.col_table.specs.NamedRows.{NamedRows, column_of, value_in}
 use Rattle.plan_ast.specs.Answer.{compares}
 use Rattle.plan_ast.specs.declared.places.FilterAt.{FilterAt}
+use Rattle.plan_ast.specs.declared.queries.Op.{Op}
 use Rattle.pipe_ops.specs.Placed.{passes_at, row_at}
 use Rattle.pipe_ops.specs.Selection.{compares_at}
 use Rattle.pipe_ops.specs.StagePlaces.{numbers_from}
@@ -18,6 +20,13 @@ use Rattle.pipe_ops.proofs.MembersLemmas.{numbers_from-more}
 pub at_most_one : (b : Bool) → bool_byte b ≤ 1
 at_most_one true = omega arith
 at_most_one false = omega arith
+
+-- a comparison of a value of a column, as the code counts it
+pub counted : (op : Op) (column : List ℤ) (value : ℤ) (row : ℕ) (passes : Bool) (count : ℕ) → SFits w64 (get_or column row (pos 0))
+    → passes ≡ compares op (to_z w64 (of_z w64 (get_or column row (pos 0)))) value → count ≡ bool_byte passes
+    → count ≡ bool_byte (compares_at op column value row)
+counted op column value row passes count fits compared is =
+    is ∙ ap bool_byte (compared ∙ ap (λ v. compares op v value) (to_z-of_z w64 (get_or column row (pos 0)) fits))
 
 -- a number that is written behind those that are kept, and is kept or not
 pub keep_more : (b : Bool) (rows : List ℕ) (count row : ℕ) → count < length rows → take (count + bool_byte b) (set rows count row) ≡ take count rows ++
@@ -30,6 +39,22 @@ keep_more false rows count row short = ap (λ n. take n (set rows count row)) (a
 pub filter_from-more : (test : ℕ → Bool) (from n : ℕ) → from ≤ n → filter test (numbers_from from (n + 1)) ≡ filter test (numbers_from from n) ++ cond
     (test n) (n ∷ []) []
 filter_from-more test from n low = ap (filter test) (numbers_from-more from n low) ∙ filter-append test (numbers_from from n) (n ∷ [])
+
+kept_length : (b : Bool) (row : ℕ) → length (cond b (row ∷ []) []) ≡ bool_byte b
+kept_length true row = refl
+kept_length false row = refl
+
+-- and how many there are
+pub count_from-more : (test : ℕ → Bool) (from n : ℕ) → from ≤ n
+    → length (filter test (numbers_from from (n + 1))) ≡ length (filter test (numbers_from from n)) + bool_byte (test n)
+count_from-more test from n low =
+    ap length (filter_from-more test from n low) ∙ length-append (filter test (numbers_from from n)) (cond (test n) (n ∷ []) [])
+    ∙ ap (λ k. length (filter test (numbers_from from n)) + k) (kept_length (test n) n)
+
+-- where there are none, nothing is written
+pub none_selected : (rows found : List ℕ) → 0 ≡ length found → take 0 rows ≡ found
+none_selected rows [] none = refl
+none_selected rows (x ∷ found) none = absurd (omega arith)
 
 -- lists that agree from a place on agree at it
 pub same_at : (xs ys : List ℕ) (i : ℕ) → drop i xs ≡ drop i ys → get_or xs i 0 ≡ get_or ys i 0

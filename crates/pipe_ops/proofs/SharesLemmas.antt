@@ -4,18 +4,10 @@ use Rattle.std.proofs.lemmas.Bool.{cases_lt, le-leb, le-ltb, lt-leb, lt-ltb}
 use Rattle.std.proofs.Math.Bool.{and-false}
 use Rattle.std.proofs.Math.Dec.{leb, ltb}
 use Rattle.plan_ast.specs.Folds.{Tuples, no_tuples, range_of, union}
-use Rattle.plan_ast.specs.Answer.{answer_of}
-use Rattle.plan_ast.specs.Stages.{Stage, builds, merges, scans}
-use Rattle.plan_ast.specs.declared.answers.Answer.{Answer}
-use Rattle.plan_ast.specs.declared.queries.NamedTable.{NamedTable}
-use Rattle.plan_ast.specs.declared.queries.Output.{Output}
-use Rattle.plan_ast.specs.declared.queries.Output.TheVariants.{Rows, Totals, Groups}
-use Rattle.plan_ast.specs.declared.queries.Query.{Query}
 use Rattle.pipe_ops.specs.Inputs.{IsAccOf, total_in}
-use Rattle.pipe_ops.specs.StageResults.{Cover, Extends, HasRoomForRange, IsResultOf, IsScanned, Share}
+use Rattle.pipe_ops.specs.StageResults.{Cover, Extends, HasRoomForRange, Share}
 use Rattle.pipe_ops.specs.declared.acc.Acc.{Acc}
 use Rattle.pipe_ops.specs.declared.inputs.Inputs.{Inputs}
-use Rattle.pipe_ops.specs.declared.results.StageResult.TheVariants as result
 
 -- an accumulator of no tuples has room for any range
 pub room_of_none : (inputs : Inputs) (from to : ℕ) (acc : Acc) → IsAccOf inputs no_tuples acc → HasRoomForRange inputs from to acc
@@ -72,17 +64,3 @@ cover_thirds inputs cut again total is = λ tuple short. covered cut again total
 pub holds_alone : (inputs : Inputs) (from to : ℕ) (empty held : Acc) → IsAccOf inputs no_tuples empty → Extends inputs (range_of from to) empty held
     → IsAccOf inputs (union no_tuples (range_of from to)) held
 holds_alone inputs from to empty held none extends = extends no_tuples (λ tuple. refl) none
-
--- ---- the answer
-
--- a whole result that is an answer is the query's
-pub answer_whole : (tables : List NamedTable) (query : Query) (stage : Stage) (found : Answer) → IsResultOf tables query stage (result.Answer found) →
-    found ≡ answer_of tables query
-answer_whole tables query (builds join) found is = absurd is
-answer_whole tables query scans found is = scanned query.output is
-  where
-    scanned : (output : Output) → IsScanned tables query output (result.Answer found) → found ≡ answer_of tables query
-    scanned (Rows columns) is = is
-    scanned (Totals aggs) is = is
-    scanned (Groups by aggs) is = absurd is
-answer_whole tables query merges found is = is

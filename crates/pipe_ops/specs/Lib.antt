@@ -4,6 +4,7 @@ pub mod Inputs
 pub mod Joining
 pub mod Merging
 pub mod Placed
+pub mod Scans
 pub mod Selection
 pub mod StageFolds
 pub mod StageLaws

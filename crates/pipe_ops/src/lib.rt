@@ -28,6 +28,8 @@ mod outputs;
 mod plain;
 mod results;
 mod rows;
+mod scan_groups;
+mod scan_inputs;
 mod scans;
 mod selection;
 mod stages;

@@ -1,6 +1,10 @@
 // What a stage gives in the end.
 use build_sides::{GroupSide, HashSide};
 use plan_ast::Answer;
+use std::alloc::AllocError;
+
+/// Nothing, or out of memory.
+pub(crate) type Done = Result<(), AllocError>;
 
 /// The result of a stage. That of the last stage is the query's answer.
 #[derive(Debug, Drop)]

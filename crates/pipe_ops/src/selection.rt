@@ -1,7 +1,8 @@
 // The rows of a range that pass filters, column by column.
-ghost use Rattle.std.specs.Prelude.{◌≡◌, ◌-◌, ◌<◌, ◌≤◌, [], ◌∷◌, All, filter, length, take};
-ghost use Rattle.pipe_ops.specs.Placed.{AreFiltersOf, passes_at, row_at};
-ghost use Rattle.pipe_ops.specs.Selection.{compares_at};
+ghost use Rattle.std.specs.Prelude.{◌≡◌, ◌-◌, ◌<◌, ◌≤◌, [], ◌∷◌, filter, length, take};
+ghost use Rattle.pipe_ops.specs.Placed.{AreFiltersOf};
+ghost use Rattle.pipe_ops.specs.Selection.{BeginsWith, HasPlaces, IsRangeOf, compares_at};
+ghost use Rattle.pipe_ops.specs.Selection.{passing_rows};
 ghost use Rattle.pipe_ops.specs.StagePlaces.{numbers_from};
 
 use crate::rows::compares;
@@ -18,13 +19,9 @@ pub(crate) fn select_rows(
     rows: &mut [u32],
 ) -> usize
     requires filters { AreFiltersOf table.now filters.now }
-    requires order { from ≤ to }
-    requires within { to ≤ length table.now.rows }
-    requires room { to - from ≤ length rows.old }
-    ensures few { result ≤ length rows.new }
-    ensures same { length rows.new ≡ length rows.old }
-    ensures selected { take result rows.new
-        ≡ filter (λ row. passes_at filters.now (row_at table.now row)) (numbers_from from to) }
+    requires range { IsRangeOf from to (length table.now.rows) (length rows.old) }
+    ensures { BeginsWith (passing_rows table.now filters.now (numbers_from from to))
+        result rows.old rows.new }
 {
     if filters.is_empty() {
         return all_rows(from, to, rows);
@@ -39,13 +36,9 @@ pub(crate) fn select_rows(
 // Writes the numbers of a range's rows that pass a filter.
 fn select_by(table: &Table, by: &FilterAt, from: u32, to: u32, rows: &mut [u32]) -> usize
     requires column { by.now.column < length table.now.names }
-    requires order { from ≤ to }
-    requires within { to ≤ length table.now.rows }
-    requires room { to - from ≤ length rows.old }
-    ensures few { result ≤ length rows.new }
-    ensures same { length rows.new ≡ length rows.old }
-    ensures selected { take result rows.new
-        ≡ filter (λ row. passes_at (by.now ∷ []) (row_at table.now row)) (numbers_from from to) }
+    requires range { IsRangeOf from to (length table.now.rows) (length rows.old) }
+    ensures { BeginsWith (passing_rows table.now (by.now ∷ []) (numbers_from from to))
+        result rows.old rows.new }
 {
     let column = table.column(by.column);
     select(column, by.op, by.value, from, to, rows)
@@ -54,12 +47,9 @@ fn select_by(table: &Table, by: &FilterAt, from: u32, to: u32, rows: &mut [u32])
 // Keeps those of the first so many numbers whose rows pass a filter.
 fn thin_by(table: &Table, by: &FilterAt, rows: &mut [u32], count: usize) -> usize
     requires column { by.now.column < length table.now.names }
-    requires count { count ≤ length rows.old }
-    requires within { All (λ row. row < length table.now.rows) (take count rows.old) }
-    ensures few { result ≤ length rows.new }
-    ensures same { length rows.new ≡ length rows.old }
-    ensures selected { take result rows.new
-        ≡ filter (λ row. passes_at (by.now ∷ []) (row_at table.now row)) (take count rows.old) }
+    requires places { HasPlaces (length table.now.rows) count rows.old }
+    ensures { BeginsWith (passing_rows table.now (by.now ∷ []) (take count rows.old))
+        result rows.old rows.new }
 {
     let column = table.column(by.column);
     thin(column, by.op, by.value, rows, count)
@@ -69,9 +59,7 @@ fn thin_by(table: &Table, by: &FilterAt, rows: &mut [u32], count: usize) -> usiz
 fn all_rows(from: u32, to: u32, rows: &mut [u32]) -> usize
     requires order { from ≤ to }
     requires room { to - from ≤ length rows.old }
-    ensures few { result ≤ length rows.new }
-    ensures same { length rows.new ≡ length rows.old }
-    ensures selected { take result rows.new ≡ numbers_from from to }
+    ensures { BeginsWith (numbers_from from to) result rows.old rows.new }
 {
     let mut count = 0;
     for row in from..to {
@@ -81,16 +69,59 @@ fn all_rows(from: u32, to: u32, rows: &mut [u32]) -> usize
     count
 }
 
-// Writes the numbers of a range whose values stand in a relation to another. Each number is
-// written, and the next one over it if it fails.
+// Writes the numbers of a range whose values stand in a relation to another. Each relation has
+// loops of its own.
 fn select(column: &[i64], op: Op, value: i64, from: u32, to: u32, rows: &mut [u32]) -> usize
+    requires range { IsRangeOf from to (length column.now) (length rows.old) }
+    ensures { BeginsWith (filter (compares_at op column.now value) (numbers_from from to))
+        result rows.old rows.new }
+{
+    match op {
+        Op::Eq => select_any(column, Op::Eq, value, from, to, rows),
+        Op::Ne => select_any(column, Op::Ne, value, from, to, rows),
+        Op::Lt => select_any(column, Op::Lt, value, from, to, rows),
+        Op::Le => select_any(column, Op::Le, value, from, to, rows),
+        Op::Gt => select_any(column, Op::Gt, value, from, to, rows),
+        Op::Ge => select_any(column, Op::Ge, value, from, to, rows),
+    }
+}
+
+// The same, for one relation. Often none does, and to count them takes less time than to write.
+#[inline(always)]
+#[tactic(auto, using(crate::proofs::SelectionLemmas::none_selected))]
+fn select_any(column: &[i64], op: Op, value: i64, from: u32, to: u32, rows: &mut [u32]) -> usize
+    requires range { IsRangeOf from to (length column.now) (length rows.old) }
+    ensures { BeginsWith (filter (compares_at op column.now value) (numbers_from from to))
+        result rows.old rows.new }
+{
+    if count_passing(column, op, value, from, to) == 0 {
+        0
+    } else {
+        select_each(column, op, value, from, to, rows)
+    }
+}
+
+// How many values of a range stand in a relation to another.
+#[inline(always)]
+fn count_passing(column: &[i64], op: Op, value: i64, from: u32, to: u32) -> usize
     requires order { from ≤ to }
     requires within { to ≤ length column.now }
-    requires room { to - from ≤ length rows.old }
-    ensures few { result ≤ length rows.new }
-    ensures same { length rows.new ≡ length rows.old }
-    ensures selected { take result rows.new
-        ≡ filter (compares_at op column.now value) (numbers_from from to) }
+    ensures { result ≡ length (filter (compares_at op column.now value) (numbers_from from to)) }
+{
+    let mut count = 0;
+    for row in from..to {
+        count += usize::from(compares(op, column[row as usize], value));
+    }
+    count
+}
+
+// Writes the numbers of a range whose values stand in a relation to another. Each number is
+// written, and the next one over it if it fails.
+#[inline(always)]
+fn select_each(column: &[i64], op: Op, value: i64, from: u32, to: u32, rows: &mut [u32]) -> usize
+    requires range { IsRangeOf from to (length column.now) (length rows.old) }
+    ensures { BeginsWith (filter (compares_at op column.now value) (numbers_from from to))
+        result rows.old rows.new }
 {
     let mut count = 0;
     for row in from..to {
@@ -100,14 +131,29 @@ fn select(column: &[i64], op: Op, value: i64, from: u32, to: u32, rows: &mut [u3
     count
 }
 
-// Keeps those of the first so many numbers whose values stand in a relation to another.
+// Keeps those of the first so many numbers whose values stand in a relation to another. Each
+// relation has a loop of its own.
 fn thin(column: &[i64], op: Op, value: i64, rows: &mut [u32], count: usize) -> usize
-    requires count { count ≤ length rows.old }
-    requires within { All (λ row. row < length column.now) (take count rows.old) }
-    ensures few { result ≤ length rows.new }
-    ensures same { length rows.new ≡ length rows.old }
-    ensures selected { take result rows.new
-        ≡ filter (compares_at op column.now value) (take count rows.old) }
+    requires places { HasPlaces (length column.now) count rows.old }
+    ensures { BeginsWith (filter (compares_at op column.now value) (take count rows.old))
+        result rows.old rows.new }
+{
+    match op {
+        Op::Eq => thin_each(column, Op::Eq, value, rows, count),
+        Op::Ne => thin_each(column, Op::Ne, value, rows, count),
+        Op::Lt => thin_each(column, Op::Lt, value, rows, count),
+        Op::Le => thin_each(column, Op::Le, value, rows, count),
+        Op::Gt => thin_each(column, Op::Gt, value, rows, count),
+        Op::Ge => thin_each(column, Op::Ge, value, rows, count),
+    }
+}
+
+// The same, for one relation.
+#[inline(always)]
+fn thin_each(column: &[i64], op: Op, value: i64, rows: &mut [u32], count: usize) -> usize
+    requires places { HasPlaces (length column.now) count rows.old }
+    ensures { BeginsWith (filter (compares_at op column.now value) (take count rows.old))
+        result rows.old rows.new }
 {
     let mut kept = 0;
     for place in 0..count {

@@ -16,7 +16,7 @@ pub merge_range-requires-clause-within : goal.merge_range-requires-clause-within
 merge_range-requires-clause-within c =
     let inputs = c.args.inputs.now in
     let all : total_in inputs ≡ 16 = ap (tuples_of (tables_in inputs) (query_in inputs)) c.requires.merges in
-    omega (arith, c.requires.within)
+    omega (arith, c.requires.range.within)
 
 pub merge_range-requires-clause-funcs : goal.merge_range-requires-clause-funcs
 merge_range-requires-clause-funcs c =

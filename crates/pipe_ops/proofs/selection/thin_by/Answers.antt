@@ -5,11 +5,12 @@ use Rattle.pipe_ops.specs.Selection.{compares_at}
 use Rattle.pipe_ops.proofs.SelectionLemmas.{passes_one}
 use Rattle.pipe_ops.proofs.selection.thin_by.Goals as goal
 
-pub returns-clause-selected : goal.returns-clause-selected
-returns-clause-selected c =
+pub returns : goal.returns
+returns c =
     let filter_at = c.args.by.now in
     let numbers = take c.args.count c.args.rows.now in
     let value : ℤ = filter_at.value in
     let fits : SFits w64 value = search rules in
-    c.thin.ensures.selected ∙ ap (λ v. filter (compares_at filter_at.op c.column-column.result.now v) numbers) (to_z-of_z w64 value fits)
-    ∙ ap (λ (l : List ℤ). filter (compares_at filter_at.op l value) numbers) c.column-column.ensures ∙ passes_one c.args.table.now filter_at numbers
+    let is = c.thin.ensures.are ∙ ap (λ v. filter (compares_at filter_at.op c.column-column.result.now v) numbers) (to_z-of_z w64 value fits)
+    ∙ ap (λ (l : List ℤ). filter (compares_at filter_at.op l value) numbers) c.column-column.ensures ∙ passes_one c.args.table.now filter_at numbers in
+    record { few = c.thin.ensures.few; same = c.thin.ensures.same; are = is }

@@ -1,14 +1,12 @@
 use Rattle.std.proofs.Common.{◌≡◌, ◌+◌, ◌<◌, ℕ, ℤ, Bool, [], ◌∷◌, ◌++◌, cond, filter, length, get_or, pos, set, sym, take, ap, ◌∙◌, subst, rules}
 use Rattle.std.proofs.Common.{arith, w64, to_z, of_z}
 use Rattle.std.proofs.lemmas.Grind.{drop_more_same}
-use Rattle.std.proofs.lemmas.Int.{to_z-of_z}
 use Rattle.std.proofs.lemmas.List.{drop-set-lt, get_or-take, length-set, length-take-le}
 use Rattle.std.proofs.lemmas.List.Elements.{filter_more}
-use mir.Val.{SFits, bool_byte}
-use Rattle.plan_ast.specs.Answer.{compares}
+use mir.Val.{SFits}
 use Rattle.pipe_ops.specs.Selection.{compares_at}
-use Rattle.pipe_ops.proofs.SelectionLemmas.{at_most_one, keep_more, same_at}
-use Rattle.pipe_ops.proofs.selection.thin.Goals as goal
+use Rattle.pipe_ops.proofs.SelectionLemmas.{at_most_one, counted, keep_more, same_at}
+use Rattle.pipe_ops.proofs.selection.thin_each.Goals as goal
 
 pub bounds-column-row : goal.bounds-column-row
 bounds-column-row c =
@@ -18,7 +16,7 @@ bounds-column-row c =
     let inside : i < count = c.loop-place-test.true in
     let same = same_at c.loop-place.rows old i c.loop-place.invariant.rest in
     subst (λ n. n < length c.args.column.now) (get_or-take count old i 0 inside ∙ sym same)
-    (c.requires.within i 0 (omega (arith, length-take-le count old c.requires.count)))
+    (c.requires.places.within i 0 (omega (arith, length-take-le count old c.requires.places.few)))
 
 pub loop-place-preserved : goal.loop-place-preserved
 loop-place-preserved c =
@@ -31,12 +29,10 @@ loop-place-preserved c =
     let column = c.args.column.now in
     let value : ℤ = to_z w64 (of_z w64 c.args.value) in
     let test : ℕ → Bool = compares_at c.args.op column value in
-    let here : ℤ = get_or column row (pos 0) in
-    let fits : SFits w64 here = search rules in
-    let short : kept < length rows = omega (arith, before.few, before.same, c.requires.count, c.loop-place-test.true) in
-    let inside : i < length old = omega (arith, c.requires.count, c.loop-place-test.true) in
-    let passed : c.compares.result ≡ test row = c.compares.ensures ∙ ap (λ v. compares c.args.op v value) (to_z-of_z w64 here fits) in
-    let added = c.from-kept.ensures ∙ ap bool_byte passed in
+    let fits : SFits w64 (get_or column row (pos 0)) = search rules in
+    let short : kept < length rows = omega (arith, before.few, before.same, c.requires.places.few, c.loop-place-test.true) in
+    let inside : i < length old = omega (arith, c.requires.places.few, c.loop-place-test.true) in
+    let added = counted c.args.op column value row c.compares.result c.from-kept.result fits c.compares.ensures c.from-kept.ensures in
     let same : row ≡ get_or old i 0 = same_at rows old i before.rest in
     record {
       few = omega (arith, before.few, at_most_one (test row), added);

@@ -1,6 +1,6 @@
 use Rattle.std.proofs.Common.{◌≡◌, ◌≤◌, drop, filter, length, take}
 use Rattle.pipe_ops.specs.Selection.{compares_at}
-use Rattle.pipe_ops.proofs.selection.thin.Given as goal
+use Rattle.pipe_ops.proofs.selection.thin_each.Given as goal
 
 abbrev pub invariant-loop-place : goal.invariant-loop-place
 invariant-loop-place l = record {

@@ -1,7 +1,7 @@
 use Rattle.std.proofs.Common.{◌≡◌, ◌+◌, ◌≤◌, filter, length, take}
 use Rattle.pipe_ops.specs.Selection.{compares_at}
 use Rattle.pipe_ops.specs.StagePlaces.{numbers_from}
-use Rattle.pipe_ops.proofs.selection.select.Given as goal
+use Rattle.pipe_ops.proofs.selection.select_each.Given as goal
 
 abbrev pub invariant-loop-row : goal.invariant-loop-row
 invariant-loop-row l = record {

@@ -20,7 +20,7 @@ use Rattle.worker_machine.specs.Keeps.{chosen}
 use Rattle.worker_machine.specs.Left.{is_ready}
 use Rattle.worker_machine.specs.Loads.{load_of}
 use Rattle.pool_run.specs.Scenes.{Scene, HasPlayed, TeamFollows, NoneTurns, AreOver}
-use Rattle.pool_run.specs.Told.{gap_of}
+use Rattle.pool_run.specs.Collected.{gap_of}
 use Rattle.pool_run.proofs.Played.{mine-in}
 use Rattle.pool_run.proofs.Points.{over-in}
 use Rattle.pool_run.proofs.Teams.{some-same}
@@ -57,7 +57,8 @@ module _ {may_take : ℕ → ℕ → ℕ → Type 0} {at : Scene} {run : Run} (p
         over-in at.table (played.made w x.0 x.1) (over w x.0 x.1);
   }
 
-  gap-at : (w : ℕ) (x : Worker) → slice_get at.team w ≡ Some x → is_ready x.phase ≡ true → IsGapOf (desk_at at.table.shape (load_of at.table.subject) w) (run.team w) (gap_of x)
+  gap-at : (w : ℕ) (x : Worker) → slice_get at.team w ≡ Some x → is_ready x.phase ≡ true
+      → IsGapOf (desk_at at.table.shape (load_of at.table.subject) w) (run.team w) (gap_of x)
   gap-at w x here ready =
       let m = played.made w x here in
       let passes : strides_of x.core.strides ≡ strides_by (desk_at at.table.shape (load_of at.table.subject) w) (run.team w) =
@@ -70,14 +71,16 @@ module _ {may_take : ℕ → ℕ → ℕ → Type 0} {at : Scene} {run : Run} (p
 
   pub gaps-are : NoneTurns at.team → (gaps : List Gap) → gaps ≡ map gap_of at.team → AreGaps at.table.shape (load_of at.table.subject) run.team gaps
   gaps-are none gaps are = record {
-    count = ap length are ∙ length-map at.team gap_of ∙ follows.count;
+    count = count;
     each = λ w gap here.
-        let below : w < at.table.shape.workers = (let low = slice_get_within gaps w gap here in let n : length gaps ≡ at.table.shape.workers = ap length are ∙ length-map at.team gap_of ∙ follows.count in omega arith) in
+        let below : w < at.table.shape.workers = subst (λ n. w < n) count (slice_get_within gaps w gap here) in
         let x = item-at at.team at.table.shape.workers w follows.count below in
         let is : gap_of x.0 ≡ gap =
         some-same (gap_of x.0) gap (sym (ap (λ l. slice_get l w) are ∙ slice_get-map gap_of at.team w ∙ ap (option_map gap_of) x.1) ∙ here) in
         subst (IsGapOf (desk_at at.table.shape (load_of at.table.subject) w) (run.team w)) is (gap-at w x.0 x.1 (none w x.0 x.1));
-  }
+  } where
+    count : length gaps ≡ at.table.shape.workers
+    count = ap length are ∙ length-map at.team gap_of ∙ follows.count
 
   -- the times of the workers, and none of others
   pub times-are : (times : List (List ℕ)) → times ≡ map (λ (w : Worker). w.core.times) at.team → (w : ℕ)
@@ -92,4 +95,5 @@ module _ {may_take : ℕ → ℕ → ℕ → Type 0} {at : Scene} {run : Run} (p
     past : length at.team ≤ w → unwrap_or (slice_get times w) [] ≡ times_of (run.team w)
     past after =
         let beyond : at.table.shape.workers ≤ w = subst (λ n. n ≤ w) follows.count after in
-        ap (λ o. unwrap_or o []) (read ∙ ap (option_map (λ (x : Worker). x.core.times)) (slice_get_past at.team w after)) ∙ sym (ap times_of (played.no_more w beyond))
+        ap (λ o. unwrap_or o []) (read ∙ ap (option_map (λ (x : Worker). x.core.times)) (slice_get_past at.team w after))
+        ∙ sym (ap times_of (played.no_more w beyond))

@@ -74,8 +74,8 @@ module _ (d : Shape) (load : Workload) where
     pub less : (w : ℕ) → IsIn w order → (IsOver d load run w → ⊥) → number end < number run
 
   module _ (work : IsWork d load) where
-    one-falls : (run : Run) (w : ℕ) (next : Run) (p : PlaysTurn d load run w next) → w < d.workers → (IsOver d load run w → ⊥) → IsFree run → IsLegal d next.history
-        → IsFree next × (number next < number run)
+    one-falls : (run : Run) (w : ℕ) (next : Run) (p : PlaysTurn d load run w next) → w < d.workers
+        → (IsOver d load run w → ⊥) → IsFree run → IsLegal d next.history → IsFree next × (number next < number run)
     one-falls run w next p below not free legal =
         let playing : Playing = record { worker = w; moves = p.more; turn = p.turn } in
         let alone : PlaysAlone d load run playing = record {
@@ -90,8 +90,8 @@ module _ (d : Shape) (load : Workload) where
           subst (λ (x : Run). number x < number run) (sym p.next_is) (turns-fall-as-one d load run playing work alone not),
         )
 
-    pub turns-fall : (order : List ℕ) (run end : Run) → PlayTurns d load order run end → ((w : ℕ) → IsIn w order → w < d.workers) → IsFree run → IsLegal d end.history
-        → Falls order run end
+    pub turns-fall : (order : List ℕ) (run end : Run) → PlayTurns d load order run end → ((w : ℕ) → IsIn w order → w < d.workers)
+        → IsFree run → IsLegal d end.history → Falls order run end
     turns-fall order run end (none r) below free legal = record { free = free; most = same-most (number r); less = λ w i not. absurd i }
     turns-fall order run end (passes w rest r e p more) below free legal =
         let later = turns-fall rest r e more (λ v i. below v (inr i)) free legal in record {

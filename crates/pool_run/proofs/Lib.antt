@@ -4,7 +4,7 @@ mod Teams
 mod Played
 mod Orders
 mod Points
-mod Parts
+mod Stints
 mod Totals
 mod Resting
 mod Ending
@@ -13,5 +13,4 @@ mod Whole
 mod Falling
 mod Lowering
 mod Works
-mod DrivenWhole
 mod Reporting

@@ -18,8 +18,10 @@ use Rattle.bench_cell.specs.declared.plan.Plan.{Plan}
 use Rattle.worker_machine.specs.declared.state.Worker.{Worker}
 use Rattle.worker_machine.specs.Loads.{load_of}
 use Rattle.worker_machine.specs.PointsOf.{point_of}
-use Rattle.pool_run.specs.Plays.{Leads, turns_by}
+use Rattle.pool_run.specs.declared.stint.Stint.TheVariants.{WholeTurn}
+use Rattle.pool_run.specs.Plays.{Leads, stints_by}
 use Rattle.pool_run.specs.Scenes.{Scene, HasPlayed, TeamFollows, NoneTurns, HasGoing, Between}
+use Rattle.run_laws.proofs.CompleteRuns.{driven-played}
 use Rattle.pool_run.proofs.Ending.{driven, item-at}
 use Rattle.pool_run.proofs.Falling.{IsFree, Falls, in-range, number, range-below, turns-fall}
 use Rattle.pool_run.proofs.Points.{ended-in, over-of}
@@ -45,12 +47,8 @@ module _ {may_take : ℕ → ℕ → ℕ → Type 0} {at : Scene} {run : Run} (p
   number-at = ap₂ (λ h k. as_one (left_in at.table.shape (load_of at.table.subject) (state_after at.table.shape h) k)) played.history
       (count-same at.table.shape.workers _ _ goes-same)
 
-  pub is-played : IsLegal at.table.shape (calls_of at.table.log) → IsPlayed at.table.shape (load_of at.table.subject) run
-  is-played legal = let d = driven played follows legal in record {
-    legal = d.legal;
-    driven = λ w below. (d.each w below).driven;
-    mine = λ w below. (d.each w below).mine;
-  }
+  is-played : IsLegal at.table.shape (calls_of at.table.log) → IsPlayed at.table.shape (load_of at.table.subject) run
+  is-played legal = driven-played may_take at.table.shape (load_of at.table.subject) run (driven played follows legal)
 
   is-free : NoneTurns at.team → IsLegal at.table.shape (calls_of at.table.log) → IsFree at.table.shape (load_of at.table.subject) run
   is-free none legal = record {
@@ -62,7 +60,7 @@ module _ {may_take : ℕ → ℕ → ℕ → Type 0} {at : Scene} {run : Run} (p
 
 pub round-lowers : {may_take : ℕ → ℕ → ℕ → Type 0} {b c : Scene} → Between may_take b → TeamFollows c → IsLegal c.table.shape (calls_of c.table.log)
     → IsWork b.table.shape (load_of b.table.subject) → HasGoing b.team
-    → Leads may_take (turns_by (range_with_len 0 b.table.shape.workers)) b c → left_at c.table c.team < left_at b.table b.team
+    → Leads may_take (stints_by WholeTurn (range_with_len 0 b.table.shape.workers)) b c → left_at c.table c.team < left_at b.table b.team
 round-lowers {may_take} {b} {c} at follows legal work going q =
     let d = b.table.shape in
     let load = load_of b.table.subject in

@@ -23,8 +23,8 @@ use Rattle.worker_machine.specs.declared.state.Worker.{Worker}
 use Rattle.worker_machine.specs.Keeps.{HasMade}
 use Rattle.worker_machine.specs.Loads.{load_of, model_desk}
 use Rattle.worker_machine.specs.Turning.{Adds, standing_of}
-use Rattle.pool_run.specs.Scenes.{scene, stands_in, HasPlayed}
-use Rattle.pool_run.proofs.SeatViews.{Since, shown-since, desk-since}
+use Rattle.pool_run.specs.Scenes.{scene, Since, stands_in, HasPlayed}
+use Rattle.pool_run.proofs.SeatViews.{shown-since, desk-since}
 use Rattle.pool_run.proofs.Teams.{each-set}
 
 -- ---- the entries of the moves
@@ -66,7 +66,8 @@ history-grew old new w more ms since was now = ∥∥₁_elim since (hlevel prop
 
 -- ---- the run
 
-pub mine-in : (table : TableStory Plan) (w : ℕ) (x : Worker) (ms : List Move) → HasMade (stands_in table w x) ms → own_calls w (calls_of table.log) ≡ entries w ms
+pub mine-in : (table : TableStory Plan) (w : ℕ) (x : Worker) (ms : List Move) → HasMade (stands_in table w x) ms
+    → own_calls w (calls_of table.log) ≡ entries w ms
 mine-in table w x ms made = sym (own-trail w (calls_of table.log)) ∙ made.mine
 
 team-mine : (run : Run) (w : ℕ) (more : List Move) → (and_then run w more).team w ≡ more ++ run.team w
@@ -95,11 +96,13 @@ module _ {may_take : ℕ → ℕ → ℕ → Type 0} {old new : TableStory Plan}
             (subst (λ k. HasMade (standing_of z k) (run.team v)) (sym (shown-since s v other)) (was.made v z here)));
         timed = λ v below. timed v (subst (λ d. v < d.workers) s.shape below) (ℕ_discrete v w);
       } where
-        at-new : (v : ℕ) (ms : List Move) → AreTimed may_take (desk_at old.shape (load_of old.subject) v) ms → AreTimed may_take (desk_at new.shape (load_of new.subject) v) ms
+        at-new : (v : ℕ) (ms : List Move) → AreTimed may_take (desk_at old.shape (load_of old.subject) v) ms
+            → AreTimed may_take (desk_at new.shape (load_of new.subject) v) ms
         at-new v ms h = subst (λ (D : Desk Plan). AreTimed may_take (model_desk D) ms) (sym (desk-since s v)) h
 
         timed : (v : ℕ) → v < old.shape.workers → Dec (v ≡ w) → AreTimed may_take (desk_at new.shape (load_of new.subject) v) ((and_then run w more).team v)
         timed v below (yes e) = subst (λ k. AreTimed may_take (desk_at new.shape (load_of new.subject) k) ((and_then run w more).team k)) (sym e)
             (subst (AreTimed may_take (desk_at new.shape (load_of new.subject) w)) (sym (team-mine run w more))
             (at-new w (more ++ run.team w) (adds.timed (run.team w) (was.made w x got) (was.timed w low))))
-        timed v below (no n) = subst (AreTimed may_take (desk_at new.shape (load_of new.subject) v)) (sym (team-other run w more v n)) (at-new v (run.team v) (was.timed v below))
+        timed v below (no n) = subst (AreTimed may_take (desk_at new.shape (load_of new.subject) v)) (sym (team-other run w more v n))
+            (at-new v (run.team v) (was.timed v below))

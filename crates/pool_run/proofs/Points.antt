@@ -41,6 +41,10 @@ pub phase-more : (p : Phase) → More ≡ stepped p → is_ready p ≡ false
 phase-more (Ready u) e = absurd (cc)
 phase-more p e = refl
 
+pub under-way : (ready : Bool) → (ready ≡ true → ⊥) → ready ≡ false
+under-way true not = absurd (not refl)
+under-way false not = refl
+
 pub left-less : (D : Desk Plan) (n : ℕ) (p : Phase) → is_ready p ≡ false → IsBelow D n p → left D p < n
 left-less D n (Ready u) under below = absurd (cc)
 left-less D n p under below = below

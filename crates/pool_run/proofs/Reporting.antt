@@ -31,7 +31,7 @@ use Rattle.worker_machine.specs.Keeps.{HasMade, Standing}
 use Rattle.worker_machine.specs.Loads.{model_desk}
 use Rattle.worker_machine.specs.Told.{telling_of}
 use Rattle.pool_run.specs.Scenes.{Scene, HasPlayed, TeamFollows, NoneTurns, stands_in}
-use Rattle.pool_run.specs.Told.{IsToldBy}
+use Rattle.pool_run.specs.Collected.{IsToldBy}
 use Rattle.pool_run.proofs.Ending.{gaps-are, item-at}
 use Rattle.pool_run.proofs.Teams.{some-same}
 
@@ -42,7 +42,8 @@ beside-map f [] (y ∷ ys) b = absurd b
 beside-map f (x ∷ xs) [] b = absurd b
 
 -- what a worker has told by its moves
-made-is-told : (at : Standing) (ms : List Move) → HasMade at ms → HasRoom (model_desk at.desk) ms → HasTold (model_desk at.desk) at.trail ms (telling_of at.core at.phase)
+made-is-told : (at : Standing) (ms : List Move) → HasMade at ms → HasRoom (model_desk at.desk) ms
+    → HasTold (model_desk at.desk) at.trail ms (telling_of at.core at.phase)
 made-is-told at ms made room =
     let t = made.told.tells (record { replies = room.replies; records = room.records }) in
     record { replies = t.replies; records = t.records; short = t.short; shares = made.shares.are }
@@ -94,11 +95,12 @@ module _ {may_take : ℕ → ℕ → ℕ → Type 0} {at : Scene} {run : Run} (p
 
   pub report-of : {ran : Ran} → NoneTurns at.team → IsToldBy at.team ran → IsWhole at.table.shape (load_of at.table.subject) run
       → IsReportOf at.table.shape (load_of at.table.subject) run ran.report
-  report-of {ran} none told whole = merged-is-report at.table.shape (load_of at.table.subject) run (map tells at.team) ran.report whole (have-told none) (record {
-    replies = subst (λ l. IsPermutation l ran.report.replies) (sym (map-tells (λ t. t.replies) at.team)) told.replies;
-    by_query = told.by_query;
-    records = subst (λ l. IsPermutation l ran.report.records) (sym (map-tells (λ t. t.records) at.team)) told.records;
-    by_task = told.by_task;
-    shares = told.shares ∙ sym (map-tells (λ t. t.shares) at.team);
-    gaps = gaps-are played follows none ran.report.gaps told.gaps;
-  })
+  report-of {ran} none told whole = merged-is-report at.table.shape (load_of at.table.subject) run (map tells at.team) ran.report whole
+      (have-told none) (record {
+        replies = subst (λ l. IsPermutation l ran.report.replies) (sym (map-tells (λ t. t.replies) at.team)) told.replies;
+        by_query = told.by_query;
+        records = subst (λ l. IsPermutation l ran.report.records) (sym (map-tells (λ t. t.records) at.team)) told.records;
+        by_task = told.by_task;
+        shares = told.shares ∙ sym (map-tells (λ t. t.shares) at.team);
+        gaps = gaps-are played follows none ran.report.gaps told.gaps;
+      })

@@ -21,9 +21,9 @@ use Rattle.worker_machine.specs.Loads.{model_desk}
 use Rattle.worker_machine.specs.PointsOf.{point_of}
 use Rattle.worker_machine.specs.Turning.{Adds, Goes}
 use Rattle.pool_run.specs.Rests.{Rests}
-use Rattle.pool_run.specs.Scenes.{stands_in}
+use Rattle.pool_run.specs.Scenes.{Since, stands_in}
 use Rattle.pool_run.proofs.Points.{ended-in}
-use Rattle.pool_run.proofs.SeatViews.{Since, desk-since}
+use Rattle.pool_run.proofs.SeatViews.{desk-since}
 
 -- the steps of w so far: what they left to others, and what moves they were
 pub record OnTheWay (may_take : ℕ → ℕ → ℕ → Type 0) (old new : TableStory Plan) (w : ℕ) (x y : Worker) : Type 0 where
@@ -60,12 +60,14 @@ module _ {may_take : ℕ → ℕ → ℕ → Type 0} {old mid new : TableStory P
   desk-then = desk-since way.since w
 
   may-then : (ms : List Move) → HasMade (stands_in old w x) ms → May (model_desk (desk_over old w)) (way.goes.more ++ ms) m.move
-  may-then ms made = subst (λ (D : Desk Plan). May (model_desk D) (way.goes.more ++ ms) m.move) desk-then (m.may (way.goes.more ++ ms) (way.goes.adds.made ms made))
+  may-then ms made =
+      subst (λ (D : Desk Plan). May (model_desk D) (way.goes.more ++ ms) m.move) desk-then (m.may (way.goes.more ++ ms) (way.goes.adds.made ms made))
 
   adds-then : Adds may_take (stands_in old w x) (m.move ∷ way.goes.more) (stands_in new w z)
   adds-then = record {
     timed = λ ms made t. (
-      subst (λ (D : Desk Plan). IsTimed may_take (model_desk D) (way.goes.more ++ ms) m.move) desk-then (m.timed (way.goes.more ++ ms) (way.goes.adds.made ms made)),
+      subst (λ (D : Desk Plan). IsTimed may_take (model_desk D) (way.goes.more ++ ms) m.move) desk-then
+          (m.timed (way.goes.more ++ ms) (way.goes.adds.made ms made)),
       way.goes.adds.timed ms made t,
     );
     made = λ ms made. m.made (way.goes.more ++ ms) (way.goes.adds.made ms made);

@@ -9,14 +9,14 @@ use Rattle.slot_station.specs.declared.note.Note.{Note}
 use Rattle.slot_station.specs.Desks.{Desk, Seen}
 use Rattle.slot_station.specs.Log.{calls_of, note_in}
 use Rattle.one_thread.specs.Tables.{TableStory}
-use Rattle.one_thread.specs.Seats.{IsSince, SeatOrigin, desk_over, seen_by, trail_in}
+use Rattle.one_thread.specs.Seats.{SeatOrigin, desk_over, seen_by, trail_in}
 use Rattle.one_thread.proofs.Others.{others-stay}
 use Rattle.bench_cell.specs.declared.plan.Plan.{Plan}
 use Rattle.worker_machine.specs.declared.state.Worker.{Worker}
 use Rattle.worker_machine.specs.Following.{Follows}
 use Rattle.worker_machine.specs.Keeps.{Standing}
 use Rattle.worker_machine.specs.Turning.{standing_of}
-use Rattle.pool_run.specs.Scenes.{shown, FollowsIn, stands_in}
+use Rattle.pool_run.specs.Scenes.{shown, FollowsIn, Since, stands_in}
 use Rattle.pool_run.proofs.Elsewhere.{follows-elsewhere}
 
 -- what a seat shows, by what is borrowed, over a table with this log
@@ -57,20 +57,17 @@ over-after {origin} {now} {table} start v w is shape subject same mine =
     let who : origin.worker ≡ w = ap (λ (D : Desk Plan). D.worker) same ∙ mine in
     let over : desk_over origin.start origin.worker ≡ desk_over now w =
     ap₂ (λ d s. record { worker = origin.worker; shape = d; subject = s }) (sym shape) (sym subject) ∙ ap (desk_over now) who in
-    record { desk = subst (λ (t : TableStory Plan). desk_over origin.start origin.worker ≡ desk_over t w) (sym is) over; log_is = ap (λ (t : TableStory Plan). t.log) (sym is) }
+    record {
+      desk = subst (λ (t : TableStory Plan). desk_over origin.start origin.worker ≡ desk_over t w) (sym is) over;
+      log_is = ap (λ (t : TableStory Plan). t.log) (sym is);
+    }
 
 -- what holds from where a worker stood to where it stands, by the seat and by the table
-pub both-same : (P : Standing → Standing → Type 0) {origin origin' : SeatOrigin Plan} {log log' : List Logged} {table table' : TableStory Plan} {w : ℕ} (x y : Worker)
-    → IsOver origin log table w → IsOver origin' log' table' w → P (standing_of x (seat_shows origin log)) (standing_of y (seat_shows origin' log'))
-    → P (stands_in table w x) (stands_in table' w y)
+pub both-same : (P : Standing → Standing → Type 0) {origin origin' : SeatOrigin Plan} {log log' : List Logged} {table table' : TableStory Plan}
+    {w : ℕ} (x y : Worker) → IsOver origin log table w → IsOver origin' log' table' w
+    → P (standing_of x (seat_shows origin log)) (standing_of y (seat_shows origin' log')) → P (stands_in table w x) (stands_in table' w y)
 both-same P {origin' = origin'} {log' = log'} {table = table} {w = w} x y before after h =
     subst (P (stands_in table w x)) (stands-same after y) (subst (λ s. P s (standing_of y (seat_shows origin' log'))) (stands-same before x) h)
-
--- the steps of w leave what others show
-pub record Since (old new : TableStory Plan) (w : ℕ) : Type 0 where
-  pub shape : new.shape ≡ old.shape
-  pub subject : new.subject ≡ old.subject
-  pub since : ∥ IsSince old new w ∥₁
 
 pub desk-since : {old new : TableStory Plan} {w : ℕ} → Since old new w → (v : ℕ) → desk_over new v ≡ desk_over old v
 desk-since s v = ap₂ (λ d u. record { worker = v; shape = d; subject = u }) s.shape s.subject

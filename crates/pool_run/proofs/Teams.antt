@@ -1,5 +1,6 @@
 -- A team after the steps of one of its workers.
-use Rattle.std.proofs.Common.{◌≡◌, ◌≢◌, ℕ, ◌+◌, ◌<◌, List, [], ◌∷◌, ◌++◌, length, slice_get, slice_set, Some, unwrap_or, true, refl, sym, ap, ◌∙◌, subst, arith}
+use Rattle.std.proofs.Common.{◌≡◌, ◌≢◌, ◌⊎◌, inl, inr, ℕ, ◌+◌, ◌<◌, List, [], ◌∷◌, ◌++◌}
+use Rattle.std.proofs.Common.{length, slice_get, slice_set, Some, unwrap_or, true, refl, sym, ap, ◌∙◌, subst, arith}
 use native.Mathlib.Decide.{ℕ_discrete}
 use Rattle.std.proofs.lemmas.List.{length-set, length-append, get_or_push, get_or_append_left}
 use Rattle.std.proofs.Math.Seq.{get_or-append_seam}
@@ -12,8 +13,8 @@ use Rattle.bench_cell.specs.declared.plan.Plan.{Plan}
 use Rattle.worker_machine.specs.declared.state.Worker.{Worker}
 use Rattle.worker_machine.specs.Following.{Follows, IsNewFor}
 use Rattle.worker_machine.specs.Left.{is_ready}
-use Rattle.pool_run.specs.Scenes.{scene, AreNew, FollowsIn, TeamFollows, NoneTurns}
-use Rattle.pool_run.proofs.SeatViews.{Since, shown-since}
+use Rattle.pool_run.specs.Scenes.{scene, AreNew, FollowsIn, IsBetween, NoneTurnsBelow, Since, StaysBetween, TeamFollows}
+use Rattle.pool_run.proofs.SeatViews.{shown-since}
 
 pub some-same : {A : Type 0} (x y : A) → Some x ≡ Some y → x ≡ y
 some-same x y e = ap (λ o. unwrap_or o x) e
@@ -37,8 +38,26 @@ module _ {old new : TableStory Plan} {w : ℕ} (s : Since old new w) (team : Lis
         (λ v y other got. subst (Follows y) (sym (shown-since s v other)) (was.each v y got));
   }
 
-pub none-turns : (team : List Worker) (w : ℕ) (x : Worker) → w < length team → is_ready x.phase ≡ true → NoneTurns team → NoneTurns (slice_set team w x)
-none-turns team w x low ready none = each-set team w x (λ v y. is_ready y.phase ≡ true) low ready (λ v y other got. none v y got)
+-- whoever had no turn under way has none after steps of a worker that ended its turn
+pub stays-between : (team : List Worker) (w : ℕ) (x : Worker) → w < length team → is_ready x.phase ≡ true → StaysBetween w team (slice_set team w x)
+stays-between team w x low ready v was y here =
+    each-set team w x (λ u z. (u ≡ w) ⊎ IsBetween team u → is_ready z.phase ≡ true) low (λ _. ready) ends v y here was where
+      ends : (u : ℕ) (z : Worker) → u ≢ w → slice_get team u ≡ Some z → (u ≡ w) ⊎ IsBetween team u → is_ready z.phase ≡ true
+      ends u z other got (inl e) = absurd (other e)
+      ends u z other got (inr between) = between z got
+
+-- and if nothing happens to a worker that has none
+pub stays-still : (team : List Worker) (w : ℕ) (x : Worker) → slice_get team w ≡ Some x → is_ready x.phase ≡ true → StaysBetween w team team
+stays-still team w x at ready v (inl e) y here =
+    subst (λ (z : Worker). is_ready z.phase ≡ true) (some-same x y (sym at ∙ ap (slice_get team) (sym e) ∙ here)) ready
+stays-still team w x at ready v (inr was) y here = was y here
+
+-- one worker more
+pub none-more : (old new : List Worker) (w : ℕ) → StaysBetween w old new → NoneTurnsBelow w old → NoneTurnsBelow (w + 1) new
+none-more old new w stays none v low = at (ℕ_discrete v w) where
+  at : Dec (v ≡ w) → IsBetween new v
+  at (yes e) = stays v (inl e)
+  at (no n) = stays v (inr (none v (omega arith)))
 
 -- ---- new workers
 

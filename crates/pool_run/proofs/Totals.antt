@@ -48,8 +48,8 @@ says-told : (D : Desk Workload) (ms : List Move) (p : Place) → OpensSays D ms 
 says-told D ms (Announcing s again k) = tt
 says-told D ms p = tt
 
-set-says : (totals : ℕ → Option ℕ) (p : Place) (n : ℕ) → totals (next_id (held_at p)) ≡ Some n → (k : ℕ) → (held_at (holding_after (SetTotal n) p)).total ≡ Some k
-    → totals (next_id (held_at (holding_after (SetTotal n) p))) ≡ Some k
+set-says : (totals : ℕ → Option ℕ) (p : Place) (n : ℕ) → totals (next_id (held_at p)) ≡ Some n → (k : ℕ)
+    → (held_at (holding_after (SetTotal n) p)).total ≡ Some k → totals (next_id (held_at (holding_after (SetTotal n) p))) ≡ Some k
 set-says totals (Holding s held) n is k set = is ∙ set
 set-says totals p n is k set = absurd (cc)
 

@@ -1,18 +1,26 @@
 -- Whole runs, from workers that made no call.
-use Rattle.std.proofs.Common.{◌≡◌, ℕ, ◌≤◌, Result, Ok, Err, IfOk, List, [], All, length, refl, sym, ap, ap₂, ◌∙◌, subst}
+use Rattle.std.proofs.Common.{◌≡◌, ℕ, ◌<◌, ◌≤◌, Result, Ok, Err, IfOk, List, [], All, length, get_or, refl, sym, ap, ◌∙◌, subst, arith}
 use Rattle.std.specs.List.{range_with_len}
 use Rattle.run_laws.specs.Ends.{IsWork}
+use Rattle.run_laws.specs.Scheduled.{IsFairTo, ScheduledRun}
+use Rattle.run_laws.proofs.CompleteRuns.{complete-whole, driven-played}
+use Rattle.run_laws.proofs.Scheduled.{runs-are-scheduled}
 use Rattle.slot_history.specs.Bounds.{IsShape}
 use Rattle.pool_run.specs.Plays.{Play}
+use Rattle.std.proofs.lemmas.List.{length-map}
 use Rattle.std.proofs.lemmas.List.Elements.{All-nil}
 use Rattle.report_text.specs.declared.replies.QueryReply.{QueryReply}
-use Rattle.turn_model.specs.Reports.{IsReplyTo, IsReportOf}
+use Rattle.report_text.specs.declared.report.Gap.{Gap}
+use Rattle.std.proofs.lemmas.Option.{slice_get-get_or}
+use Rattle.turn_model.specs.Moves.{Move}
+use Rattle.turn_model.specs.Reports.{AreGaps, IsReplyTo, IsReportOf}
 use Rattle.slot_history.specs.Histories.{IsLegal, own_calls, place_of}
 use Rattle.slot_station.specs.Desks.{Desk}
 use Rattle.slot_station.specs.Log.{calls_of}
 use Rattle.one_thread.specs.Tables.{TableStory}
 use Rattle.one_thread.specs.Seats.{desk_over, trail_in}
-use Rattle.turn_model.specs.Runs.{Run, HasRun, IsComplete, nothing_done}
+use Rattle.turn_model.specs.Runs.{Run, IsComplete, nothing_done}
+use Rattle.turn_model.specs.Orders.{IsByTurns, IsByMoves}
 use Rattle.turn_model.specs.Told.{told_by}
 use Rattle.bench_cell.specs.declared.plan.Plan.{Plan}
 use Rattle.worker_machine.specs.declared.ran.Ran.{Ran}
@@ -28,13 +36,15 @@ use Rattle.worker_machine.proofs.Untold.{none-told, none-written}
 use Rattle.worker_machine.proofs.Picking.{sets-are}
 use Rattle.std.specs.Arc.{arc_value}
 use Rattle.std.specs.Vec.{vec_capacity}
-use Rattle.turn_model.specs.Workloads.{sets_of}
-use Rattle.pool_run.specs.Left.{Asked, RanByTurns, RanByMoves, asked_in, outcome_of}
-use Rattle.pool_run.specs.Plays.{Leads, turns_by, moves_by, ends_of, rounds}
+use Rattle.turn_model.specs.Workloads.{Workload, sets_of}
+use Rattle.slot_history.specs.declared.shape.Shape.{Shape}
+use Rattle.pool_run.specs.Runs.{IsFairGap, ReportsBy, RanBy, RanByTurns, RanByMoves, asked_in}
+use Rattle.pool_run.specs.Plays.{Leads, stints_by, rounds}
+use Rattle.pool_run.specs.declared.stint.Stint.TheVariants.{WholeTurn, OneStep, RestOfTurn}
 use Rattle.pool_run.specs.Scenes.{Scene, IsNew, HasPlayed, TeamFollows, NoneTurns, AreOver, FollowsIn, shown, stands_in}
-use Rattle.pool_run.specs.Told.{IsToldBy}
+use Rattle.pool_run.specs.Collected.{IsToldBy}
 use Rattle.pool_run.proofs.Ending.{completes, item-at, times-are}
-use Rattle.pool_run.proofs.DrivenWhole.{complete-whole}
+use Rattle.pool_run.proofs.Orders.{back, forth}
 use Rattle.pool_run.proofs.Reporting.{report-of}
 use Rattle.pool_run.proofs.Works.{none-past}
 
@@ -103,72 +113,91 @@ pub record Closes (at : Scene) (ran : Ran) : Type 0 where
   pub history : ran.history ≡ calls_of at.table.log
   pub told : IsToldBy at.team ran
 
-record IsDone (may_take : ℕ → ℕ → ℕ → Type 0) (asked : Asked) (run : Run) (ran : Ran) : Type 0 where
-  complete : IsComplete may_take asked.shape asked.load run
-  told : IsReportOf asked.shape asked.load run ran.report
+-- the gaps of a run that is fair to each worker
+gaps-fair : (d : Shape) (load : Workload) (team : ℕ → List Move) (gaps : List Gap) → AreGaps d load team gaps
+    → ((w : ℕ) → w < d.workers → IsFairTo d load w (team w)) → All IsFairGap gaps
+gaps-fair d load team gaps are fair = λ k other within.
+    let is = are.each k (get_or gaps k other) (slice_get-get_or gaps k other within) in
+    let count : length gaps ≡ d.workers = are.count in
+    let low = fair k (omega arith) in
+    let widest = is.widest in
+    let largest = is.largest in
+    omega (arith, widest, largest, low)
 
 module _ {may_take : ℕ → ℕ → ℕ → Type 0} {at : Scene} {run : Run} {ran : Ran} (played : HasPlayed may_take at run) (end : Closes at ran) where
-  done : (order : List ℕ) → IsDone may_take (asked_in at.table order) run ran
-  done order = record {
-    complete = completes played end.follows end.legal end.over;
-    told = report-of played end.follows end.legal end.none end.told
-        (complete-whole may_take at.table.shape (load_of at.table.subject) run end.work
-        (λ q past. none-past at.table.subject q (subst (λ n. n ≤ q) (queries-are end.follows end.limits) past))
-        (completes played end.follows end.legal end.over));
+  -- the report of a run that ends so, whatever its order
+  reports-by : (order : List ℕ) → All (λ w. w < at.table.shape.workers) order → (IsByOrder : Run → Type 0) → IsByOrder run
+      → ReportsBy may_take (asked_in at.table order) IsByOrder ran.report
+  reports-by order of_workers IsByOrder by =
+      let d = at.table.shape in
+      let load = load_of at.table.subject in
+      let complete : IsComplete may_take d load run = completes played end.follows end.legal end.over in
+      let told : IsReportOf d load run ran.report = report-of played end.follows end.legal end.none end.told (complete-whole may_take d load run end.work
+      (λ q past. none-past at.table.subject q (subst (λ n. n ≤ q) (queries-are end.follows end.limits) past)) complete) in
+      let scheduled : ScheduledRun d load run ran.report = runs-are-scheduled d load run ran.report (record {
+        work = end.work;
+        played = driven-played may_take d load run complete.driven;
+        of_load = complete.driven.of_load;
+        over = complete.over;
+      }) told in
+      record {
+        work = end.work;
+        of_workers = of_workers;
+        run = run;
+        by_order = by;
+        complete = complete;
+        told = told;
+        scheduled = scheduled;
+        fair = gaps-fair d load run.team ran.report.gaps told.gaps scheduled.fair;
+      }
+
+  ran-by : (order : List ℕ) → All (λ w. w < at.table.shape.workers) order → (IsByOrder : Run → Type 0) → IsByOrder run
+      → RanBy may_take (asked_in at.table order) IsByOrder ran
+  unfolding reports-by
+  ran-by order of_workers IsByOrder by = record {
+    report = reports-by order of_workers IsByOrder by;
+    has = record { history = played.history ∙ sym end.history; times_are = λ w. times-are played end.follows ran.times.items end.told.times w };
+    times = ap length end.told.times ∙ length-map at.team (λ (w : Worker). w.core.times) ∙ end.follows.count;
   }
 
-  has-run : HasRun run (outcome_of ran).history (outcome_of ran).times
-  has-run = record { history = played.history ∙ sym end.history; times_are = λ w. times-are played end.follows ran.times.items end.told.times w }
+-- these workers, and a run that was asked for, by shape and work
+abbrev OfWorkers : List ℕ → Shape → Workload → Type 0
+OfWorkers order d load = All (λ w. w < d.workers) order
 
-asked-same : (a b : TableStory Plan) (order : List ℕ) → b.shape ≡ a.shape → b.subject ≡ a.subject → asked_in b order ≡ asked_in a order
-asked-same a b order shape subject = ap₂ (λ d s. record { shape = d; load = load_of s; order = order }) shape subject
+abbrev RanAs : (ℕ → ℕ → ℕ → Type 0) → List ℕ → Ran → (Run → Type 0) → Shape → Workload → Type 0
+RanAs may_take order ran IsByOrder d load = RanBy may_take (record { shape = d; load = load; order = order }) IsByOrder ran
 
-module _ {may_take : ℕ → ℕ → ℕ → Type 0} {a b c : Scene} {ran : Ran} (order : List ℕ) (new : IsNew a) where
-  pub ran-by-turns : Leads may_take (turns_by order) a b → Leads may_take rounds b c → Closes c ran → RanByTurns may_take (asked_in a.table order) (outcome_of ran)
+module _ {may_take : ℕ → ℕ → ℕ → Type 0} {a b c : Scene} {ran : Ran} (order : List ℕ) (new : IsNew a)
+    (of_workers : All (λ w. w < a.table.shape.workers) order) where
+  pub ran-by-turns : Leads may_take (stints_by WholeTurn order) a b → Leads may_take rounds b c → Closes c ran
+      → RanByTurns may_take (asked_in a.table order) ran
   ran-by-turns p q end =
       let x = p.leads nothing_done (new-played new may_take) in
       let y = q.leads x.next x.played in
-      let is : IsDone may_take (asked_in a.table order) y.next ran =
-      subst (λ k. IsDone may_take k y.next ran) (asked-same a.table c.table order (q.shape ∙ p.shape) (q.subject ∙ p.subject)) (done y.played end order) in
-      record {
-        report = record {
-          run = y.next;
-          complete = is.complete;
-          by_turns = record {
-            middle = x.next;
-            turns = x.plays;
-            rounds = subst (λ s. rounds a.table.shape (load_of s) x.next y.next) p.subject (subst (λ d. rounds d (load_of b.table.subject) x.next y.next) p.shape y.plays);
-          };
-          told = is.told;
-        };
-        has = has-run y.played end;
-      }
+      let IsBy = IsByTurns a.table.shape (load_of a.table.subject) order in
+      let by : IsBy y.next = record { middle = x.next; turns = x.plays; rounds = back p (λ d load. rounds d load x.next y.next) y.plays } in
+      let workers : OfWorkers order c.table.shape (load_of c.table.subject) = forth q (OfWorkers order) (forth p (OfWorkers order) of_workers) in
+      back p (RanAs may_take order ran IsBy) (back q (RanAs may_take order ran IsBy) (ran-by y.played end order workers IsBy by))
 
-  pub ran-by-moves : {m : Scene} → Leads may_take (moves_by order) a m → Leads may_take (ends_of (range_with_len 0 m.table.shape.workers)) m b
-      → Leads may_take rounds b c → Closes c ran → RanByMoves may_take (asked_in a.table order) (outcome_of ran)
+  pub ran-by-moves : {m : Scene} → Leads may_take (stints_by OneStep order) a m
+      → Leads may_take (stints_by RestOfTurn (range_with_len 0 m.table.shape.workers)) m b → Leads may_take rounds b c → Closes c ran
+      → RanByMoves may_take (asked_in a.table order) ran
   ran-by-moves {m} p r q end =
       let x = p.leads nothing_done (new-played new may_take) in
       let z = r.leads x.next x.played in
       let y = q.leads z.next z.played in
-      let is : IsDone may_take (asked_in a.table order) y.next ran =
-      subst (λ k. IsDone may_take k y.next ran) (asked-same a.table c.table order (q.shape ∙ r.shape ∙ p.shape) (q.subject ∙ r.subject ∙ p.subject)) (done y.played end order) in
-      record {
-        report = record {
-          run = y.next;
-          complete = is.complete;
-          by_moves = record {
-            first = x.next;
-            second = z.next;
-            moves = x.plays;
-            ended = subst (λ s. ends_of (range_with_len 0 a.table.shape.workers) a.table.shape (load_of s) x.next z.next) p.subject
-                (subst (λ d. ends_of (range_with_len 0 d.workers) d (load_of m.table.subject) x.next z.next) p.shape z.plays);
-            rounds = subst (λ s. rounds a.table.shape (load_of s) z.next y.next) (r.subject ∙ p.subject)
-                (subst (λ d. rounds d (load_of b.table.subject) z.next y.next) (r.shape ∙ p.shape) y.plays);
-          };
-          told = is.told;
-        };
-        has = has-run y.played end;
-      }
+      let IsBy = IsByMoves a.table.shape (load_of a.table.subject) order in
+      let by : IsBy y.next = record {
+        first = x.next;
+        second = z.next;
+        moves = x.plays;
+        ended = back p (λ d load. stints_by RestOfTurn (range_with_len 0 d.workers) d load x.next z.next) z.plays;
+        rounds = back p (λ d load. rounds d load z.next y.next) (back r (λ d load. rounds d load z.next y.next) y.plays);
+      } in
+      let workers : OfWorkers order c.table.shape (load_of c.table.subject) =
+      forth q (OfWorkers order) (forth r (OfWorkers order) (forth p (OfWorkers order) of_workers)) in
+      back p (RanAs may_take order ran IsBy) (back r (RanAs may_take order ran IsBy) (back q (RanAs may_take order ran IsBy)
+      (ran-by y.played end order workers IsBy by)))
 
 -- an answer of which two facts hold, if there is one
 pub ends-with : {A E : Type 0} {H T P : A → Type 0} (r : Result A E) → ((x : A) → H x → T x → P x) → IfOk r H → IfOk r T → IfOk r P
@@ -177,5 +206,4 @@ ends-with (Err e) make h t = tt
 
 pub still-works : {may_take : ℕ → ℕ → ℕ → Type 0} {play : Play} {a b : Scene} → Leads may_take play a b → IsWork a.table.shape (load_of a.table.subject)
     → IsWork b.table.shape (load_of b.table.subject)
-still-works {a = a} {b = b} p work =
-    subst (λ d. IsWork d (load_of b.table.subject)) (sym p.shape) (subst (λ s. IsWork a.table.shape (load_of s)) (sym p.subject) work)
+still-works p work = forth p IsWork work

@@ -1,5 +1,5 @@
 -- The work of a plan.
-use Rattle.std.proofs.Common.{◌≡◌, ℕ, ◌<◌, ◌≤◌, length, slice_get, Some, sym, ap, ◌∙◌, subst, arith, inl, inr}
+use Rattle.std.proofs.Common.{◌≡◌, ℕ, ◌<◌, ◌≤◌, List, length, slice_get, Some, sym, ap, ◌∙◌, subst, arith, inl, inr}
 use Rattle.std.specs.Option.{option_map, option_map_or}
 use Rattle.std.specs.Arc.{arc_value}
 use Rattle.std.proofs.lemmas.List.{length-map}
@@ -11,12 +11,11 @@ use Rattle.plan_ast.specs.Stages.{merges_of}
 use Rattle.plan_ast.specs.declared.checks.Checked.{Checked}
 use Rattle.plan_ast.specs.declared.queries.Output.{Output}
 use Rattle.plan_ast.specs.declared.queries.Output.TheVariants.{Rows, Totals, Groups}
-use Rattle.turn_model.specs.Measure.{ArriveInTime}
 use Rattle.run_laws.specs.Ends.{IsWork}
 use Rattle.bench_cell.specs.declared.plan.Plan.{Plan}
 use Rattle.bench_cell.specs.Plans.{checked_of, stages_in, tables_of}
-use Rattle.worker_machine.specs.Loads.{load_of}
 use Rattle.worker_machine.specs.Plans.{stages_at}
+use Rattle.pool_run.specs.Runs.{MayRun, asked_of}
 
 few-merges : (o : Output) → merges_of o ≤ 1
 few-merges (Rows columns) = omega arith
@@ -29,7 +28,8 @@ query-at plan q low = elim (slice_get_cases plan.queries.items q).1 [
   | inl p ↦ (
     arc_value p.0,
     slice_get-map arc_value plan.queries.items q ∙ ap (option_map arc_value) p.2,
-    subst (λ query. IsCheckedFor (tables_of plan) (arc_value query)) p.3 (All-get_or (λ query. IsCheckedFor (tables_of plan) (arc_value query)) plan.queries.items q p.0 low plan.checked),
+    subst (λ query. IsCheckedFor (tables_of plan) (arc_value query)) p.3
+        (All-get_or (λ query. IsCheckedFor (tables_of plan) (arc_value query)) plan.queries.items q p.0 low plan.checked),
   )
   | inr p ↦ absurd (omega arith)
 ]
@@ -37,18 +37,18 @@ query-at plan q low = elim (slice_get_cases plan.queries.items q).1 [
 stages-are : (plan : Plan) (q : ℕ) (c : Checked) → slice_get (checked_of plan) q ≡ Some c → stages_at plan q ≡ stages_in c
 stages-are plan q c here = ap (λ o. option_map_or stages_in o 0) here
 
-pub plan-works : (plan : Plan) (workers slots : ℕ) → (0 < workers) × (workers ≤ 64) → (0 < slots) × (slots ≤ 128)
-    → ArriveInTime (record { workers = workers; slots = slots; queries = length plan.queries.items }) (load_of plan)
-    → IsWork (record { workers = workers; slots = slots; queries = length plan.queries.items }) (load_of plan)
-plan-works plan workers slots w s in_time = record {
-  shape = record { slots = s; workers = w; queries = plan.few };
+-- what may be asked of a plan is work of a run that ends
+pub plan-works : (plan : Plan) (workers slots : ℕ) (order : List ℕ) → let asked = asked_of plan workers slots order in
+    MayRun asked → IsWork asked.shape asked.load
+plan-works plan workers slots order may = record {
+  shape = record { slots = may.slots; workers = may.workers; queries = plan.few };
   some = λ q low. let c = query-at plan q low in subst (λ n. 0 < n) (sym (stages-are plan q c.0 c.1)) (omega arith);
   few = λ q low.
       let c = query-at plan q low in
       let joins : length (query_of c.0).joins ≤ 2 = c.2.bounds.joins in
       let merges : merges_of (query_of c.0).output ≤ 1 = few-merges (query_of c.0).output in
       subst (λ n. n ≤ STAGES) (sym (stages-are plan q c.0 c.1)) (omega arith);
-  in_time = in_time;
+  in_time = may.in_time;
 }
 
 -- past the last query there are none

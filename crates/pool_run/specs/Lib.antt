@@ -1,5 +1,6 @@
 pub mod Scenes
+pub mod Stints
 pub mod Plays
-pub mod Left
-pub mod Told
+pub mod Collected
+pub mod Runs
 pub mod Rests

@@ -1,35 +1,27 @@
--- What a part of a run does: from any run so far to one that goes on from it.
-use Rattle.std.specs.Prelude.{◌≡◌, ℕ, true, List}
+-- What a stretch of a run does: from any run so far to one that goes on from it.
+use Rattle.std.specs.Prelude.{◌≡◌, ℕ, List}
 use Rattle.slot_history.specs.declared.shape.Shape.{Shape}
 use Rattle.turn_model.specs.Workloads.{Workload}
-use Rattle.turn_model.specs.Points.{has_ended}
 use Rattle.turn_model.specs.Runs.{Run}
-use Rattle.turn_model.specs.Orders.{PlayInOrder, PlaysOn, PlayTurns, PlayMoves, PlayRounds}
-use Rattle.turn_model.specs.Orders.{point_in}
+use Rattle.turn_model.specs.Orders.{PlayRounds}
 use Rattle.worker_machine.specs.Loads.{load_of}
+use Rattle.pool_run.specs.declared.stint.Stint.{Stint}
+use Rattle.pool_run.specs.Stints.{PlayStints}
 use Rattle.pool_run.specs.Scenes.{Scene, HasPlayed}
 
 -- what may become of a run, over an object of a shape and for a workload
 abbrev pub Play : Type 1
 Play = Shape → Workload → Run → Run → Type 0
 
--- whole turns, and single moves, by an order
-abbrev pub turns_by : List ℕ → Play
-turns_by order d load run next = PlayTurns d load order run next
-
-abbrev pub moves_by : List ℕ → Play
-moves_by order d load run next = PlayMoves d load order run next
-
--- the turns that these workers have under way are ended
-abbrev pub ends_of : List ℕ → Play
-ends_of order d load run next =
-    PlayInOrder d load (PlaysOn d load) (λ r w. has_ended (point_in d load r w) ≡ true) order run next
+-- the workers of an order play a stint
+abbrev pub stints_by : Stint → List ℕ → Play
+stints_by stint order d load run next = PlayStints d load stint order run next
 
 -- rounds up to the end
 abbrev pub rounds : Play
 rounds d load run next = PlayRounds d load run next
 
--- rounds: whatever ends with rounds after them ends with rounds before them
+-- some rounds were played: whatever rounds go on from there go on from where they began
 abbrev pub some_rounds : Play
 some_rounds d load run next = (end : Run) → PlayRounds d load next end → PlayRounds d load run end
 

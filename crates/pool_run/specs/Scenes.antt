@@ -1,10 +1,10 @@
 -- A table with its workers, and the run that brought them there.
-use Rattle.std.specs.Prelude.{◌≡◌, ℕ, ◌<◌, ◌≤◌, true, List, [], length, slice_get, Some}
+use Rattle.std.specs.Prelude.{◌≡◌, ℕ, ◌<◌, ◌≤◌, ◌⊎◌, true, List, [], length, slice_get, Some}
 use Rattle.slot_history.specs.Histories.{IsLegal}
 use Rattle.slot_station.specs.Desks.{Seen}
 use Rattle.slot_station.specs.Log.{calls_of}
 use Rattle.one_thread.specs.Tables.{TableStory}
-use Rattle.one_thread.specs.Seats.{desk_over, shown_by}
+use Rattle.one_thread.specs.Seats.{IsSince, desk_over, shown_by}
 use Rattle.turn_model.specs.Runs.{Run, AreTimed, desk_at}
 use Rattle.bench_cell.specs.declared.plan.Plan.{Plan}
 use Rattle.worker_machine.specs.declared.phase.Phase.TheVariants.{Ready}
@@ -23,6 +23,14 @@ pub record Scene : Type 0 where
 abbrev pub scene : TableStory Plan → List Worker → Scene
 scene table team = record { table = table; team = team }
 
+-- the table of a plan, for so many workers and slots, over which no call was made
+abbrev pub new_table : Plan → ℕ → ℕ → TableStory Plan
+new_table plan workers slots = record {
+  shape = record { workers = workers; slots = slots; queries = length plan.queries.items };
+  subject = plan;
+  log = [];
+}
+
 -- what the seat of w shows
 abbrev pub shown : TableStory Plan → ℕ → Seen (Unit {0}) Plan
 shown table w = shown_by (desk_over table w) table.log
@@ -34,21 +42,33 @@ FollowsIn table w worker = Follows worker (shown table w)
 abbrev pub stands_in : TableStory Plan → ℕ → Worker → Standing
 stands_in table w worker = standing_of worker (shown table w)
 
+-- the steps of w leave what the seats of others show
+pub record Since (old new : TableStory Plan) (w : ℕ) : Type 0 where
+  pub shape : new.shape ≡ old.shape
+  pub subject : new.subject ≡ old.subject
+  pub since : ∥ IsSince old new w ∥₁
+
 -- each worker of the table stands in the team at its number, and follows its seat
 pub record TeamFollows (at : Scene) : Type 0 where
   pub count : length at.team ≡ at.table.shape.workers
   pub each : (w : ℕ) (worker : Worker) → slice_get at.team w ≡ Some worker
       → FollowsIn at.table w worker
 
--- no turn is under way
-abbrev pub NoneTurns : List Worker → Type 0
-NoneTurns team = (w : ℕ) (worker : Worker) → slice_get team w ≡ Some worker
+-- this worker has no turn under way
+abbrev pub IsBetween : List Worker → ℕ → Type 0
+IsBetween team w = (worker : Worker) → slice_get team w ≡ Some worker
     → is_ready worker.phase ≡ true
 
--- no turn of these workers is under way
+-- no turn is under way, and no turn of these workers
+abbrev pub NoneTurns : List Worker → Type 0
+NoneTurns team = (w : ℕ) → IsBetween team w
+
 abbrev pub NoneTurnsBelow : ℕ → List Worker → Type 0
-NoneTurnsBelow n team = (w : ℕ) (worker : Worker) → w < n → slice_get team w ≡ Some worker
-    → is_ready worker.phase ≡ true
+NoneTurnsBelow n team = (w : ℕ) → w < n → IsBetween team w
+
+-- whoever had no turn under way has none, nor has w
+abbrev pub StaysBetween : ℕ → List Worker → List Worker → Type 0
+StaysBetween w old new = (v : ℕ) → (v ≡ w) ⊎ IsBetween old v → IsBetween new v
 
 -- the last turn of every worker ended with Over
 abbrev pub AreOver : List Worker → Type 0

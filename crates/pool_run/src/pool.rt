@@ -1,19 +1,22 @@
-// A table for one thread and all its workers, and the parts of a run.
-ghost use Rattle.std.specs.Prelude.{◌≡◌, ◌+◌, ◌<◌, ◌≤◌, [], ◌∷◌, All, IfOk, IsTrue, length};
+// A table for one thread and all its workers, and the stretches of a run.
+ghost use Rattle.std.specs.Prelude.{◌≡◌, ◌+◌, ◌<◌, ◌≤◌, [], ◌∷◌, All, IfOk, IsTrue};
 ghost use Rattle.std.specs.Arc.{arc_value};
 ghost use Rattle.std.specs.List.{range_with_len};
 ghost use Rattle.slot_history.specs.Histories.{IsLegal};
 ghost use Rattle.slot_station.specs.Log.{calls_of};
-ghost use Rattle.pool_run.specs.Plays.{Leads, turns_by, moves_by, ends_of, rounds};
-ghost use Rattle.pool_run.specs.Scenes.{scene, TeamFollows, NoneTurns, NoneTurnsBelow, AreNew};
-ghost use Rattle.pool_run.specs.Scenes.{AreOver, Between, HasGoing, IsNew};
+ghost use Rattle.pool_run.specs.Plays.{Leads, stints_by, rounds};
+ghost use Rattle.pool_run.specs.Scenes.{scene, TeamFollows, IsBetween, StaysBetween, NoneTurns};
+ghost use Rattle.pool_run.specs.Scenes.{AreNew, AreOver, Between, HasGoing, IsNew, new_table};
+ghost use Rattle.pool_run.specs.Stints.{EndsTurns};
+ghost use Rattle.pool_run.specs.declared.stint.Stint.TheVariants.{WholeTurn};
 ghost use Rattle.run_laws.specs.Ends.{IsWork};
 ghost use Rattle.worker_machine.specs.Loads.{load_of};
 ghost use Rattle.slot_history.specs.Bounds.{IsShape};
-ghost use Rattle.pool_run.specs.Told.{HaveTold, IsToldBy};
+ghost use Rattle.pool_run.specs.Collected.{HaveTold, IsToldBy};
 
 use crate::report::Parts;
-use crate::seats::{is_between, one_step, one_turn, rest_of_turn};
+use crate::seats::play;
+use crate::stint::Stint;
 use bench_cell::{Bench, Plan};
 use one_thread::{OneTable, SlotObject};
 use outside_io::Meter;
@@ -55,15 +58,8 @@ impl<O: SlotObject> Pool<O> {
     ) -> Result<Pool<O>, AllocError>
         requires workers { (0 < workers) × (workers ≤ 64) }
         requires slots { (0 < slots) × (slots ≤ 128) }
-        ensures table { IfOk result (λ pool. pool.table ≡ record {
-          shape = record {
-            workers = workers;
-            slots = slots;
-            queries = length (arc_value plan.now).queries.items;
-          };
-          subject = arc_value plan.now;
-          log = [];
-        }) }
+        ensures table { IfOk result
+            (λ pool. pool.table ≡ new_table (arc_value plan.now) workers slots) }
         ensures new { IfOk result (λ pool. IsNew (scene pool.table pool.team.items)) }
     {
         let subject = Snapshot::of(&**plan);
@@ -75,124 +71,80 @@ impl<O: SlotObject> Pool<O> {
         Ok(Pool { alloc, table, team })
     }
 
-    // A worker makes a turn, unless it is over. No turn is under way.
-    fn play_turn<L: Ledger, M: Meter>(&mut self, who: u32, steps: &mut Steps<L>, meter: &mut M)
-        requires who { who < self.old.table.shape.workers }
-        requires follows { TeamFollows (scene self.old.table self.old.team.items) }
-        requires none { NoneTurns self.old.team.items }
-        ensures follows { TeamFollows (scene self.new.table self.new.team.items) }
-        ensures none { NoneTurns self.new.team.items }
-        ensures plays { Leads M.may_take (turns_by (who ∷ []))
-            (scene self.old.table self.old.team.items) (scene self.new.table self.new.team.items) }
-    {
-        if self.team[who as usize].is_over() {
-            return;
-        }
-        let worker = &mut self.team[who as usize];
-        let _turn = one_turn(self.alloc, &mut self.table, worker, who, steps, meter);
-    }
-
-    // A worker makes a step, unless it is over.
-    fn play_step<L: Ledger, M: Meter>(&mut self, who: u32, steps: &mut Steps<L>, meter: &mut M)
-        requires who { who < self.old.table.shape.workers }
-        requires follows { TeamFollows (scene self.old.table self.old.team.items) }
-        ensures follows { TeamFollows (scene self.new.table self.new.team.items) }
-        ensures plays { Leads M.may_take (moves_by (who ∷ []))
-            (scene self.old.table self.old.team.items) (scene self.new.table self.new.team.items) }
-    {
-        if self.team[who as usize].is_over() {
-            return;
-        }
-        let worker = &mut self.team[who as usize];
-        let _stepped = one_step(self.alloc, &mut self.table, worker, who, steps, meter);
-    }
-
-    // A worker ends the turn that it has under way, if it has one.
-    fn end_turn<L: Ledger, M: Meter>(&mut self, who: u32, steps: &mut Steps<L>, meter: &mut M)
-        requires who { who < self.old.table.shape.workers }
-        requires follows { TeamFollows (scene self.old.table self.old.team.items) }
-        requires none { NoneTurnsBelow who self.old.team.items }
-        ensures follows { TeamFollows (scene self.new.table self.new.team.items) }
-        ensures none { NoneTurnsBelow (who + 1) self.new.team.items }
-        ensures plays { Leads M.may_take (ends_of (who ∷ []))
-            (scene self.old.table self.old.team.items) (scene self.new.table self.new.team.items) }
-    {
-        if is_between(&self.team[who as usize]) {
-            return;
-        }
-        let worker = &mut self.team[who as usize];
-        let _turn = rest_of_turn(self.alloc, &mut self.table, worker, who, steps, meter);
-    }
-
-    // One turn for each number of the order.
-    pub(crate) fn play_turns<L: Ledger, M: Meter>(
+    // A worker plays a stint, unless it is passed over.
+    fn play<L: Ledger, M: Meter>(
         &mut self,
+        stint: Stint,
+        who: u32,
+        steps: &mut Steps<L>,
+        meter: &mut M,
+    )
+        requires who { who < self.old.table.shape.workers }
+        requires follows { TeamFollows (scene self.old.table self.old.team.items) }
+        requires between { stint ≡ WholeTurn → IsBetween self.old.team.items who }
+        ensures follows { TeamFollows (scene self.new.table self.new.team.items) }
+        ensures between { EndsTurns stint → StaysBetween who self.old.team.items
+            self.new.team.items }
+        ensures plays { Leads M.may_take (stints_by stint (who ∷ []))
+            (scene self.old.table self.old.team.items) (scene self.new.table self.new.team.items) }
+    {
+        if stint.passes_over(&self.team[who as usize]) {
+            return;
+        }
+        let worker = &mut self.team[who as usize];
+        play(
+            self.alloc,
+            &mut self.table,
+            worker,
+            stint,
+            who,
+            steps,
+            meter,
+        );
+    }
+
+    // The workers of an order play a stint, one after another.
+    pub(crate) fn play_order<L: Ledger, M: Meter>(
+        &mut self,
+        stint: Stint,
         order: &[u32],
         steps: &mut Steps<L>,
         meter: &mut M,
     )
         requires order { All (λ w. w < self.old.table.shape.workers) order.now }
         requires follows { TeamFollows (scene self.old.table self.old.team.items) }
-        requires none { NoneTurns self.old.team.items }
+        requires none { stint ≡ WholeTurn → NoneTurns self.old.team.items }
         ensures follows { TeamFollows (scene self.new.table self.new.team.items) }
-        ensures none { NoneTurns self.new.team.items }
-        ensures plays { Leads M.may_take (turns_by order.now)
+        ensures none { stint ≡ WholeTurn → NoneTurns self.new.team.items }
+        ensures plays { Leads M.may_take (stints_by stint order.now)
             (scene self.old.table self.old.team.items) (scene self.new.table self.new.team.items) }
         ensures legal { IsLegal self.new.table.shape (calls_of self.new.table.log) }
     {
         for who in order {
-            self.play_turn(*who, steps, meter);
+            self.play(stint, *who, steps, meter);
         }
         let _legal = self.table.object().shape();
     }
 
-    // One step for each number of the order.
-    pub(crate) fn play_steps<L: Ledger, M: Meter>(
+    // Each worker plays a stint, from worker 0 upwards.
+    pub(crate) fn play_all<L: Ledger, M: Meter>(
         &mut self,
-        order: &[u32],
+        stint: Stint,
         steps: &mut Steps<L>,
         meter: &mut M,
     )
-        requires order { All (λ w. w < self.old.table.shape.workers) order.now }
         requires follows { TeamFollows (scene self.old.table self.old.team.items) }
+        requires none { stint ≡ WholeTurn → NoneTurns self.old.team.items }
         ensures follows { TeamFollows (scene self.new.table self.new.team.items) }
-        ensures plays { Leads M.may_take (moves_by order.now)
-            (scene self.old.table self.old.team.items) (scene self.new.table self.new.team.items) }
-    {
-        for who in order {
-            self.play_step(*who, steps, meter);
-        }
-    }
-
-    // The turns that are under way are ended, from worker 0 upwards.
-    pub(crate) fn end_turns<L: Ledger, M: Meter>(&mut self, steps: &mut Steps<L>, meter: &mut M)
-        requires { TeamFollows (scene self.old.table self.old.team.items) }
-        ensures follows { TeamFollows (scene self.new.table self.new.team.items) }
-        ensures none { NoneTurns self.new.team.items }
-        ensures plays { Leads M.may_take (ends_of (range_with_len 0 self.old.table.shape.workers))
+        ensures none { EndsTurns stint → NoneTurns self.new.team.items }
+        ensures plays { Leads M.may_take
+            (stints_by stint (range_with_len 0 self.old.table.shape.workers))
             (scene self.old.table self.old.team.items) (scene self.new.table self.new.team.items) }
         ensures legal { IsLegal self.new.table.shape (calls_of self.new.table.log) }
     {
         let workers = self.table.shape().workers;
         for who in 0..workers {
-            self.end_turn(who, steps, meter);
-        }
-        let _legal = self.table.object().shape();
-    }
-
-    // One turn of each worker, from worker 0 upwards.
-    fn play_round<L: Ledger, M: Meter>(&mut self, steps: &mut Steps<L>, meter: &mut M)
-        requires follows { TeamFollows (scene self.old.table self.old.team.items) }
-        requires none { NoneTurns self.old.team.items }
-        ensures follows { TeamFollows (scene self.new.table self.new.team.items) }
-        ensures none { NoneTurns self.new.team.items }
-        ensures plays { Leads M.may_take (turns_by (range_with_len 0 self.old.table.shape.workers))
-            (scene self.old.table self.old.team.items) (scene self.new.table self.new.team.items) }
-        ensures legal { IsLegal self.new.table.shape (calls_of self.new.table.log) }
-    {
-        let workers = self.table.shape().workers;
-        for who in 0..workers {
-            self.play_turn(who, steps, meter);
+            self.play(stint, who, steps, meter);
         }
         let _legal = self.table.object().shape();
     }
@@ -211,7 +163,7 @@ impl<O: SlotObject> Pool<O> {
             if all_over(self.team.as_slice()) {
                 return;
             }
-            self.play_round(steps, meter);
+            self.play_all(Stint::WholeTurn, steps, meter);
         }
     }
 
@@ -246,15 +198,8 @@ fn new_team(
 ) -> Result<Vec<Worker>, AllocError>
     requires workers { (0 < workers) × (workers ≤ 64) }
     requires slots { (0 < slots) × (slots ≤ 128) }
-    ensures { IfOk result (λ team. AreNew (record {
-      shape = record {
-        workers = workers;
-        slots = slots;
-        queries = length (arc_value plan.now).queries.items;
-      };
-      subject = arc_value plan.now;
-      log = [];
-    }) workers team.items) }
+    ensures { IfOk result
+        (λ team. AreNew (new_table (arc_value plan.now) workers slots) workers team.items) }
 {
     let mut team = Vec::with_capacity(alloc, workers as usize)?;
     for who in 0..workers {

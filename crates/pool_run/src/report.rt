@@ -25,7 +25,7 @@ impl Parts {
     ghost use Rattle.std.specs.Prelude.{◌≡◌, ◌≤◌, ◌++◌, ◌∷◌, [], true, IfOk, OnOk, List};
     ghost use Rattle.worker_machine.specs.declared.state.Worker.{Worker};
     ghost use Rattle.worker_machine.specs.Left.{is_ready};
-    ghost use Rattle.pool_run.specs.Told.{HaveTold, IsToldBy};
+    ghost use Rattle.pool_run.specs.Collected.{HaveTold, IsToldBy};
 
     // Nothing, with room for all that the workers of a plan tell.
     pub(crate) fn new(alloc: Global, plan: &Plan, workers: u32) -> Result<Parts, AllocError>

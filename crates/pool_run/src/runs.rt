@@ -1,15 +1,15 @@
 // Whole runs, by an order of workers.
-ghost use Rattle.std.specs.Prelude.{◌≡◌, ◌<◌, ◌≤◌, [], All, IfOk, length};
+ghost use Rattle.std.specs.Prelude.{◌≡◌, ◌<◌, [], All, IfOk};
 ghost use Rattle.std.specs.Arc.{arc_value};
-ghost use Rattle.turn_model.specs.Measure.{ArriveInTime};
-ghost use Rattle.pool_run.specs.Left.{RanByTurns, RanByMoves, asked_in, asked_of, outcome_of};
+ghost use Rattle.pool_run.specs.Runs.{MayRun, RanByTurns, RanByMoves, asked_in, asked_of};
 ghost use Rattle.pool_run.specs.Scenes.{IsNew, scene};
-ghost use Rattle.pool_run.specs.Told.{HaveTold};
+ghost use Rattle.pool_run.specs.Collected.{HaveTold};
 ghost use Rattle.run_laws.specs.Ends.{IsWork};
 ghost use Rattle.worker_machine.specs.Loads.{load_of};
 
 use crate::pool::Pool;
 use crate::report::Parts;
+use crate::stint::Stint;
 use bench_cell::Plan;
 use one_thread::SlotObject;
 use outside_io::Meter;
@@ -36,14 +36,9 @@ pub fn run_turns<M: Meter>(
     order: &[u32],
     meter: &mut M,
 ) -> Result<Ran, AllocError>
-    requires workers { (0 < workers) × (workers ≤ 64) }
-    requires slots { (0 < slots) × (slots ≤ 128) }
-    requires few { length order.now ≤ 4096 }
-    requires order { All (λ w. w < workers) order.now }
-    requires in_time { let asked = asked_of (arc_value plan) workers slots order.now in
-        ArriveInTime asked.shape asked.load }
-    ensures { IfOk result (λ ran. RanByTurns M.may_take
-        (asked_of (arc_value plan) workers slots order.now) (outcome_of ran)) }
+    requires { MayRun (asked_of (arc_value plan) workers slots order.now) }
+    ensures { IfOk result
+        (RanByTurns M.may_take (asked_of (arc_value plan) workers slots order.now)) }
 {
     let parts = Parts::new(alloc, &plan, workers)?;
     let pool = Pool::new(alloc, &plan, workers, slots)?;
@@ -65,11 +60,10 @@ fn turns_counted<O: SlotObject, L: Ledger, M: Meter>(
     requires name { blank.name ≡ L.name }
     requires all { blank.parts ≡ L.parts }
     requires some { 0 < blank.parts }
-    ensures { IfOk result (λ ran. RanByTurns M.may_take (asked_in pool.table order.now)
-        (outcome_of ran)) }
+    ensures { IfOk result (RanByTurns M.may_take (asked_in pool.table order.now)) }
 {
     let mut steps = Steps::<L>::start(blank);
-    pool.play_turns(order, &mut steps, meter);
+    pool.play_order(Stint::WholeTurn, order, &mut steps, meter);
     pool.play_rounds(&mut steps, meter);
     pool.end(parts)
 }
@@ -87,14 +81,9 @@ pub fn run_steps<M: Meter>(
     order: &[u32],
     meter: &mut M,
 ) -> Result<Ran, AllocError>
-    requires workers { (0 < workers) × (workers ≤ 64) }
-    requires slots { (0 < slots) × (slots ≤ 128) }
-    requires few { length order.now ≤ 4096 }
-    requires order { All (λ w. w < workers) order.now }
-    requires in_time { let asked = asked_of (arc_value plan) workers slots order.now in
-        ArriveInTime asked.shape asked.load }
-    ensures { IfOk result (λ ran. RanByMoves M.may_take
-        (asked_of (arc_value plan) workers slots order.now) (outcome_of ran)) }
+    requires { MayRun (asked_of (arc_value plan) workers slots order.now) }
+    ensures { IfOk result
+        (RanByMoves M.may_take (asked_of (arc_value plan) workers slots order.now)) }
 {
     let parts = Parts::new(alloc, &plan, workers)?;
     let pool = Pool::new(alloc, &plan, workers, slots)?;
@@ -116,12 +105,11 @@ fn steps_counted<O: SlotObject, L: Ledger, M: Meter>(
     requires name { blank.name ≡ L.name }
     requires all { blank.parts ≡ L.parts }
     requires some { 0 < blank.parts }
-    ensures { IfOk result (λ ran. RanByMoves M.may_take (asked_in pool.table order.now)
-        (outcome_of ran)) }
+    ensures { IfOk result (RanByMoves M.may_take (asked_in pool.table order.now)) }
 {
     let mut steps = Steps::<L>::start(blank);
-    pool.play_steps(order, &mut steps, meter);
-    pool.end_turns(&mut steps, meter);
+    pool.play_order(Stint::OneStep, order, &mut steps, meter);
+    pool.play_all(Stint::RestOfTurn, &mut steps, meter);
     pool.play_rounds(&mut steps, meter);
     pool.end(parts)
 }

@@ -9,4 +9,5 @@ use Rattle.pool_run.proofs.report.sort_records.Goals as goal
 pub returns-clause-sorted : goal.returns-clause-sorted
 returns-clause-sorted c =
     let rank = ranks_by nat_cmp_total id_of_record in
-    c.sort_unstable_by.ensures.sorted (λ (x y : Record). is_lt (nat_cmp (id_of_record x) (id_of_record y))) rank (answers_always _ _ _ (λ f a r q k. search rules))
+    let comes_before = λ (x y : Record). is_lt (nat_cmp (id_of_record x) (id_of_record y)) in
+    c.sort_unstable_by.ensures.sorted comes_before rank (answers_always _ _ _ (λ f a r q k. search rules))

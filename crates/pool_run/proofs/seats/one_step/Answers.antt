@@ -14,8 +14,11 @@ step-requires g c =
 pub returns-clause-follows : goal.returns-clause-follows
 returns-clause-follows g c =
     let s = c.seat-seat.ensures in
+    let was = c.seat-seat.result in
     let n = c.step.new.station in
-    follows-table (over-after {table = c.table-1.given.0} c.seat-seat.result.start.value c.seat-seat.result.worker c.args.who (search rules) n.shape n.subject c.step.ensures.stays.desk s.worker) c.step.new.self c.step.ensures.follows
+    follows-table
+    (over-after {table = c.table-1.given.0} was.start.value was.worker c.args.who (search rules) n.shape n.subject c.step.ensures.stays.desk s.worker)
+    c.step.new.self c.step.ensures.follows
 
 pub returns-clause-moves : goal.returns-clause-moves
 returns-clause-moves g c =
@@ -26,7 +29,8 @@ returns-clause-moves g c =
     let after : SeatOrigin Plan = record { name = n.table.ghost_name; start = n.start.value; worker = n.worker } in
     both-same (Moves g.M.Meter.may_take) c.args.worker.now c.step.new.self
     (over-before {origin = before} {now = was.table.now} c.args.table.now c.args.who s.start s.worker s.table)
-    (over-after {origin = after} {now = n.table.now} {table = c.table-1.given.0} was.start.value was.worker c.args.who (search rules) n.shape n.subject c.step.ensures.stays.desk s.worker)
+    (over-after {origin = after} {now = n.table.now} {table = c.table-1.given.0} was.start.value was.worker c.args.who (search rules)
+    n.shape n.subject c.step.ensures.stays.desk s.worker)
     c.step.ensures.moves
 
 pub returns-clause-nearer : goal.returns-clause-nearer

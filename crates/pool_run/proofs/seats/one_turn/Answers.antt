@@ -13,8 +13,11 @@ turn-requires-clause-follows g c =
 pub returns-clause-follows : goal.returns-clause-follows
 returns-clause-follows g c =
     let s = c.seat-seat.ensures in
+    let was = c.seat-seat.result in
     let n = c.turn.new.station in
-    follows-table (over-after {table = c.table-1.given.0} c.seat-seat.result.start.value c.seat-seat.result.worker c.args.who (search rules) n.shape n.subject c.turn.ensures.stays.desk s.worker) c.turn.new.self c.turn.ensures.follows
+    follows-table
+    (over-after {table = c.table-1.given.0} was.start.value was.worker c.args.who (search rules) n.shape n.subject c.turn.ensures.stays.desk s.worker)
+    c.turn.new.self c.turn.ensures.follows
 
 pub returns-clause-turns : goal.returns-clause-turns
 returns-clause-turns g c =
@@ -25,5 +28,6 @@ returns-clause-turns g c =
     let after : SeatOrigin Plan = record { name = n.table.ghost_name; start = n.start.value; worker = n.worker } in
     both-same (λ from to. Turns g.M.Meter.may_take from c.turn.result to) c.args.worker.now c.turn.new.self
     (over-before {origin = before} {now = was.table.now} c.args.table.now c.args.who s.start s.worker s.table)
-    (over-after {origin = after} {now = n.table.now} {table = c.table-1.given.0} was.start.value was.worker c.args.who (search rules) n.shape n.subject c.turn.ensures.stays.desk s.worker)
+    (over-after {origin = after} {now = n.table.now} {table = c.table-1.given.0} was.start.value was.worker c.args.who (search rules)
+    n.shape n.subject c.turn.ensures.stays.desk s.worker)
     c.turn.ensures.turns

@@ -28,7 +28,7 @@ rest-preserved g c =
     let under = phase-more c.one_step.new.worker.phase e.ends in record {
       follows = e.follows;
       under_way = under;
-      on_the_way = goes-further c.rest.invariant.on_the_way (record { shape = e.shape; subject = e.subject; since = e.since }) e.moves under;
+      on_the_way = goes-further c.rest.invariant.on_the_way e.since e.moves under;
     }
 
 pub rest-smaller : goal.rest-smaller
@@ -41,10 +41,10 @@ rest-smaller g c =
 pub returns-in-End-clause-since : goal.returns-in-End-clause-since
 returns-in-End-clause-since g c =
     let e = c.in-End.ensures in
-    (since-more c.rest.invariant.on_the_way.since (record { shape = e.shape; subject = e.subject; since = e.since })).since
+    since-more c.rest.invariant.on_the_way.since e.since
 
 pub returns-in-End-clause-rests : goal.returns-in-End-clause-rests
 returns-in-End-clause-rests g c =
     let e = c.in-End.ensures in
-    ends-there c.rest.invariant.on_the_way (record { shape = e.shape; subject = e.subject; since = e.since }) e.moves
+    ends-there c.rest.invariant.on_the_way e.since e.moves
     (phase-end c.one_step.new.worker.phase c.in-End.turn e.ends)

@@ -1,7 +1,7 @@
 use Rattle.std.proofs.Common.{◌≡◌, ◌++◌, ◌∷◌, [], length, slice_get, sym, ap, ◌∙◌, subst, append_assoc, arith}
 use Rattle.std.specs.Vec.Iter.{into_iter_items}
 use Rattle.std.proofs.lemmas.List.{append-nil, nil_from_length}
-use Rattle.pool_run.specs.Told.{IsToldBy}
+use Rattle.pool_run.specs.Collected.{IsToldBy}
 use Rattle.pool_run.proofs.Teams.{slice_get-seam}
 use Rattle.pool_run.proofs.pool.Pool.end.Goals as goal
 

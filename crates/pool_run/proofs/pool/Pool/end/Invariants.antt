@@ -1,6 +1,6 @@
 use Rattle.std.proofs.Common.{◌≡◌, ◌++◌}
 use Rattle.std.specs.Vec.Iter.{into_iter_items}
-use Rattle.pool_run.specs.Told.{HaveTold}
+use Rattle.pool_run.specs.Collected.{HaveTold}
 use Rattle.pool_run.proofs.pool.Pool.end.Given as goal
 
 abbrev pub invariant-loop-worker : goal.invariant-loop-worker

@@ -6,7 +6,6 @@ pub mod Driven
 pub mod Runs
 pub mod Orders
 pub mod Reports
-pub mod Outcomes
 pub mod Told
 pub mod Laws
 pub mod OneSlot

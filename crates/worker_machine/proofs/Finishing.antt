@@ -41,6 +41,10 @@ pub all-from : {A : Type 0} (P : A → Type 0) (xs : List A) → ((u : ℕ) (x :
 all-from P [] each = All-nil P
 all-from P (x ∷ xs) each = All-from_get_or P (x ∷ xs) x (λ u lt. each u _ (slice_get-get_or (x ∷ xs) u x lt))
 
+-- the benches of a task set have its id
+pub ids-of : {plan : Plan} {id : ℕ} {bs : List Bench} → AreOfTaskSet plan id bs → All (λ (b : Bench). b.id ≡ id) bs
+ids-of {plan} {id} {bs} of = all-from (λ (b : Bench). b.id ≡ id) bs (λ u b got. (of.fit.each u b got).of_set.id_is)
+
 -- the claims of the task set that is finalised, and their total, by the holder's trail
 module _ {O : Type 0} (seen : Seen O Plan) (h : Holder) (held : HoldsAs seen h 0 None) (again : h.again ≡ true) (known : IsHistoryOf seen)
     (low : seen.desk.worker < seen.desk.shape.workers) where

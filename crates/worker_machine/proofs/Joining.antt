@@ -2,7 +2,9 @@
 use Rattle.std.proofs.Common.{◌≡◌, ℕ, zero, suc, ◌+◌, ◌*◌, Bool, true, false, ◌==◌, if◌then◌else◌, refl, sym, ap, ◌∙◌, add-one, eq-eqb, ne_eqb}
 use Rattle.std.specs.Int.{bit_at}
 use Rattle.stride_set.specs.Strides.{Strides, Call, JoinReturn, JoinChange, stride_after}
-use Rattle.worker_machine.specs.Joins.{joined}
+use Rattle.worker_machine.specs.Joins.{join_of, joined}
+use Rattle.worker_machine.specs.declared.joins.Notice.{Notice}
+use Rattle.worker_machine.specs.declared.joins.Notice.TheVariants.{Returned, Changed}
 
 module _ (join : ℕ → Call) where
   joined-suc : (n part bits : ℕ) (st : Strides) → joined join (suc n) part bits st
@@ -45,3 +47,7 @@ returned-slots = joined-slots JoinReturn (λ x s. refl)
 
 pub changed-slots : (n part bits : ℕ) (st : Strides) → (joined JoinChange n part bits st).slots ≡ st.slots
 changed-slots = joined-slots JoinChange (λ x s. refl)
+
+pub notice-slots : (notice : Notice) (n part bits : ℕ) (st : Strides) → (joined (join_of notice) n part bits st).slots ≡ st.slots
+notice-slots Returned = returned-slots
+notice-slots Changed = changed-slots

@@ -29,13 +29,13 @@ use Rattle.worker_machine.specs.declared.kept.Core.{Core}
 use Rattle.worker_machine.specs.declared.phase.Phase.{Phase}
 use Rattle.worker_machine.specs.Loads.{load_of, model_desk}
 use Rattle.worker_machine.specs.Replies.{AreAnswers}
-use Rattle.worker_machine.specs.Telling.{HasTold, book_of, work_by}
-use Rattle.worker_machine.proofs.Telling.{called-begins, told-grown}
+use Rattle.worker_machine.specs.Telling.{HasBook, Work, book_of, given_up, work_by}
+use Rattle.worker_machine.proofs.Telling.{called-begins, told-grown, told-kept}
 use Rattle.slot_history.specs.declared.act.Entry.{Entry}
 use Rattle.run_laws.specs.Shares.{shares_by}
 use Rattle.worker_machine.specs.Counting.{HasShares}
 use Rattle.worker_machine.specs.PointsOf.{point_of}
-use Rattle.worker_machine.specs.Keeps.{HasMade, Moves, Knows, KeepsMind, standing, chosen}
+use Rattle.worker_machine.specs.Keeps.{HasMade, Moves, Knows, KeepsMind, KeepsRest, standing, chosen}
 
 -- what a call has to show, at the desk before it
 pub record CallMoves (may_take : ℕ → ℕ → ℕ → Type 0) (D : Desk Plan) (trail : List Entry) (a : Act) (t : ℕ)
@@ -46,7 +46,7 @@ pub record CallMoves (may_take : ℕ → ℕ → ℕ → Type 0) (D : Desk Plan)
   pub point : point_of D.shape.workers phase' ≡ after (model_desk D) ms (point_of D.shape.workers phase) a
   pub shares : HasShares D.shape.queries (shares_by (model_desk D) (Made a t ∷ ms)) core.shares
   pub answers : AreAnswers D.subject core.replies.items
-  pub told : HasTold (model_desk D) trail (work_by (model_desk D) (Made a t ∷ ms)) (book_of core phase')
+  pub told : HasBook (model_desk D) trail (work_by (model_desk D) (Made a t ∷ ms)) (book_of core phase')
 
 module _ {O : Type 0} {old new : Seen O Plan} {a : Act} (m : Makes total_of a old new) where
   mine-on : (t : ℕ) (ms : List Move) → own_calls old.desk.worker old.trail ≡ entries old.desk.worker ms
@@ -76,7 +76,7 @@ module _ {O : Type 0} {old new : Seen O Plan} {a : Act} {core core' : Core} {pha
           (s.point ∙ ap (λ x. after (model_desk old.desk) ms x a) made.point);
       shares = subst (λ (D : Desk Plan). HasShares D.shape.queries (shares_by (model_desk D) (Made a t ∷ ms)) core'.shares) (sym m.desk) s.shares;
       answers = subst (λ (D : Desk Plan). AreAnswers D.subject core'.replies.items) (sym m.desk) s.answers;
-      told = subst (λ (D : Desk Plan). HasTold (model_desk D) new.trail (work_by (model_desk D) (Made a t ∷ ms)) (book_of core' phase')) (sym m.desk)
+      told = subst (λ (D : Desk Plan). HasBook (model_desk D) new.trail (work_by (model_desk D) (Made a t ∷ ms)) (book_of core' phase')) (sym m.desk)
           (told-grown new.trail m.called.4 (called-begins m.called.1 m.called.2) s.told);
     };
   }
@@ -101,6 +101,34 @@ one-answer-more {plan} {old} {new} reply true is right are = record {
 }
 one-answer-more {plan} {old} {new} reply false is right are = subst (AreAnswers plan) (sym is) are
 
+-- the call ends no holding and works on no range: with it the moves tell others what they told
+abbrev pub IsQuiet : (ℕ → ℕ → ℕ → Type 0) → Desk Workload → Act → List Move → Type 0
+IsQuiet may_take D a ms = IsTimedCall may_take D.subject (query_by D ms) a 0
+    × (shares_by D (Made a 0 ∷ ms) ≡ shares_by D ms) × (work_by D (Made a 0 ∷ ms) ≡ work_by D ms)
+
+-- what the worker tells others stays
+abbrev pub TellsOn : Core → Core → Type 0
+TellsOn old new = (new.shares ≡ old.shares) × (new.replies ≡ old.replies) × (new.records ≡ old.records)
+
+module _ {O : Type 0} {old new : Seen O Plan} {a : Act} {core core' : Core} {phase phase' : Phase} {may_take : ℕ → ℕ → ℕ → Type 0}
+    (m : Makes total_of a old new) where
+  -- such a call is a move if it comes next, and the worker keeps what it tells
+  pub quiet-by : ((ms : List Move) → IsQuiet may_take (model_desk old.desk) a ms) → TellsOn core core' → given_up phase' ≡ given_up phase
+      → ((ms : List Move) → HasMade (standing core phase old) ms → MayCall (model_desk old.desk) ms (point_of old.desk.shape.workers phase) a
+      × Knows (model_desk old.desk) (told_by (model_desk old.desk) (Made a 0 ∷ ms)) core' phase'
+      × (point_of old.desk.shape.workers phase' ≡ after (model_desk old.desk) ms (point_of old.desk.shape.workers phase) a))
+      → Moves may_take (standing core phase old) (standing core' phase' new)
+  quiet-by quiet same gives shows = moves-by m 0 (λ ms h. let q = quiet ms in let s = shows ms h in record {
+    may = s.0;
+    timed = q.0;
+    knows = s.1;
+    point = s.2;
+    shares = shares-kept (subst (λ (l : List Share). HasShares old.desk.shape.queries l core.shares) (sym q.1) h.shares) same.0;
+    answers = answers-kept h.answers same.1;
+    told = told-kept core core' phase phase' same.1 same.2 gives
+        (subst (λ (w : Work). HasBook (model_desk old.desk) old.trail w (book_of core phase)) (sym q.2) h.told);
+  })
+
 -- where the worker is
 pub place-made : {O : Type 0} (seen : Seen O Plan) {core : Core} {phase : Phase} (ms : List Move) → HasMade (standing core phase seen) ms
     → own_place seen ≡ place_by (model_desk seen.desk) ms
@@ -115,7 +143,7 @@ module _ {O : Type 0} {old new : Seen O Plan} {core core' : Core} {phase phase' 
       → point_of old.desk.shape.workers phase' ≡ exchanged (point_of old.desk.shape.workers phase)
       → core'.shares ≡ core.shares → core'.replies ≡ core.replies
       → ((ms : List Move) → HasMade (standing core phase old) ms
-      → HasTold (model_desk old.desk) old.trail (work_by (model_desk old.desk) (Exchanged ∷ ms)) (book_of core' phase'))
+      → HasBook (model_desk old.desk) old.trail (work_by (model_desk old.desk) (Exchanged ∷ ms)) (book_of core' phase'))
       → Moves may_take (standing core phase old) (standing core' phase' new)
   exchanges-by may knows point same replies told = record {
     move = Exchanged;
@@ -131,11 +159,17 @@ module _ {O : Type 0} {old new : Seen O Plan} {core core' : Core} {phase phase' 
       shares = subst (λ (D : Desk Plan). HasShares D.shape.queries (shares_by (model_desk D) (Exchanged ∷ ms)) core'.shares) (sym k.desk)
           (shares-kept made.shares same);
       answers = subst (λ (D : Desk Plan). AreAnswers D.subject core'.replies.items) (sym k.desk) (answers-kept made.answers replies);
-      told = subst (λ (D : Desk Plan). HasTold (model_desk D) new.trail (work_by (model_desk D) (Exchanged ∷ ms)) (book_of core' phase')) (sym k.desk)
-          (subst (λ (t : List Entry). HasTold (model_desk old.desk) t (work_by (model_desk old.desk) (Exchanged ∷ ms)) (book_of core' phase')) (sym k.trail)
+      told = subst (λ (D : Desk Plan). HasBook (model_desk D) new.trail (work_by (model_desk D) (Exchanged ∷ ms)) (book_of core' phase')) (sym k.desk)
+          (subst (λ (t : List Entry). HasBook (model_desk old.desk) t (work_by (model_desk old.desk) (Exchanged ∷ ms)) (book_of core' phase')) (sym k.trail)
           (told ms made));
     };
   }
+
+-- what stays, field by field
+pub rest-kept : {old new : Core} → new.known ≡ old.known → new.finished ≡ old.finished → new.arrived ≡ old.arrived → new.times ≡ old.times
+    → new.shares ≡ old.shares → KeepsRest old new
+rest-kept known finished arrived times shares =
+    record { known = known; finished = finished; arrived = arrived; times = times; shares = shares }
 
 -- what is kept from one phase to another, both with the floor that the moves give
 pub keeps-on : {D : Desk Workload} {told : Told} {core : Core} {phase phase' : Phase} → Knows D told core phase
@@ -153,22 +187,6 @@ mind-on k keeps same = record {
   slots = λ s known got. k.slots s known (ap (λ (v : _). slice_get v.items s) (sym keeps.rest.known) ∙ got);
 }
 
--- what is kept of a slot after a call that changed its group at most
-pub group-on : {D : Desk Workload} {old new : Past} {s : ℕ} {kept : Kept} → KeepsSlot D old s kept → kept.group ≡ new.group s
-    → old.task s ≡ new.task s → ((q : ℕ) → old.time q ≡ new.time q) → ((id : ℕ) → (old.taken id ≡ new.taken id) × (old.end id ≡ new.end id))
-    → KeepsSlot D new s kept
-group-on {D} {old} {new} {s} {kept} k group task time ranges = record {
-  group = group;
-  id = k.id ∙ task;
-  query = k.query ∙ ap (option_map (λ id. id / STAGES)) task;
-  decay = λ q is. let h = k.decay q is in record { params = h.params; spent = subst (HasSpent kept.decay) (time q) h.spent };
-  sizer = λ id is. let h = k.sizer id is in record {
-    workers = h.workers;
-    pace = h.pace ∙ ap pace_of (ranges id).0;
-    end_is = h.end_is ∙ (ranges id).1;
-  };
-}
-
 -- what is kept of a slot with another group
 pub regroup : {D : Desk Workload} {old new : Past} {s : ℕ} {kept : Kept} (group : Option ℕ) → KeepsSlot D old s kept → group ≡ new.group s
     → old.task s ≡ new.task s → ((q : ℕ) → old.time q ≡ new.time q) → ((id : ℕ) → (old.taken id ≡ new.taken id) × (old.end id ≡ new.end id))
@@ -184,3 +202,9 @@ regroup {D} {old} {new} {s} {kept} group k group-is task time ranges = record {
     end_is = h.end_is ∙ (ranges id).1;
   };
 }
+
+-- what is kept of a slot after a call that changed its group at most
+pub group-on : {D : Desk Workload} {old new : Past} {s : ℕ} {kept : Kept} → KeepsSlot D old s kept → kept.group ≡ new.group s
+    → old.task s ≡ new.task s → ((q : ℕ) → old.time q ≡ new.time q) → ((id : ℕ) → (old.taken id ≡ new.taken id) × (old.end id ≡ new.end id))
+    → KeepsSlot D new s kept
+group-on {D} {old} {new} {s} {kept} k group task time ranges = regroup kept.group k group task time ranges

@@ -22,10 +22,11 @@ use Rattle.bench_cell.specs.Plans.{stages_in}
 use Rattle.bench_cell.specs.Plans as plans
 use Rattle.worker_machine.specs.declared.kept.Core.{Core}
 use Rattle.worker_machine.specs.declared.phase.Phase.{Phase}
+use Rattle.worker_machine.specs.declared.phase.Phase.TheVariants as phase
 use Rattle.worker_machine.specs.Desks.{desk_of}
 use Rattle.worker_machine.specs.Loads.{load_of, model_desk}
 use Rattle.worker_machine.specs.PointsOf.{point_of}
-use Rattle.worker_machine.specs.Keeps.{Knows, Picks, chosen}
+use Rattle.worker_machine.specs.Keeps.{KeepsRest, Knows, Picks, chosen}
 use Rattle.worker_machine.proofs.Tasks.{stages-of-get}
 
 -- ---- the number of task sets
@@ -58,8 +59,13 @@ module _ (plan : Plan) (d : Shape) (is : d.queries ≡ length plan.queries.items
   pub ends-over : sets ≤ done → Over ≡ ended_as done (sets_of d (load_of plan))
   ends-over ge = sym (ap (λ b. cond b Idle Over) (le-ltb done (sets_of d (load_of plan)) (subst (λ k. k ≤ done) (count ∙ sets-are plan d is) ge)))
 
-pub none-picked : {o : Option ℕ} {turn t : Turn} → None ≡ o → turn ≡ t → Ready turn ≡ picked o t
+none-picked : {o : Option ℕ} {turn t : Turn} → None ≡ o → turn ≡ t → Ready turn ≡ picked o t
 none-picked {o} {turn} {t} none is = ap Ready is ∙ ap (λ x. picked x t) none
+
+-- no slot is active: the turn ends
+pub none-picks : {core core' : Core} {turn : Turn} → core'.strides ≡ core.strides → None ≡ choice_of (strides_of core.strides) → KeepsRest core core'
+    → turn ≡ ended_as core.finished (sets_of (desk_of core).shape (load_of (arc_value core.plan))) → Picks core core' (phase.Ready turn)
+none-picks same none rest ends = record { strides = ap strides_of same; point = λ workers. none-picked none ends; rest = rest }
 
 -- ---- the choice
 

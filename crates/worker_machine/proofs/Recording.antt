@@ -1,6 +1,6 @@
 -- The record of a task set that was gathered, by the holder's trail.
-use Rattle.std.proofs.Common.{◌≡◌, ℕ, ◌+◌, ◌-◌, ◌*◌, ◌/◌, ◌%◌, ◌<◌, true, cond, List, [], ◌∷◌}
-use Rattle.std.proofs.Common.{◌++◌, map, Option, Some, None, length, unwrap_or, refl, sym, ap, ap₂, ◌∙◌, subst, arith}
+use Rattle.std.proofs.Common.{◌≡◌, ℕ, ◌+◌, ◌-◌, ◌%◌, ◌<◌, Bool, true, cond, List, [], ◌∷◌}
+use Rattle.std.proofs.Common.{◌++◌, map, Some, None, unwrap_or, refl, sym, ap, ap₂, ◌∙◌, subst, arith}
 use Rattle.std.specs.Prelude.{reverse}
 use Rattle.std.specs.Arc.{arc_value}
 use Rattle.std.proofs.lemmas.List.{reverse-append}
@@ -17,23 +17,23 @@ use Rattle.slot_history.proofs.Holders.{holder-finishes}
 use Rattle.slot_history.proofs.Looks.{finishing-in-slot}
 use Rattle.slot_station.specs.declared.token.Holder.{Holder}
 use Rattle.slot_station.specs.Desks.{Desk, KeepsTrail, Seen, own_place}
-use Rattle.report_text.specs.declared.report.ClaimOf.{ClaimOf}
 use Rattle.turn_model.specs.Moves.{Move, Exchanged}
 use Rattle.turn_model.specs.Points as point
 use Rattle.turn_model.specs.Points.{point_by}
 use Rattle.turn_model.specs.Learned.{place_by}
 use Rattle.turn_model.specs.Driven.{held_by}
-use Rattle.turn_model.specs.Reports.{IsRecordIn, as_claim, id_of_record}
+use Rattle.turn_model.specs.Reports.{as_claim, id_of_record}
 use Rattle.bench_cell.specs.declared.plan.Plan.{Plan}
 use Rattle.bench_cell.specs.Plans.{total_of}
+use Rattle.bench_cell.specs.Gathering.{Ended, IsRecordOf}
 use Rattle.bench_cell.specs.Tilings.{FitClaims, journal_of}
+use Rattle.report_text.specs.declared.report.Record.{Record}
 use Rattle.worker_machine.specs.declared.kept.Core.{Core}
 use Rattle.worker_machine.specs.declared.phase.Phase.{Phase}
-use Rattle.worker_machine.specs.Desks.{HasDesk}
 use Rattle.worker_machine.specs.Hands.{HoldsAs, IsHistoryOf, IsTaskHeld, finalised_by}
 use Rattle.worker_machine.specs.Plans.{stages_at}
-use Rattle.worker_machine.specs.Loads.{load_of, model_desk}
-use Rattle.worker_machine.specs.Telling.{HasTold, IsRecordAt, KeepsRecord, book_of, given_up, work_by}
+use Rattle.worker_machine.specs.Loads.{model_desk}
+use Rattle.worker_machine.specs.Telling.{HasBook, IsRecordAt, KeepsRecord, book_of, given_up, work_by}
 use Rattle.worker_machine.proofs.Telling.{Gathers, told-gathered}
 use Rattle.worker_machine.proofs.Calls.{place-kept}
 use Rattle.worker_machine.proofs.Replying.{some-query}
@@ -50,6 +50,17 @@ map-push f (y ∷ ys) x = ap (λ l. f y ∷ l) (map-push f ys x)
 -- the total of a task set of a plan that was read
 pub total-at : (plan plan' : Plan) (id id' total : ℕ) → plan' ≡ plan → id' ≡ id → total_of plan' id' ≡ Some total → total_of plan id ≡ Some total
 total-at plan plan' id id' total same at is = ap₂ total_of (sym same) (sym at) ∙ is
+
+-- a record that is known to be short, or not to be, is as short as it says
+pub of-itself : {ended : Ended} {short : Bool} {kept : Record} → IsRecordOf ended short kept → IsRecordOf ended kept.short kept
+of-itself e = record {
+  query_is = e.query_is;
+  stage_is = e.stage_is;
+  slot_is = e.slot_is;
+  total_is = e.total_is;
+  finisher_is = e.finisher_is;
+  short_is = refl;
+}
 
 -- the claims of a record, the oldest first
 journal-is : (claims : List Morsel) → journal_of claims ≡ reverse (map as_claim claims)
@@ -126,8 +137,8 @@ pub fetch-told : {O : Type 0} (old new : Seen O Plan) → KeepsTrail old new →
     → FitClaims (arc_value core.plan) (finalised_by h) (claims_of new.desk.shape (finalised_by h) new.trail) core.benches.items
     → core'.replies ≡ core.replies → (q : Phase) → given_up q ≡ None → (ms : List Move) → own_place old ≡ place_by (model_desk old.desk) ms
     → point.Fetch (old.desk.shape.workers - 1) ≡ point_by (model_desk old.desk) ms → 0 < old.desk.shape.workers
-    → HasTold (model_desk old.desk) old.trail (work_by (model_desk old.desk) ms) (book_of core q)
-    → HasTold (model_desk old.desk) old.trail (work_by (model_desk old.desk) (Exchanged ∷ ms)) (book_of core' p)
+    → HasBook (model_desk old.desk) old.trail (work_by (model_desk old.desk) ms) (book_of core q)
+    → HasBook (model_desk old.desk) old.trail (work_by (model_desk old.desk) (Exchanged ∷ ms)) (book_of core' p)
 fetch-told old new k h held again known low task {core} {core'} {p} has owner r fit replies q none ms at last some told =
     let placed = subst (λ (y : Desk Plan). own_place new ≡ place_by (model_desk y) ms) (sym k.desk) (place-kept k ∙ at) in
     let gets : Gathers (model_desk old.desk) old.trail (held_by (model_desk old.desk) ms) core core' p =

@@ -160,6 +160,11 @@ module _ {O : Type 0} {old new : Seen O Plan} {h h' : Holder} (v m : ℕ) (bs bs
         });
       }
 
+-- another cell follows
+pub puts-on : {O : Type 0} {seen : Seen O Plan} {h : Holder} {v : ℕ} {bs : List Bench} → IsPutOn seen h v bs → v + 1 < seen.desk.shape.workers
+    → Puts seen bs h (v + 1)
+puts-on p low = record { noted = p.noted; holds = p.holds; may = p.may; low = low; done = p.done; rest = p.rest; count = p.count; fresh = p.fresh }
+
 -- ---- cells that are fetched
 
 -- an exchange keeps the history
@@ -205,6 +210,21 @@ module _ {O : Type 0} {old new : Seen O Plan} {h h' : Holder} (v : ℕ) (bs bs' 
         fit = λ u c got. moved-fits u c (more-each (FinalisedFits BenchFits old) bs b v fetches.count fetches.fit fits u c
             (subst (λ l. slice_get l u ≡ Some c) grown got));
       }
+
+-- another cell follows
+pub fetches-on : {O : Type 0} {seen : Seen O Plan} {h : Holder} {v : ℕ} {bs : List Bench} → IsFetchedOn seen h v bs → v + 1 < seen.desk.shape.workers
+    → Fetches seen bs h (v + 1)
+fetches-on p low = record {
+  known = p.known;
+  holds = p.holds;
+  again = p.again;
+  task = p.task;
+  low = low;
+  done = p.done;
+  rest = p.rest;
+  count = p.count;
+  fit = p.fit;
+}
 
 -- benches that are made, one more
 pub made-more : (plan : Plan) (workers id v k : ℕ) (bs : List Bench) (b : Bench) → length bs ≡ v

@@ -1,22 +1,18 @@
 -- The replies and the records of a worker, from call to call.
-use Rattle.std.proofs.Common.{◌≡◌, ◌⊎◌, inl, inr, ⊎_elim, ℕ, zero, suc, ◌+◌, ◌*◌, ◌-◌, ◌/◌, ◌%◌, ◌<◌}
-use Rattle.std.proofs.Common.{◌≤◌, Bool, true, false, cond, eqb, List, [], ◌∷◌, ◌++◌, All, map, Option, Some, None}
-use Rattle.std.proofs.Common.{length, length-append, slice_get, unwrap_or, refl, sym, ap, ap₂, ◌∙◌, subst, eq-eqb, ne_eqb, arith}
+use Rattle.std.proofs.Common.{◌≡◌, ◌⊎◌, inl, inr, ⊎_elim, ℕ, zero, suc, ◌+◌, ◌-◌, ◌<◌}
+use Rattle.std.proofs.Common.{◌≤◌, true, cond, List, [], ◌∷◌, ◌++◌, All, Option, Some, None}
+use Rattle.std.proofs.Common.{length, slice_get, refl, sym, ap, ◌∙◌, subst, eq-eqb, ne_eqb, arith}
 use Rattle.std.specs.Prelude.{reverse}
 use Rattle.std.proofs.lemmas.List.{length-reverse, reverse-append}
 use Rattle.std.proofs.lemmas.List.Elements.{All-push}
 use Rattle.std.specs.Vec.{vec_capacity}
 use Rattle.std.specs.declared.vec.Vec.{Vec}
 use Rattle.std.specs.Global.{Global}
-use Rattle.slot_history.specs.declared.shape.Shape.{Shape}
 use Rattle.slot_history.specs.declared.act.Act.TheVariants.{NoteDone}
 use Rattle.slot_history.specs.declared.act.Entry.{Entry}
 use Rattle.slot_history.specs.declared.place.Held.{Held}
 use Rattle.slot_history.specs.States.{finalised_id}
-use Rattle.slot_history.specs.Histories.{IsLegal, Begins, Morsel, claims_of, lasts_of}
-use Rattle.slot_history.specs.Beginnings.{KeepsTaskSets}
-use Rattle.slot_history.proofs.TaskSetsKept.{task-sets-stay}
-use Rattle.slot_history.proofs.Finishers.{finisher-stays}
+use Rattle.slot_history.specs.Histories.{IsLegal, Begins}
 use Rattle.slot_station.specs.Desks.{Desk}
 use Rattle.slot_station.specs.declared.token.Coordinator.{Coordinator}
 use Rattle.report_text.specs.declared.replies.QueryReply.{QueryReply}
@@ -27,13 +23,14 @@ use Rattle.turn_model.specs.Moves.{Move, Made, Exchanged}
 use Rattle.turn_model.specs.Points as point
 use Rattle.turn_model.specs.Points.{Point, FreeIt, point_by}
 use Rattle.turn_model.specs.Driven.{held_by}
-use Rattle.turn_model.specs.Reports.{IsRecordIn, RanOut, as_claim, id_of_record}
+use Rattle.turn_model.specs.Reports.{RanOut}
 use Rattle.worker_machine.specs.declared.kept.Core.{Core}
 use Rattle.worker_machine.specs.declared.phase.Phase.{Phase}
 use Rattle.worker_machine.specs.declared.phase.Phase.TheVariants as phase
+use Rattle.run_laws.proofs.RecordsStay.{record-stays}
 use Rattle.run_laws.specs.Endings.{Beside, IsReplyAt, ended_after, ended_by, gathered_by, gathered_after}
 use Rattle.worker_machine.specs.Outcomes.{IsAsked, IsPicked}
-use Rattle.worker_machine.specs.Telling.{Book, Work, HasRoom, HasTold, IsRecordAt, Tells, book_of, given_up, work_by}
+use Rattle.worker_machine.specs.Telling.{Book, Work, FitsBook, HasBook, IsRecordAt, IsBookOf, book_of, given_up, work_by}
 
 -- ---- lists, item by item
 
@@ -55,33 +52,16 @@ beside-length P (x ∷ xs) [] all = absurd (all)
 pub called-begins : {e : Entry} {new before old : List Entry} → new ≡ e ∷ before → Begins before old → Begins new old
 called-begins {e} is (more, rest) = (e ∷ more, is ∙ ap (λ l. e ∷ l) rest)
 
--- a record that is right stays right
-pub record-stays : (D : Desk Workload) (h early : List Entry) (kept : Record) → IsLegal D.shape h → Begins h early
-    → IsRecordIn D.shape D.subject early kept → IsRecordIn D.shape D.subject h kept
-record-stays D h early kept legal begins is =
-    let k : KeepsTaskSets D.shape h early = task-sets-stay D.shape h early legal begins in
-    let id : ℕ = id_of_record kept in
-    let once = is.last in
-    let past : 0 < lasts_of D.shape id early = omega (arith, once) in
-    record {
-      stage = is.stage;
-      last = k.last id past;
-      slot = k.slot id kept.slot is.slot;
-      total = k.total id kept.total is.total;
-      of_load = is.of_load;
-      finisher = finisher-stays D.shape h early id kept.finisher legal begins is.finisher;
-      claims = is.claims ∙ ap (λ (l : List Morsel). cond kept.short [] (reverse (map as_claim l))) (sym (k.claims id past));
-    }
-
+-- and what was written down of it stays right
 pub told-grown : {D : Desk Workload} {early : List Entry} {work : Work} {book : Book} (h : List Entry) → IsLegal D.shape h → Begins h early
-    → HasTold D early work book → HasTold D h work book
+    → HasBook D early work book → HasBook D h work book
 told-grown {D} {early} {work} {book} h legal begins has = record {
   reply_room = has.reply_room;
   record_room = has.record_room;
   tells = λ room. let t = has.tells room in record {
     replies = t.replies;
     records = beside-map (IsRecordAt D early) (IsRecordAt D h) (reverse book.records.items) work.gathered
-        (λ kept id is. (is.0, record-stays D h early kept legal begins is.1)) t.records;
+        (λ kept id is. (is.0, record-stays D.shape D.subject h early kept legal begins is.1)) t.records;
     short = t.short;
   };
 }
@@ -92,9 +72,9 @@ abbrev book-with : Vec QueryReply Global → Vec Record Global → Option ℕ �
 book-with replies records gives_up = record { replies = replies; records = records; gives_up = gives_up }
 
 pub told-kept : {D : Desk Workload} {h : List Entry} {work : Work} (core core' : Core) (p p' : Phase) → core'.replies ≡ core.replies
-    → core'.records ≡ core.records → given_up p' ≡ given_up p → HasTold D h work (book_of core p) → HasTold D h work (book_of core' p')
+    → core'.records ≡ core.records → given_up p' ≡ given_up p → HasBook D h work (book_of core p) → HasBook D h work (book_of core' p')
 told-kept {D} {h} {work} core core' p p' replies records gives has =
-    subst (HasTold D h work)
+    subst (HasBook D h work)
     (ap (λ x. book-with x core.records (given_up p)) (sym replies) ∙ ap (λ x. book-with core'.replies x (given_up p)) (sym records)
     ∙ ap (λ x. book-with core'.replies core'.records x) (sym gives)) has
 
@@ -111,9 +91,9 @@ picked-gives slots p ok = absurd (ok)
 -- an exchange with which no task set is gathered
 pub exchange-tells : (D : Desk Workload) (ms : List Move) (x : Point) {h : List Entry} {book : Book} → x ≡ point_by D ms
     → gathered_after x D.shape.workers (finalised_id (held_by D ms)) (gathered_by D ms) ≡ gathered_by D ms
-    → HasTold D h (work_by D ms) book → HasTold D h (work_by D (Exchanged ∷ ms)) book
+    → HasBook D h (work_by D ms) book → HasBook D h (work_by D (Exchanged ∷ ms)) book
 exchange-tells D ms x {h} {book} at none has =
-    subst (λ (g : List ℕ). HasTold D h (record { ended = ended_by D ms; gathered = g }) book)
+    subst (λ (g : List ℕ). HasBook D h (record { ended = ended_by D ms; gathered = g }) book)
     (sym none ∙ ap (λ y. gathered_after y D.shape.workers (finalised_id (held_by D ms)) (gathered_by D ms)) at) has
 
 -- ---- one more
@@ -147,9 +127,9 @@ pub record Replies (D : Desk Workload) (held : Held) (old new : Core) : Type 0 w
   pub records : new.records ≡ old.records
 
 module _ (D : Desk Workload) (ms : List Move) (n : ℕ) (h : List Entry) (core core' : Core) (p p' : Phase) (r : Replies D (held_by D ms) core core')
-    (gives : (q : ℕ) → given_up p ≡ Some q → (r.reply.query ≡ q) × (r.reply.reply ≡ Memory)) (has : HasTold D h (work_by D ms) (book_of core p)) where
-  replied-tells : HasRoom D (record { ended = held_by D ms ∷ ended_by D ms; gathered = gathered_by D ms })
-      → Tells D h (record { ended = held_by D ms ∷ ended_by D ms; gathered = gathered_by D ms }) (book_of core' p')
+    (gives : (q : ℕ) → given_up p ≡ Some q → (r.reply.query ≡ q) × (r.reply.reply ≡ Memory)) (has : HasBook D h (work_by D ms) (book_of core p)) where
+  replied-tells : FitsBook D (record { ended = held_by D ms ∷ ended_by D ms; gathered = gathered_by D ms })
+      → IsBookOf D h (record { ended = held_by D ms ∷ ended_by D ms; gathered = gathered_by D ms }) (book_of core' p')
   replied-tells room =
       let most = room.replies in
       let t = has.tells (record { replies = omega (arith, most); records = room.records }) in
@@ -169,11 +149,11 @@ module _ (D : Desk Workload) (ms : List Move) (n : ℕ) (h : List Entry) (core c
             (λ k d lt is-short. out _ (t.short k d lt is-short));
       }
 
-  pub told-replied : point_by D (Made (NoteDone n) 0 ∷ ms) ≡ FreeIt → HasTold D h (work_by D (Made (NoteDone n) 0 ∷ ms)) (book_of core' p')
+  pub told-replied : point_by D (Made (NoteDone n) 0 ∷ ms) ≡ FreeIt → HasBook D h (work_by D (Made (NoteDone n) 0 ∷ ms)) (book_of core' p')
   told-replied freed =
       let more-room = r.room in
       let cap = has.reply_room in
-      subst (λ (x : Point). HasTold D h (record { ended = ended_after (NoteDone n) x (held_by D ms) (ended_by D ms); gathered = gathered_by D ms })
+      subst (λ (x : Point). HasBook D h (record { ended = ended_after (NoteDone n) x (held_by D ms) (ended_by D ms); gathered = gathered_by D ms })
       (book_of core' p')) (sym freed) (record {
         reply_room = omega (arith, more-room, cap);
         record_room = subst (λ (v : Vec Record Global). sets_of D.shape D.subject ≤ vec_capacity v) (sym r.records) has.record_room;
@@ -182,9 +162,9 @@ module _ (D : Desk Workload) (ms : List Move) (n : ℕ) (h : List Entry) (core c
 
 -- a note after which the holding goes on
 pub told-noted : (D : Desk Workload) (ms : List Move) (n : ℕ) {h : List Entry} {book : Book} → point.Fill 0 ≡ point_by D (Made (NoteDone n) 0 ∷ ms)
-    → HasTold D h (work_by D ms) book → HasTold D h (work_by D (Made (NoteDone n) 0 ∷ ms)) book
+    → HasBook D h (work_by D ms) book → HasBook D h (work_by D (Made (NoteDone n) 0 ∷ ms)) book
 told-noted D ms n {h} {book} goes has =
-    subst (λ (x : Point). HasTold D h (record { ended = ended_after (NoteDone n) x (held_by D ms) (ended_by D ms); gathered = gathered_by D ms }) book) goes has
+    subst (λ (x : Point). HasBook D h (record { ended = ended_after (NoteDone n) x (held_by D ms) (ended_by D ms); gathered = gathered_by D ms }) book) goes has
 
 -- ---- a record
 
@@ -198,9 +178,9 @@ pub record Gathers (D : Desk Workload) (h : List Entry) (held : Held) (old new :
   pub gives : kept.short ≡ true → given_up next ≡ Some kept.query
 
 module _ (D : Desk Workload) (ms : List Move) (h : List Entry) (core core' : Core) (p p' : Phase) (r : Gathers D h (held_by D ms) core core' p')
-    (none : given_up p ≡ None) (has : HasTold D h (work_by D ms) (book_of core p)) where
-  gathered-tells : HasRoom D (record { ended = ended_by D ms; gathered = finalised_id (held_by D ms) ∷ gathered_by D ms })
-      → Tells D h (record { ended = ended_by D ms; gathered = finalised_id (held_by D ms) ∷ gathered_by D ms }) (book_of core' p')
+    (none : given_up p ≡ None) (has : HasBook D h (work_by D ms) (book_of core p)) where
+  gathered-tells : FitsBook D (record { ended = ended_by D ms; gathered = finalised_id (held_by D ms) ∷ gathered_by D ms })
+      → IsBookOf D h (record { ended = ended_by D ms; gathered = finalised_id (held_by D ms) ∷ gathered_by D ms }) (book_of core' p')
   gathered-tells room =
       let most = room.records in
       let t = has.tells (record { replies = room.replies; records = omega (arith, most) }) in
@@ -220,11 +200,11 @@ module _ (D : Desk Workload) (ms : List Move) (h : List Entry) (core core' : Cor
             core.records.items r.kept (λ k d lt is-short. stays _ (t.short k d lt is-short)) (λ is-short. inr (r.gives is-short)));
       }
 
-  pub told-gathered : point.Fetch (D.shape.workers - 1) ≡ point_by D ms → 0 < D.shape.workers → HasTold D h (work_by D (Exchanged ∷ ms)) (book_of core' p')
+  pub told-gathered : point.Fetch (D.shape.workers - 1) ≡ point_by D ms → 0 < D.shape.workers → HasBook D h (work_by D (Exchanged ∷ ms)) (book_of core' p')
   told-gathered at some =
       let more-room = r.room in
       let cap = has.record_room in
-      subst (λ (g : List ℕ). HasTold D h (record { ended = ended_by D ms; gathered = g }) (book_of core' p'))
+      subst (λ (g : List ℕ). HasBook D h (record { ended = ended_by D ms; gathered = g }) (book_of core' p'))
       (sym (ap (λ b. cond b (finalised_id (held_by D ms) ∷ gathered_by D ms) (gathered_by D ms))
       (eq-eqb (D.shape.workers - 1 + 1) D.shape.workers (omega (arith, some))))
       ∙ ap (λ (x : Point). gathered_after x D.shape.workers (finalised_id (held_by D ms)) (gathered_by D ms)) at) (record {
@@ -235,7 +215,7 @@ module _ (D : Desk Workload) (ms : List Move) (h : List Entry) (core core' : Cor
 
 -- a fetch that is not the last one
 pub fetch-tells : (D : Desk Workload) (ms : List Move) (v : ℕ) {h : List Entry} {book : Book} → point.Fetch v ≡ point_by D ms → v + 1 < D.shape.workers
-    → HasTold D h (work_by D ms) book → HasTold D h (work_by D (Exchanged ∷ ms)) book
+    → HasBook D h (work_by D ms) book → HasBook D h (work_by D (Exchanged ∷ ms)) book
 fetch-tells D ms v at more =
     exchange-tells D ms (point.Fetch v) at
     (ap (λ b. cond b (finalised_id (held_by D ms) ∷ gathered_by D ms) (gathered_by D ms)) (ne_eqb (v + 1) D.shape.workers (λ e. omega (arith, e, more))))

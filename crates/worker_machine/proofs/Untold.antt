@@ -15,7 +15,7 @@ use Rattle.worker_machine.specs.declared.kept.Core.{Core}
 use Rattle.worker_machine.specs.declared.kept.Known.{Known}
 use Rattle.worker_machine.specs.declared.phase.Phase.TheVariants.{Ready}
 use Rattle.run_laws.specs.Endings.{Beside, IsReplyAt}
-use Rattle.worker_machine.specs.Telling.{Book, HasTold, IsRecordAt, work_by}
+use Rattle.worker_machine.specs.Telling.{Book, HasBook, IsRecordAt, work_by}
 use Rattle.worker_machine.specs.Keeps.{IsUnknown, IsUntold, Knows, kept_of}
 
 no-some : (o : Option ℕ) (n : ℕ) → o ≡ None → o ≡ Some n → ⊥
@@ -41,7 +41,7 @@ none-told D is = record {
 
 -- it has written nothing down
 pub none-written : (D : Desk Workload) (h : List Entry) (book : Book) → book.replies.items ≡ [] → book.records.items ≡ []
-    → D.shape.queries ≤ vec_capacity book.replies → sets_of D.shape D.subject ≤ vec_capacity book.records → HasTold D h (work_by D []) book
+    → D.shape.queries ≤ vec_capacity book.replies → sets_of D.shape D.subject ≤ vec_capacity book.records → HasBook D h (work_by D []) book
 none-written D h book replies records few less = record {
   reply_room = few;
   record_room = less;

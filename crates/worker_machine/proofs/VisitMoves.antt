@@ -52,13 +52,13 @@ use Rattle.worker_machine.specs.Loads.{model_desk}
 use Rattle.worker_machine.specs.PointsOf.{point_of}
 use Rattle.worker_machine.specs.Replies.{AreAnswers}
 use Rattle.slot_history.specs.declared.act.Entry.{Entry}
-use Rattle.worker_machine.specs.Telling.{HasTold, book_of, work_by}
+use Rattle.worker_machine.specs.Telling.{HasBook, book_of, work_by}
 use Rattle.worker_machine.specs.Keeps.{HasMade, Knows, KeepsRest, chosen, kept_of, standing}
 use Rattle.worker_machine.specs.Knowing.{AreSpentOn, IsPriorityOf, SharesCount, WorkedOn}
 use Rattle.run_laws.specs.Shares.{Worked}
 use Rattle.run_laws.specs.Shares.{AscendWithin, counted, range_done, shares_by}
 use Rattle.worker_machine.specs.Counting.{HasShares}
-use Rattle.worker_machine.proofs.Counting.{counted-ascends}
+use Rattle.run_laws.proofs.Counting.{counted-ascends}
 use Rattle.worker_machine.proofs.Moving.{CallMoves, group-on, keeps-on, place-made}
 
 -- ---- the asking of a coordinator
@@ -94,7 +94,7 @@ pub mark-moves : {may_take : ℕ → ℕ → ℕ → Type 0} {trail : List Entry
     → place_by (model_desk D) ms ≡ place.Asking c.slot c.id c.asked c.marked → c.workers ≡ D.shape.workers → c.asked + 1 < D.shape.workers
     → IsAsked (marked_coordinator reply c) p → Knows (model_desk D) (told_by (model_desk D) ms) core (phase.Ask c)
     → HasShares D.shape.queries (shares_by (model_desk D) ms) core.shares → AreAnswers D.subject core.replies.items
-    → HasTold (model_desk D) trail (work_by (model_desk D) ms) (book_of core p)
+    → HasBook (model_desk D) trail (work_by (model_desk D) ms) (book_of core p)
     → CallMoves may_take D trail (mark_act reply) 0 ms core (phase.Ask c) p
 mark-moves D ms mark.Marked core c p at same low ok k has right told = record {
   may = tt;
@@ -144,45 +144,38 @@ dropped-group : (b : Bool) (r : NoticeRecord) → (cond b (dropped r) r).group �
 dropped-group true r = refl
 dropped-group false r = refl
 
-abbrev IsDrop : Act → Type 0
-IsDrop act.LookInvalid = Unit {0}
-IsDrop act.LookVacant = Unit {0}
-IsDrop act.ShutWon = Unit {0}
-IsDrop act.ShutLost = Unit {0}
-IsDrop a = ⊥
+-- a shut tells nothing else, and a look at a slot that is not open tells the same
+shut-same : (D : Desk Workload) (ms : List Move) → TellsSame (told_by D ms) (told_by D (Made act.ShutLost 0 ∷ ms))
+shut-same D ms = record {
+  finished = refl;
+  arrived = refl;
+  times = refl;
+  slot = λ E s kept k. group-on k (k.group ∙ sym (dropped-group (eqb s (slot_by D ms)) (record_by D s ms))) refl (λ q. refl) (λ id. (refl, refl));
+}
 
-pub drop-same : (D : Desk Workload) (ms : List Move) (a : Act) → IsDrop a → TellsSame (told_by D ms) (told_by D (Made a 0 ∷ ms))
-drop-same D ms act.LookInvalid is = record {
-  finished = refl;
-  arrived = refl;
-  times = refl;
-  slot = λ E s kept k. group-on k (k.group ∙ sym (dropped-group (eqb s (slot_by D ms)) (record_by D s ms))) refl (λ q. refl) (λ id. (refl, refl));
-}
-drop-same D ms act.LookVacant is = record {
-  finished = refl;
-  arrived = refl;
-  times = refl;
-  slot = λ E s kept k. group-on k (k.group ∙ sym (dropped-group (eqb s (slot_by D ms)) (record_by D s ms))) refl (λ q. refl) (λ id. (refl, refl));
-}
-drop-same D ms act.ShutWon is = record {
-  finished = refl;
-  arrived = refl;
-  times = refl;
-  slot = λ E s kept k. group-on k (k.group ∙ sym (dropped-group (eqb s (slot_by D ms)) (record_by D s ms))) refl (λ q. refl) (λ id. (refl, refl));
-}
-drop-same D ms act.ShutLost is = record {
-  finished = refl;
-  arrived = refl;
-  times = refl;
-  slot = λ E s kept k. group-on k (k.group ∙ sym (dropped-group (eqb s (slot_by D ms)) (record_by D s ms))) refl (λ q. refl) (λ id. (refl, refl));
-}
-drop-same D ms a is = absurd (is)
+-- the passes once the slot at which the worker is was dropped
+abbrev slot-dropped : Desk Workload → List Move → Strides
+slot-dropped D ms = stride_after (strides_by D ms) (DropSlot (slot_by D ms))
 
--- the slot at which the worker is was dropped
 pub dropped-strides : (D : Desk Workload) (ms : List Move) (s : ℕ) (at : Place) (old new : Strides) → at ≡ place_by D ms → slot_of at ≡ s
-    → old ≡ strides_by D ms → new ≡ stride_after old (DropSlot s) → new ≡ stride_after (strides_by D ms) (DropSlot (slot_by D ms))
+    → old ≡ strides_by D ms → new ≡ stride_after old (DropSlot s) → new ≡ slot-dropped D ms
 dropped-strides D ms s at old new same is before after =
     after ∙ ap₂ (λ (x : Strides) (k : ℕ). stride_after x (DropSlot k)) before (sym is ∙ ap slot_of same)
+
+module _ {O : Type 0} (seen : Seen O Plan) {core core' : Core} {phase phase' : Phase} {s : ℕ} (ms : List Move) (h : HasMade (standing core phase seen) ms)
+    (at : slot_of (own_place seen) ≡ s) (before : strides_of core.strides ≡ strides_by (model_desk seen.desk) ms) where
+  -- what is kept then
+  pub drop-knows : {told : Told} → TellsSame (told_by (model_desk seen.desk) ms) told → slot-dropped (model_desk seen.desk) ms ≡ chosen phase' told.strides
+      → KeepsRest core core' → strides_of core'.strides ≡ stride_after (strides_of core.strides) (DropSlot s) → Knows (model_desk seen.desk) told core' phase'
+  drop-knows same is rest after =
+      same-knows h.knows same rest
+      (dropped-strides (model_desk seen.desk) ms s (own_place seen) (strides_of core.strides) (strides_of core'.strides) (place-made seen ms h) at before after
+      ∙ is)
+
+  pub shut-knows : slot-dropped (model_desk seen.desk) ms ≡ chosen phase' (slot-dropped (model_desk seen.desk) ms) → KeepsRest core core'
+      → strides_of core'.strides ≡ stride_after (strides_of core.strides) (DropSlot s)
+      → Knows (model_desk seen.desk) (told_by (model_desk seen.desk) (Made act.ShutLost 0 ∷ ms)) core' phase'
+  shut-knows = drop-knows (shut-same (model_desk seen.desk) ms)
 
 -- ---- a look at an open slot
 

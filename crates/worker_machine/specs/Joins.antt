@@ -4,7 +4,14 @@ use Rattle.std.specs.Prelude.{◌≡◌, ℕ, zero, suc, ◌+◌, ◌*◌, ◌==
 use Rattle.std.specs.Prelude.{List, Some, None, slice_get}
 use Rattle.std.specs.Int.{bit_at}
 use Rattle.stride_set.specs.Strides.{Call, JoinReturn, JoinChange, Strides, stride_after}
+use Rattle.worker_machine.specs.declared.joins.Notice.{Notice}
+use Rattle.worker_machine.specs.declared.joins.Notice.TheVariants.{Returned, Changed}
 use Rattle.worker_machine.specs.declared.kept.Known.{Known}
+
+-- how a slot joins by a notice
+abbrev pub join_of : Notice → ℕ → Call
+join_of Returned = JoinReturn
+join_of Changed = JoinChange
 
 -- the joins of those of the first n slots of the word that have their bit
 unfoldable pub joined : (ℕ → Call) → ℕ → ℕ → ℕ → Strides → Strides

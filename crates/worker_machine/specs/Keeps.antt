@@ -24,7 +24,7 @@ use Rattle.worker_machine.specs.Desks.{desk_of}
 use Rattle.run_laws.specs.Shares.{shares_by}
 use Rattle.worker_machine.specs.Counting.{HasShares}
 use Rattle.worker_machine.specs.Replies.{AreAnswers}
-use Rattle.worker_machine.specs.Telling.{HasTold, book_of, work_by}
+use Rattle.worker_machine.specs.Telling.{HasBook, book_of, work_by}
 use Rattle.worker_machine.specs.Loads.{load_of, model_desk}
 use Rattle.worker_machine.specs.PointsOf.{point_of}
 
@@ -116,7 +116,7 @@ pub record HasMade (at : Standing) (ms : List Move) : Type 0 where
   pub point : point_of at.desk.shape.workers at.phase ≡ point_by (model_desk at.desk) ms
   pub shares : HasShares at.desk.shape.queries (shares_by (model_desk at.desk) ms) at.core.shares
   pub answers : AreAnswers at.desk.subject at.core.replies.items
-  pub told : HasTold (model_desk at.desk) at.trail (work_by (model_desk at.desk) ms)
+  pub told : HasBook (model_desk at.desk) at.trail (work_by (model_desk at.desk) ms)
       (book_of at.core at.phase)
 
 -- The worker makes one move, whatever moves it has made: one that comes next, with a time that the
@@ -127,6 +127,6 @@ pub record Moves (may_take : ℕ → ℕ → ℕ → Type 0) (from to : Standing
   pub timed : (ms : List Move) → HasMade from ms → IsTimed may_take (model_desk from.desk) ms move
   pub made : (ms : List Move) → HasMade from ms → HasMade to (move ∷ ms)
 
--- no time: the move of a phase that works on no range
+-- no time may be taken: such a move works on no range
 abbrev pub takes_none : ℕ → ℕ → ℕ → Type 0
 takes_none tuples cost ns = ⊥

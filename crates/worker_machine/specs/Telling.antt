@@ -51,7 +51,7 @@ abbrev pub work_by : Desk Workload → List Move → Work
 work_by D ms = record { ended = ended_by D ms; gathered = gathered_by D ms }
 
 -- no more replies than queries, and no more records than task sets
-pub record HasRoom (D : Desk Workload) (work : Work) : Type 0 where
+pub record FitsBook (D : Desk Workload) (work : Work) : Type 0 where
   pub replies : length work.ended ≤ D.shape.queries
   pub records : length work.gathered ≤ sets_of D.shape D.subject
 
@@ -60,20 +60,20 @@ IsRecordAt D h kept id = (id_of_record kept ≡ id) × IsRecordIn D.shape D.subj
 
 -- A reply for each holding that ended, and a record of each task set that was gathered. The query
 -- of a short record is given up.
-pub record Tells (D : Desk Workload) (h : List Entry) (work : Work) (book : Book) : Type 0 where
+pub record IsBookOf (D : Desk Workload) (h : List Entry) (work : Work) (book : Book) : Type 0 where
   pub replies : Beside (IsReplyAt D.subject) (reverse book.replies.items) work.ended
   pub records : Beside (IsRecordAt D h) (reverse book.records.items) work.gathered
   pub short : All (λ (kept : Record). kept.short ≡ true
       → RanOut kept.query book.replies.items ⊎ (book.gives_up ≡ Some kept.query))
       book.records.items
 
--- the book has room for a reply to each query and a record of each task set, and tells of this work
--- as long as there is no more of it
-pub record HasTold (D : Desk Workload) (h : List Entry) (work : Work) (book : Book)
+-- the book has room for a reply to each query and a record of each task set, and is of this work as
+-- long as there is no more of it
+pub record HasBook (D : Desk Workload) (h : List Entry) (work : Work) (book : Book)
     : Type 0 where
   pub reply_room : D.shape.queries ≤ vec_capacity book.replies
   pub record_room : sets_of D.shape D.subject ≤ vec_capacity book.records
-  pub tells : HasRoom D work → Tells D h work book
+  pub tells : FitsBook D work → IsBookOf D h work book
 
 -- What gathering writes down: a record of the task set that the holder finalises, with the claims
 -- that the benches fit. If it is short, the query is given up.

@@ -98,7 +98,8 @@ impl Core {
         }
     }
 
-    // Keeps the record of a task set.
+    // Keeps the record of a task set. There is room for one of each (`HasBook`): a worker keeps
+    // no more than that.
     fn keep(&mut self, record: Record)
         ensures same { desk_of self.new ≡ desk_of self.old }
         ensures mind { KeepsMind self.old self.new }
@@ -194,7 +195,7 @@ impl Core {
             return false;
         };
         match next_inputs(alloc, &inputs, whole) {
-            Ok(inputs) => self.fill(alloc, id + 1, &inputs),
+            Ok(inputs) => self.make_all(alloc, id + 1, &inputs),
             Err(_) => false,
         }
     }

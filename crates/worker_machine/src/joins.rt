@@ -3,38 +3,44 @@ ghost use Rattle.std.specs.Prelude.{◌≡◌, ◌<◌, length};
 ghost use Rattle.slot_history.specs.declared.shape.TheConstants.{PARTS};
 ghost use Rattle.slot_history.specs.Histories.{is_in_mask};
 ghost use Rattle.slot_station.specs.Replies.{NamesSlots};
-ghost use Rattle.stride_set.specs.Strides.{strides_of};
+ghost use Rattle.stride_set.specs.Strides.{stride_after, strides_of};
 ghost use Rattle.bench_cell.specs.declared.plan.Plan.{Plan};
-ghost use Rattle.worker_machine.specs.Joins.{returned, changed, AreForgotten};
+ghost use Rattle.worker_machine.specs.Joins.{AreForgotten, join_of, joined};
 ghost use Rattle.worker_machine.specs.Sized.{AreSized};
 
 use crate::kept::Known;
 use slot_station::shape::PARTS;
 use stride_set::StrideSet;
 
-// Each slot of a word of return notices joins, from the lowest upwards.
-pub(crate) fn join_returned(strides: &mut StrideSet, part: u32, bits: u64)
+// What the notices of a word say of their slots: that a query returned, or that it changed.
+#[derive(Clone, Copy)]
+pub(crate) enum Notice {
+    Returned,
+    Changed,
+}
+
+// Each slot of a word of notices joins, from the lowest upwards.
+pub(crate) fn join_all(strides: &mut StrideSet, notice: Notice, part: u32, bits: u64)
     requires names { NamesSlots (strides_of strides.old).slots part bits }
     requires part { part < PARTS }
-    ensures { strides_of strides.new ≡ returned 64 part bits (strides_of strides.old) }
+    ensures { strides_of strides.new ≡ joined (join_of notice) 64 part bits
+        (strides_of strides.old) }
 {
     for k in 0..64 {
         if (bits >> k) % 2 == 1 {
-            strides.join_return(part * 64 + k);
+            join(strides, notice, part * 64 + k);
         }
     }
 }
 
-// Each slot of a word of change notices joins, from the lowest upwards.
-pub(crate) fn join_changed(strides: &mut StrideSet, part: u32, bits: u64)
-    requires names { NamesSlots (strides_of strides.old).slots part bits }
-    requires part { part < PARTS }
-    ensures { strides_of strides.new ≡ changed 64 part bits (strides_of strides.old) }
+// The slot joins.
+fn join(strides: &mut StrideSet, notice: Notice, s: u32)
+    requires { s < (strides_of strides.old).slots }
+    ensures { strides_of strides.new ≡ stride_after (strides_of strides.old) (join_of notice s) }
 {
-    for k in 0..64 {
-        if (bits >> k) % 2 == 1 {
-            strides.join_change(part * 64 + k);
-        }
+    match notice {
+        Notice::Returned => strides.join_return(s),
+        Notice::Changed => strides.join_change(s),
     }
 }
 

@@ -1,6 +1,6 @@
 // The begin of a turn: the notices, the two numbers, and which slot is next.
 
-use crate::joins::{forget_groups, join_changed, join_returned};
+use crate::joins::{Notice, forget_groups, join_all};
 use crate::kept::Core;
 use crate::phase::Phase;
 use crate::plans::query_of;
@@ -48,7 +48,7 @@ impl Core {
         ensures ticks { steps.new ≡ steps.old + 1 }
     {
         let bits = station.take_return(part, steps);
-        join_returned(&mut self.strides, part, bits);
+        join_all(&mut self.strides, Notice::Returned, part, bits);
         if part + 1 < PARTS {
             Phase::Return(part + 1)
         } else {
@@ -74,7 +74,7 @@ impl Core {
         ensures ticks { steps.new ≡ steps.old + 1 }
     {
         let bits = station.take_change(part, steps);
-        join_changed(&mut self.strides, part, bits);
+        join_all(&mut self.strides, Notice::Changed, part, bits);
         forget_groups(&mut self.known, part, bits);
         if part + 1 < PARTS {
             Phase::Change(part + 1)

@@ -120,13 +120,13 @@ impl Core {
             (STAGES * self.old.arrived) self.new.workers self.new.benches.items }
     {
         match first_inputs(alloc, &self.plan, self.arrived) {
-            Ok(inputs) => self.fill(alloc, STAGES * self.arrived, &inputs),
+            Ok(inputs) => self.make_all(alloc, STAGES * self.arrived, &inputs),
             Err(_) => false,
         }
     }
 
     // Makes the benches of a task set. Answers whether memory sufficed.
-    pub(crate) fn fill(&mut self, alloc: Global, id: u32, inputs: &Arc<Inputs>) -> bool
+    pub(crate) fn make_all(&mut self, alloc: Global, id: u32, inputs: &Arc<Inputs>) -> bool
         requires { AreInputs (arc_value inputs.now) }
         ensures same { desk_of self.new ≡ desk_of self.old }
         ensures mind { KeepsMind self.old self.new }
@@ -280,7 +280,8 @@ impl Core {
         Phase::Ready(Turn::Acted)
     }
 
-    // Keeps the reply to the query that the slot is held for.
+    // Keeps the reply to the query that the slot is held for. There is room for one to each query
+    // (`HasBook`): a worker keeps no more than that.
     pub(crate) fn reply(&mut self, holder: &Holder, reply: Reply)
         requires { IsReplyTo (load_of (arc_value self.old.plan))
             (unwrap_or holder.now.query 0) reply }

@@ -1,11 +1,11 @@
 use Rattle.std.proofs.Common.{◌≡◌, ◌≢◌, ◌<◌, ◌≤◌, ℕ, Some, true, false, if◌then◌else◌, length, ltb, slice_get, slice_set, refl, sym, ap, ◌∙◌, subst}
 use Rattle.std.proofs.Common.{arith, rules, of_calls}
 use Rattle.std.specs.Prelude.{insert}
-use Rattle.std.specs.List.Sorted.{IsPartitionPoint, IsPartitionedBy}
 use Rattle.std.proofs.lemmas.Option.{slice_get_read, slice_get_within}
-use Rattle.std.proofs.lemmas.List.Sorted.{IsPartitionPoint-from_clause, IsPartitionedBy-ltb}
+use Rattle.std.proofs.lemmas.List.Sorted.{IsPartitionPoint-from_clause}
 use Rattle.report_text.specs.declared.report.Share.{Share}
-use Rattle.worker_machine.proofs.Counting.{below-at, counted-new, counted-old, from-at, inserted-few, not-falling, some-is}
+use Rattle.worker_machine.proofs.Counting.{PartsAt, below-at, counted-new, counted-old, from-at, inserted-few, parted}
+use Rattle.run_laws.proofs.Counting.{some-is}
 use Rattle.worker_machine.specs.Counting.{as_range}
 use Rattle.worker_machine.proofs.shares.count_range.Goals as goal
 use Rattle.worker_machine.proofs.shares.count_range.Goals.{else-at-len-via-then-at-len+else-index-range, else-at-len-via-else-at-len}
@@ -15,12 +15,8 @@ returns-then-index-range-clause-counted c queries up low room =
     let xs = c.args.shares.now.items in
     let q : ℕ = c.args.range.query in
     let at : ℕ = c.partition_point-at.result in
-    let same : c.deref.result.now ≡ xs = c.deref.ensures.value in
-    let parted : IsPartitionedBy (λ (s : Share). ltb s.query q) c.deref.result.now =
-    subst (IsPartitionedBy (λ (s : Share). ltb s.query q)) (sym same) (IsPartitionedBy-ltb (λ (s : Share). s.query) xs q (not-falling 0 queries xs up)) in
-    let parts : IsPartitionPoint (λ (s : Share). ltb s.query q ≡ true) (λ (s : Share). ltb s.query q ≡ false) xs at =
-    subst (λ l. IsPartitionPoint (λ (s : Share). ltb s.query q ≡ true) (λ (s : Share). ltb s.query q ≡ false) l at) same
-    (IsPartitionPoint-from_clause (λ (s : Share). ltb s.query q) _ _ c.partition_point-at.ensures.partitioned parted (λ a r f k. search (rules, of_calls))) in
+    let parts : PartsAt xs q at = subst (λ l. PartsAt l q at) c.deref.ensures.value (IsPartitionPoint-from_clause (λ (s : Share). ltb s.query q) _ _
+    c.partition_point-at.ensures.partitioned (parted queries q xs _ c.deref.ensures.value up) (λ a r f k. search (rules, of_calls))) in
     let within : at < length xs = omega arith in
     let got : slice_get xs at ≡ Some c.index_mut.result.now = slice_get_read xs (length xs) at c.index_mut.result.now refl within c.index_mut.ensures.value in
     let read : slice_get xs at ≡ Some c.index.result.now = slice_get_read xs (length xs) at c.index.result.now refl within c.index.ensures in
@@ -34,13 +30,9 @@ returns-else-at-len-clause-counted c queries up low room =
     let range = as_range c.args.range in
     let q : ℕ = c.args.range.query in
     let at : ℕ = c.partition_point-at.result in
-    let same : c.deref.result.now ≡ xs = c.deref.ensures.value in
-    let parted : IsPartitionedBy (λ (s : Share). ltb s.query q) c.deref.result.now =
-    subst (IsPartitionedBy (λ (s : Share). ltb s.query q)) (sym same) (IsPartitionedBy-ltb (λ (s : Share). s.query) xs q (not-falling 0 queries xs up)) in
-    let parts : IsPartitionPoint (λ (s : Share). ltb s.query q ≡ true) (λ (s : Share). ltb s.query q ≡ false) xs at =
-    subst (λ l. IsPartitionPoint (λ (s : Share). ltb s.query q ≡ true) (λ (s : Share). ltb s.query q ≡ false) l at) same
-    (IsPartitionPoint-from_clause (λ (s : Share). ltb s.query q) _ _ c.partition_point-at.ensures.partitioned parted (λ a r f k. search (rules, of_calls))) in
-    let most : at ≤ length xs = subst (λ l. at ≤ length l) same c.partition_point-at.ensures.bound in
+    let parts : PartsAt xs q at = subst (λ l. PartsAt l q at) c.deref.ensures.value (IsPartitionPoint-from_clause (λ (s : Share). ltb s.query q) _ _
+    c.partition_point-at.ensures.partitioned (parted queries q xs _ c.deref.ensures.value up) (λ a r f k. search (rules, of_calls))) in
+    let most : at ≤ length xs = subst (λ l. at ≤ length l) c.deref.ensures.value c.partition_point-at.ensures.bound in
     let past : (s : Share) → slice_get xs at ≡ Some s → q < s.query = λ s got.
     elim c.else-at-len.branch [
       | else-at-len-via-then-at-len+else-index-range w ↦

@@ -1,7 +1,7 @@
 use Rattle.std.proofs.Common.{◌*◌, ◌<◌, cond, refl, ap, ◌∙◌, subst}
 use Rattle.slot_station.specs.declared.token.Holder.{Holder}
 use Rattle.turn_model.specs.Points as point
-use Rattle.worker_machine.proofs.Moving.{moves-by, keeps-on, mind-on, shares-kept, answers-kept}
+use Rattle.worker_machine.proofs.Moving.{quiet-by, keeps-on, mind-on}
 use Rattle.slot_station.specs.Desks.{Desk}
 use Rattle.bench_cell.specs.declared.plan.Plan.{Plan}
 use Rattle.worker_machine.proofs.Desks.{plan-of, some-workers, workers-of}
@@ -11,9 +11,7 @@ use Rattle.std.specs.Arc.{arc_value}
 use Rattle.slot_history.specs.declared.shape.TheConstants.{STAGES}
 use Rattle.worker_machine.specs.Plans.{stages_at}
 use Rattle.worker_machine.specs.Benches.{AreFresh}
-use Rattle.worker_machine.specs.declared.phase.Phase.TheVariants as phase
 use Rattle.std.proofs.Common.{None}
-use Rattle.worker_machine.proofs.Telling.{told-kept}
 use Rattle.worker_machine.proofs.kept.Core.admit.Goals as goal
 
 pub returns-then-make_first-clause-hand : goal.returns-then-make_first-clause-hand
@@ -40,40 +38,23 @@ returns-else-make_first-clause-hand g c =
 
 pub returns-then-make_first-clause-moves : goal.returns-then-make_first-clause-moves
 returns-then-make_first-clause-moves g c =
-    moves-by c.in-Got.ensures.made 0 (λ ms h. record {
-      may = h.knows.arrived;
-      timed = refl;
-      shares = shares-kept h.shares c.make_first.ensures.mind.rest.shares;
-      answers = answers-kept h.answers c.make_first.ensures.replies;
-      told = told-kept c.args.self.now c.make_first.new.self (phase.Admit c.args.holder) (phase.Put c.admit.new.holder 0)
-          c.make_first.ensures.replies c.make_first.ensures.records refl h.told;
-      knows = mind-on h.knows c.make_first.ensures.mind refl;
-      point = refl;
-    })
+    quiet-by c.in-Got.ensures.made (λ ms. (refl, refl, refl))
+    (c.make_first.ensures.mind.rest.shares, c.make_first.ensures.replies, c.make_first.ensures.records) refl
+    (λ ms h. (h.knows.arrived, mind-on h.knows c.make_first.ensures.mind refl, refl))
 
 pub returns-else-make_first-clause-moves : goal.returns-else-make_first-clause-moves
 returns-else-make_first-clause-moves g c =
-    let f = c.requires.follows in
     let old = g.S.Station.seen c.args.station.now in
-    moves-by c.in-Got.ensures.made 0 (λ ms h. record {
-      may = h.knows.arrived;
-      timed = refl;
-      shares = shares-kept h.shares c.make_first.ensures.mind.rest.shares;
-      answers = answers-kept h.answers c.make_first.ensures.replies;
-      told = told-kept c.args.self.now c.make_first.new.self (phase.Admit c.args.holder) (phase.Give c.admit.new.holder) c.make_first.ensures.replies
-          c.make_first.ensures.records (ap (λ b. cond b c.admit.new.holder.query None) (ap (λ (x : Holder). x.again) c.in-Got.ensures.query ∙ f.hand.3)) h.told;
-      knows = mind-on h.knows c.make_first.ensures.mind refl;
-      point = ap (λ b. cond b (point.Fetch old.desk.shape.workers) (point.Fill 0)) (ap (λ (x : Holder). x.again) c.in-Got.ensures.query ∙ f.hand.3);
-    })
+    let first = ap (λ (x : Holder). x.again) c.in-Got.ensures.query ∙ c.requires.follows.hand.3 in
+    quiet-by c.in-Got.ensures.made (λ ms. (refl, refl, refl))
+    (c.make_first.ensures.mind.rest.shares, c.make_first.ensures.replies, c.make_first.ensures.records)
+    (ap (λ b. cond b c.admit.new.holder.query None) first)
+    (λ ms h. (
+      h.knows.arrived,
+      mind-on h.knows c.make_first.ensures.mind refl,
+      ap (λ b. cond b (point.Fetch old.desk.shape.workers) (point.Fill 0)) first,
+    ))
 
 pub returns-in-Lost-clause-moves : goal.returns-in-Lost-clause-moves
 returns-in-Lost-clause-moves g c =
-    moves-by c.in-Lost.ensures.made 0 (λ ms h. record {
-      may = h.knows.arrived;
-      timed = refl;
-      shares = h.shares;
-      answers = h.answers;
-      told = h.told;
-      knows = keeps-on h.knows refl;
-      point = refl;
-    })
+    quiet-by c.in-Lost.ensures.made (λ ms. (refl, refl, refl)) (refl, refl, refl) refl (λ ms h. (h.knows.arrived, keeps-on h.knows refl, refl))

@@ -1,18 +1,17 @@
 use Rattle.std.proofs.Common.{◌≡◌, ◌/◌, ◌<◌, [], length, Some, sym, ◌∙◌, subst, arith}
 use Rattle.bench_cell.specs.declared.plan.Plan.{Plan}
 use Rattle.worker_machine.proofs.Claims.{work-within, work-apart, task-within}
-use Rattle.worker_machine.proofs.Desks.{plan-of, slots-of}
+use Rattle.worker_machine.proofs.Desks.{known-here, plan-of, slots-of}
 use Rattle.worker_machine.proofs.Sizes.{cut-some}
 use Rattle.worker_machine.proofs.Tasks.{task-query}
 use Rattle.worker_machine.proofs.Visits.{claimed, used-up}
 use Rattle.std.specs.Arc.{arc_value}
 use Rattle.slot_history.specs.declared.shape.TheConstants.{STAGES}
 use Rattle.bench_cell.specs.Plans.{total_of}
-use Rattle.std.proofs.lemmas.Option.{slice_get_read}
 use Rattle.worker_machine.specs.Plans.{IsTask}
 use Rattle.slot_station.specs.Desks.{Desk}
 use Rattle.std.proofs.Common.{refl, length}
-use Rattle.worker_machine.proofs.Moving.{answers-kept, moves-by, keeps-on}
+use Rattle.worker_machine.proofs.Moving.{answers-kept, moves-by, quiet-by, keeps-on}
 use Rattle.std.proofs.Common.{ap}
 use Rattle.worker_machine.specs.Plans.{cost_at}
 use Rattle.worker_machine.proofs.VisitMoves.{claim-size, known-at, range-knows, range-shares, range-timed, spent-priority}
@@ -29,10 +28,7 @@ task_total-total-requires g c =
 pub next-n-requires : goal.next-n-requires
 next-n-requires g c =
     let f = c.requires.follows in
-    let slots = slots-of c.args.self.now f.desk in
-    let low : c.args.s < c.args.self.now.slots = omega (arith, slots, f.hand.1) in
-    let got = slice_get_read c.args.self.now.known.items c.args.self.now.slots c.args.s c.index-known.result.now
-    (sym c.args.self.now.each_known) low c.index-known.ensures in
+    let got = known-here c.args.self.now f.desk c.args.s c.index-known.result.now f.hand.1 c.index-known.ensures in
     (c.args.self.now.sized c.args.s _ got).within c.args.id _ (f.fits.1 _ got)
     (subst (λ (p : Plan). total_of p c.args.id ≡ Some c.task_total-total.result) c.deref.ensures c.task_total-total.ensures.total)
 
@@ -87,16 +83,15 @@ returns-in-Range-clause-moves g c =
     let old = g.S.Station.seen c.args.station.now in
     let f = c.requires.follows in
     let self = c.args.self.now in
-    let slots = slots-of self f.desk in
-    let low : c.args.s < self.slots = omega (arith, slots, f.hand.1) in
     let known = c.index-known.result.now in
-    let got = slice_get_read self.known.items self.slots c.args.s known (sym self.each_known) low c.index-known.ensures in
+    let got = known-here self f.desk c.args.s known f.hand.1 c.index-known.ensures in
     let of = f.fits.1 known got in
     let plan = c.deref.ensures ∙ plan-of self f.desk in
     let w = c.worked.ensures.worked.1 in
     let counts = c.worked.ensures.counted in
     let slots' = ap (λ (x : Desk Plan). x.shape.slots) c.worked.ensures.same in
-    let now = known-at c.worked.new.self.known.items c.args.s (omega (arith, slots', low, c.worked.new.self.each_known)) in
+    let now = known-at c.worked.new.self.known.items c.args.s
+    (let slots = slots-of self f.desk in omega (arith, slots, f.hand.1, slots', c.worked.new.self.each_known)) in
     let below : c.args.id / STAGES < old.desk.shape.queries = subst (λ (x : Desk Plan). c.args.id / STAGES < x.shape.queries) f.desk
     (task-query (arc_value self.plan) c.args.id (subst (λ (p : Plan). IsTask p c.args.id) (sym (plan-of self f.desk)) f.hand.2)) in
     moves-by c.in-Range.ensures.made c.within_bounds-ns.result (λ ms h. record {
@@ -123,23 +118,13 @@ returns-in-Range-clause-moves g c =
 
 pub returns-in-Exhausted-clause-moves : goal.returns-in-Exhausted-clause-moves
 returns-in-Exhausted-clause-moves g c =
-    let old = g.S.Station.seen c.args.station.now in
     let f = c.requires.follows in
-    let self = c.args.self.now in
-    let slots = slots-of self f.desk in
-    let low : c.args.s < self.slots = omega (arith, slots, f.hand.1) in
-    let known = c.index-known.result.now in
-    let got = slice_get_read self.known.items self.slots c.args.s known (sym self.each_known) low c.index-known.ensures in
-    let of = f.fits.1 known got in
-    let plan = c.deref.ensures ∙ plan-of self f.desk in
-    moves-by c.in-Exhausted.ensures.made 0 (λ ms h. record {
-      may = c.next-n.ensures.size
-          ∙ sym (claim-size old ms h f.hand.0 known got of _
-          (subst (λ (p : Plan). total_of p c.args.id ≡ Some c.task_total-total.result) plan c.task_total-total.ensures.total));
-      timed = refl;
-      shares = h.shares;
-      answers = h.answers;
-      told = h.told;
-      knows = keeps-on h.knows refl;
-      point = refl;
-    })
+    let got = known-here c.args.self.now f.desk c.args.s c.index-known.result.now f.hand.1 c.index-known.ensures in
+    quiet-by c.in-Exhausted.ensures.made (λ ms. (refl, refl, refl)) (refl, refl, refl) refl (λ ms h. (
+      c.next-n.ensures.size
+          ∙ sym (claim-size (g.S.Station.seen c.args.station.now) ms h f.hand.0 c.index-known.result.now got (f.fits.1 c.index-known.result.now got) _
+          (subst (λ (p : Plan). total_of p c.args.id ≡ Some c.task_total-total.result) (c.deref.ensures ∙ plan-of c.args.self.now f.desk)
+          c.task_total-total.ensures.total)),
+      keeps-on h.knows refl,
+      refl,
+    ))

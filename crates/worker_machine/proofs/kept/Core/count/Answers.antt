@@ -1,5 +1,5 @@
 use Rattle.std.proofs.Common.{refl}
-use Rattle.worker_machine.proofs.Moving.{moves-by}
+use Rattle.worker_machine.proofs.Moving.{quiet-by}
 use Rattle.worker_machine.proofs.Calls.{place-by}
 use Rattle.worker_machine.proofs.kept.Core.count.Goals as goal
 
@@ -11,12 +11,14 @@ returns-clause-hand g c =
 
 pub returns-clause-moves : goal.returns-clause-moves
 returns-clause-moves g c =
-    moves-by c.finished-self.ensures.made 0 (λ ms h. record {
-      may = tt;
-      timed = refl;
-      shares = h.shares;
-      answers = h.answers;
-      told = h.told;
-      knows = record { strides = h.knows.strides; finished = refl; arrived = h.knows.arrived; times = h.knows.times; slots = h.knows.slots };
-      point = refl;
-    })
+    quiet-by c.finished-self.ensures.made (λ ms. (refl, refl, refl)) (refl, refl, refl) refl (λ ms h. (
+      tt,
+      record {
+        strides = h.knows.strides;
+        finished = refl;
+        arrived = h.knows.arrived;
+        times = h.knows.times;
+        slots = h.knows.slots;
+      },
+      refl,
+    ))

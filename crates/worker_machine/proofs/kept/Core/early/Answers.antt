@@ -1,5 +1,5 @@
 use Rattle.std.proofs.Common.{refl}
-use Rattle.worker_machine.proofs.Moving.{moves-by, keeps-on}
+use Rattle.worker_machine.proofs.Moving.{quiet-by, keeps-on}
 use Rattle.std.proofs.Common.{◌∙◌}
 use Rattle.worker_machine.proofs.Calls.{place-on}
 use Rattle.worker_machine.proofs.Visits.{left-free}
@@ -13,24 +13,8 @@ returns-in-Left-clause-hand g c =
 
 pub returns-in-Left-clause-moves : goal.returns-in-Left-clause-moves
 returns-in-Left-clause-moves g c =
-    moves-by c.in-Left.ensures.made 0 (λ ms h. record {
-      may = tt;
-      timed = refl;
-      shares = h.shares;
-      answers = h.answers;
-      told = h.told;
-      knows = keeps-on h.knows refl;
-      point = refl;
-    })
+    quiet-by c.in-Left.ensures.made (λ ms. (refl, refl, refl)) (refl, refl, refl) refl (λ ms h. (tt, keeps-on h.knows refl, refl))
 
 pub returns-in-Owe-clause-moves : goal.returns-in-Owe-clause-moves
 returns-in-Owe-clause-moves g c =
-    moves-by c.in-Owe.ensures.made 0 (λ ms h. record {
-      may = tt;
-      timed = refl;
-      shares = h.shares;
-      answers = h.answers;
-      told = h.told;
-      knows = keeps-on h.knows refl;
-      point = refl;
-    })
+    quiet-by c.in-Owe.ensures.made (λ ms. (refl, refl, refl)) (refl, refl, refl) refl (λ ms h. (tt, keeps-on h.knows refl, refl))

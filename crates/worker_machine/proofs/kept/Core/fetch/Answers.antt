@@ -3,14 +3,14 @@ use Rattle.slot_station.specs.Desks.{Desk}
 use Rattle.bench_cell.specs.declared.plan.Plan.{Plan}
 use Rattle.worker_machine.proofs.Calls.{carry-kept}
 use Rattle.worker_machine.proofs.Desks.{workers-of, plan-of, is-one}
-use Rattle.worker_machine.proofs.Steps.{fetch-on}
+use Rattle.worker_machine.proofs.Steps.{fetch-on, fetches-on}
 use Rattle.worker_machine.proofs.Outcomes.{finishing-hand}
 use Rattle.worker_machine.proofs.Finishing.{fetched-for}
 use Rattle.std.specs.Arc.{arc_value}
 use Rattle.worker_machine.specs.Hands.{IsTaskHeld}
 use Rattle.std.proofs.Common.{◌≡◌, refl, ap}
 use Rattle.turn_model.specs.Points as point
-use Rattle.worker_machine.proofs.Moving.{exchanges-by, mind-on}
+use Rattle.worker_machine.proofs.Moving.{exchanges-by, mind-on, rest-kept}
 use Rattle.worker_machine.proofs.FinishMoves.{finishing-chosen, finishing-point}
 use Rattle.worker_machine.specs.Loads.{model_desk}
 use Rattle.worker_machine.specs.declared.phase.Phase.TheVariants as phase
@@ -31,30 +31,16 @@ unreachable-requires-in-Err g c =
 
 pub returns-then-v-self-clause-hand : goal.returns-then-v-self-clause-hand
 returns-then-v-self-clause-hand g c =
-    let f = c.requires.follows in
-    let was = c.args.self.now.benches.items in
-    let p =
-    fetch-on c.args.v was c.push.new.self.items c.in-Some.bench f.hand c.cell.ensures.put c.cell.ensures.same c.in-Some.ensures.says c.in-Ok.ensures.items in
-    record {
-      known = p.known;
-      holds = p.holds;
-      again = p.again;
-      task = p.task;
-      low = carry-kept c.cell.ensures.put.stays (λ (D : Desk Plan). c.args.v + 1 < D.shape.workers)
-          (subst (λ (x : Desk Plan). c.args.v + 1 < x.shape.workers) f.desk c.if-v-self.true);
-      done = p.done;
-      rest = p.rest;
-      count = p.count;
-      fit = p.fit;
-    }
+    fetches-on (fetch-on c.args.v c.args.self.now.benches.items c.push.new.self.items c.in-Some.bench c.requires.follows.hand c.cell.ensures.put c.cell.ensures.same
+    c.in-Some.ensures.says c.in-Ok.ensures.items)
+    (subst (λ (D : Desk Plan). c.args.v + 1 < D.shape.workers) (c.requires.follows.desk ∙ sym c.cell.ensures.put.stays.desk) c.if-v-self.true)
 
 pub returns-else-v-self-clause-hand : goal.returns-else-v-self-clause-hand
 returns-else-v-self-clause-hand g c =
     let f = c.requires.follows in
     let x = c.cell.ensures.put in
-    let was = c.args.self.now.benches.items in
-    let p =
-    fetch-on c.args.v was c.push.new.self.items c.in-Some.bench f.hand x c.cell.ensures.same c.in-Some.ensures.says c.in-Ok.ensures.items in
+    let p = fetch-on c.args.v c.args.self.now.benches.items c.push.new.self.items c.in-Some.bench c.requires.follows.hand c.cell.ensures.put c.cell.ensures.same
+    c.in-Some.ensures.says c.in-Ok.ensures.items in
     let most = carry-kept x.stays (λ (D : Desk Plan). D.shape.workers ≤ c.args.v + 1)
     (subst (λ (x : Desk Plan). x.shape.workers ≤ c.args.v + 1) f.desk c.if-v-self.false) in
     finishing-hand (g.S.Station.seen c.cell.new.self) c.gathered.new.self c.cell.new.holder c.gathered.result c.gathered.ensures.finishes
@@ -64,43 +50,29 @@ returns-else-v-self-clause-hand g c =
 
 pub gathered-requires-clause-held : goal.gathered-requires-clause-held
 gathered-requires-clause-held g c =
-    let f = c.requires.follows in
-    let x = c.cell.ensures.put in
-    let was = c.args.self.now.benches.items in
-    let p =
-    fetch-on c.args.v was c.push.new.self.items c.in-Some.bench f.hand x c.cell.ensures.same c.in-Some.ensures.says c.in-Ok.ensures.items in
-    subst (λ pl. IsTaskHeld pl c.cell.new.holder) (sym (plan-of c.args.self.now (f.desk ∙ sym x.stays.desk))) p.task
+    subst (λ pl. IsTaskHeld pl c.cell.new.holder) (sym (plan-of c.args.self.now (c.requires.follows.desk ∙ sym c.cell.ensures.put.stays.desk)))
+    (fetch-on c.args.v c.args.self.now.benches.items c.push.new.self.items c.in-Some.bench c.requires.follows.hand c.cell.ensures.put c.cell.ensures.same
+    c.in-Some.ensures.says c.in-Ok.ensures.items).task
 
 pub gathered-requires-clause-again : goal.gathered-requires-clause-again
 gathered-requires-clause-again g c =
-    let f = c.requires.follows in
-    let x = c.cell.ensures.put in
-    let was = c.args.self.now.benches.items in
-    let p =
-    fetch-on c.args.v was c.push.new.self.items c.in-Some.bench f.hand x c.cell.ensures.same c.in-Some.ensures.says c.in-Ok.ensures.items in
-    p.again
+    (fetch-on c.args.v c.args.self.now.benches.items c.push.new.self.items c.in-Some.bench c.requires.follows.hand c.cell.ensures.put c.cell.ensures.same
+    c.in-Some.ensures.says c.in-Ok.ensures.items).again
 
 pub gathered-requires-clause-some : goal.gathered-requires-clause-some
 gathered-requires-clause-some g c =
-    let f = c.requires.follows in
-    let x = c.cell.ensures.put in
-    let was = c.args.self.now.benches.items in
-    let p =
-    fetch-on c.args.v was c.push.new.self.items c.in-Some.bench f.hand x c.cell.ensures.same c.in-Some.ensures.says c.in-Ok.ensures.items in
-    let n = p.count in omega (arith, n)
+    let n = (fetch-on c.args.v c.args.self.now.benches.items c.push.new.self.items c.in-Some.bench c.requires.follows.hand c.cell.ensures.put c.cell.ensures.same
+    c.in-Some.ensures.says c.in-Ok.ensures.items).count in omega (arith, n)
 
 pub gathered-requires-clause-benches : goal.gathered-requires-clause-benches
 gathered-requires-clause-benches g c =
-    let f = c.requires.follows in
-    let x = c.cell.ensures.put in
-    let was = c.args.self.now.benches.items in
-    let p =
-    fetch-on c.args.v was c.push.new.self.items c.in-Some.bench f.hand x c.cell.ensures.same c.in-Some.ensures.says c.in-Ok.ensures.items in
-    let has = f.desk ∙ sym x.stays.desk in
+    let low = c.requires.follows.hand.low in
+    let has = c.requires.follows.desk ∙ sym c.cell.ensures.put.stays.desk in
+    let p = fetch-on c.args.v c.args.self.now.benches.items c.push.new.self.items c.in-Some.bench c.requires.follows.hand c.cell.ensures.put c.cell.ensures.same
+    c.in-Some.ensures.says c.in-Ok.ensures.items in
     let n = p.count in
     let last = c.if-v-self.false in
-    let low = f.hand.low in
-    let before = workers-of c.args.self.now f.desk in
+    let before = workers-of c.args.self.now c.requires.follows.desk in
     let after = workers-of c.args.self.now has in
     fetched-for (g.S.Station.seen c.cell.new.self) c.cell.new.holder c.push.new.self.items p.holds p.again p.known (is-one c.args.self.now has)
     (omega (arith, n, last, low, before, after)) p.fit (arc_value c.args.self.now.plan) (plan-of c.args.self.now has)
@@ -110,7 +82,7 @@ returns-then-v-self-clause-moves g c =
     let old = g.S.Station.seen c.args.station.now in
     let f = c.requires.follows in
     exchanges-by c.cell.ensures.put.stays f.hand.low
-    (λ ms k. record { strides = k.strides; finished = k.finished; arrived = k.arrived; times = k.times; slots = k.slots }) refl refl refl
+    (λ ms k. mind-on k (record { strides = refl; rest = rest-kept refl refl refl refl refl }) refl) refl refl refl
     (λ ms h. fetch-tells (model_desk old.desk) ms c.args.v h.point (subst (λ (x : Desk Plan). c.args.v + 1 < x.shape.workers) f.desk c.if-v-self.true) h.told)
 
 pub returns-else-v-self-clause-moves : goal.returns-else-v-self-clause-moves
@@ -118,9 +90,8 @@ returns-else-v-self-clause-moves g c =
     let old = g.S.Station.seen c.args.station.now in
     let f = c.requires.follows in
     let x = c.cell.ensures.put in
-    let was = c.args.self.now.benches.items in
-    let p =
-    fetch-on c.args.v was c.push.new.self.items c.in-Some.bench f.hand x c.cell.ensures.same c.in-Some.ensures.says c.in-Ok.ensures.items in
+    let p = fetch-on c.args.v c.args.self.now.benches.items c.push.new.self.items c.in-Some.bench c.requires.follows.hand c.cell.ensures.put c.cell.ensures.same
+    c.in-Some.ensures.says c.in-Ok.ensures.items in
     let w = workers-of c.args.self.now f.desk in
     let last = c.if-v-self.false in
     let all : c.args.v + 1 ≡ (g.S.Station.seen c.args.station.now).desk.shape.workers = omega (arith, w, last, f.hand.low) in
@@ -136,16 +107,7 @@ returns-else-v-self-clause-moves g c =
     let one = is-one c.args.self.now has in
     exchanges-by {core = c.args.self.now} x.stays f.hand.low
     (λ ms k. mind-on k
-    (record {
-      strides = m.strides;
-      rest = record {
-        known = m.rest.known;
-        finished = m.rest.finished;
-        arrived = m.rest.arrived;
-        times = m.rest.times;
-        shares = m.rest.shares;
-      };
-    }) (sym (finishing-chosen c.gathered.new.self c.cell.new.holder c.gathered.result c.gathered.ensures.finishes _)))
+    (record { strides = m.strides; rest = rest-kept m.rest.known m.rest.finished m.rest.arrived m.rest.times m.rest.shares }) (sym (finishing-chosen c.gathered.new.self c.cell.new.holder c.gathered.result c.gathered.ensures.finishes _)))
     (finishing-point _ c.gathered.new.self c.cell.new.holder c.gathered.result c.gathered.ensures.finishes p.again ∙ ap point.Fetch (sym all))
     m.rest.shares c.gathered.ensures.replies
     (λ ms h. fetch-told old new x.stays c.cell.new.holder p.holds p.again p.known one p.task plan owner c.gathered.ensures.record fit

@@ -11,11 +11,11 @@ use Rattle.std.proofs.Common.{refl, sym, ap}
 use Rattle.slot_history.specs.declared.place.Place.{Place}
 use Rattle.slot_history.specs.Steps.{left}
 use Rattle.turn_model.specs.Points.{asked}
-use Rattle.worker_machine.proofs.Moving.{moves-by, keeps-on, place-made}
+use Rattle.worker_machine.proofs.Moving.{quiet-by, keeps-on, place-made}
 use Rattle.worker_machine.proofs.VisitMoves.{asked-chosen, first-asked}
 use Rattle.worker_machine.specs.Loads.{model_desk}
 use Rattle.worker_machine.specs.declared.phase.Phase.TheVariants as phase
-use Rattle.worker_machine.proofs.Telling.{asked-gives, told-kept}
+use Rattle.worker_machine.proofs.Telling.{asked-gives}
 use Rattle.worker_machine.proofs.kept.Core.leave.Goals as goal
 
 pub returns-in-Some-clause-hand : goal.returns-in-Some-clause-hand
@@ -42,43 +42,25 @@ returns-in-None-clause-hand g c =
 pub returns-in-Some-clause-moves : goal.returns-in-Some-clause-moves
 returns-in-Some-clause-moves g c =
     let old = g.S.Station.seen c.args.station.now in
-    let f = c.requires.follows in
-    let t = subst (CoordinatorFits old) c.in-Some.is f.hand.2 in
-    moves-by c.in-Left.ensures.made 0 (λ ms h. record {
-      may = tt;
-      timed = refl;
-      shares = h.shares;
-      answers = h.answers;
-      told = told-kept c.args.self.now c.args.self.now (phase.Leave c.args.coordinator) c.asked.result refl refl
-          (asked-gives c.in-Some.coordinator c.asked.result c.asked.ensures.asked) h.told;
-      knows = keeps-on h.knows (sym (asked-chosen c.in-Some.coordinator c.asked.result c.asked.ensures.asked _));
-      point = first-asked (model_desk old.desk) ms _ c.in-Some.coordinator c.asked.result c.asked.ensures.asked t.0 (place-made old ms h)
-          (some-workers c.args.self.now f.desk);
-    })
+    let t = subst (CoordinatorFits old) c.in-Some.is c.requires.follows.hand.2 in
+    let asks = c.asked.ensures.asked in
+    quiet-by c.in-Left.ensures.made (λ ms. (refl, refl, refl)) (refl, refl, refl) (asked-gives c.in-Some.coordinator c.asked.result asks) (λ ms h. (
+      tt,
+      keeps-on h.knows (sym (asked-chosen c.in-Some.coordinator c.asked.result asks _)),
+      first-asked (model_desk old.desk) ms _ c.in-Some.coordinator c.asked.result asks t.0 (place-made old ms h)
+          (some-workers c.args.self.now c.requires.follows.desk),
+    ))
 
 pub returns-in-None-clause-moves : goal.returns-in-None-clause-moves
 returns-in-None-clause-moves g c =
     let old = g.S.Station.seen c.args.station.now in
-    let f = c.requires.follows in
-    moves-by c.in-Left.ensures.made 0 (λ ms h. record {
-      may = tt;
-      timed = refl;
-      shares = h.shares;
-      answers = h.answers;
-      told = h.told;
-      knows = keeps-on h.knows refl;
-      point = sym (ap (λ (p : Place). asked old.desk.shape.workers (left p)) (sym (place-made old ms h))
-          ∙ ap (asked old.desk.shape.workers) (left-free _ (subst (CoordinatorFits old) c.in-None.is f.hand.2)));
-    })
+    quiet-by c.in-Left.ensures.made (λ ms. (refl, refl, refl)) (refl, refl, refl) refl (λ ms h. (
+      tt,
+      keeps-on h.knows refl,
+      sym (ap (λ (p : Place). asked old.desk.shape.workers (left p)) (sym (place-made old ms h))
+          ∙ ap (asked old.desk.shape.workers) (left-free _ (subst (CoordinatorFits old) c.in-None.is c.requires.follows.hand.2))),
+    ))
 
 pub returns-in-Owe-clause-moves : goal.returns-in-Owe-clause-moves
 returns-in-Owe-clause-moves g c =
-    moves-by c.in-Owe.ensures.made 0 (λ ms h. record {
-      may = tt;
-      timed = refl;
-      shares = h.shares;
-      answers = h.answers;
-      told = h.told;
-      knows = keeps-on h.knows refl;
-      point = refl;
-    })
+    quiet-by c.in-Owe.ensures.made (λ ms. (refl, refl, refl)) (refl, refl, refl) refl (λ ms h. (tt, keeps-on h.knows refl, refl))

@@ -11,13 +11,12 @@ use Rattle.std.proofs.lemmas.List.{length-set}
 use Rattle.worker_machine.specs.Plans.{IsTask}
 use Rattle.worker_machine.specs.Sized.{IsSized}
 use Rattle.std.proofs.Common.{true, false, ap, cond}
-use Rattle.slot_history.specs.declared.act.Act.TheVariants.{LookInvalid, LookVacant}
 use Rattle.slot_history.specs.States.{slot_of}
 use Rattle.turn_model.specs.Points as point
 use Rattle.worker_machine.specs.Keeps.{kept_of}
 use Rattle.worker_machine.proofs.Desks.{plan-of, workers-of}
-use Rattle.worker_machine.proofs.Moving.{moves-by, place-made}
-use Rattle.worker_machine.proofs.VisitMoves.{drop-same, dropped-strides, known-at, let-in-slots, lets-by, look-strides, same-knows, settled-by, shut-out}
+use Rattle.worker_machine.proofs.Moving.{quiet-by, place-made, rest-kept}
+use Rattle.worker_machine.proofs.VisitMoves.{drop-knows, known-at, let-in-slots, lets-by, look-strides, settled-by, shut-knows, shut-out}
 use Rattle.worker_machine.specs.Loads.{model_desk}
 use Rattle.worker_machine.proofs.kept.Core.look.Goals as goal
 
@@ -67,17 +66,12 @@ returns-then-allows-clause-moves g c =
     let known = c.index_mut.result.now in
     let got = slice_get_read self.known.items (length self.known.items) c.args.s known refl low c.index_mut.ensures.value in
     let x = c.settle.ensures in
-    moves-by c.in-Open.ensures.made 0 (λ ms h.
+    quiet-by c.in-Open.ensures.made (λ ms. (refl, refl, refl)) (refl, refl, refl) refl (λ ms h.
     let lets = lets-by (model_desk old.desk) ms c.in-Open.id c.args.s _ (kept_of known) (place-made old ms h) (ap slot_of f.hand.0)
     (h.knows.slots c.args.s known got)
-    ∙ sym (c.allows.ensures known got) ∙ c.if-allows.true in
-    record {
-      may = tt;
-      timed = refl;
-      shares = h.shares;
-      answers = h.answers;
-      told = h.told;
-      knows = record {
+    ∙ sym (c.allows.ensures known got) ∙ c.if-allows.true in (
+      tt,
+      record {
         strides = h.knows.strides ∙ sym (look-strides (model_desk old.desk) ms c.in-Open.id true lets);
         finished = h.knows.finished;
         arrived = h.knows.arrived;
@@ -85,77 +79,44 @@ returns-then-allows-clause-moves g c =
         slots = let-in-slots c.in-Open.ensures.made ms h f.hand.0 lets known c.settle.new.known low got
             (settled-by old.desk _ _ c.in-Open.id known c.settle.new.known (c.deref.ensures ∙ plan-of self f.desk) (workers-of self f.desk)
             x.group x.query x.id x.kept_decay x.fresh_decay x.kept_sizer x.fresh_sizer);
-      };
-      point = sym (ap (λ b. cond b point.Take point.Early) lets);
-    })
+      },
+      sym (ap (λ b. cond b point.Take point.Early) lets),
+    ))
 
 pub returns-else-allows-clause-moves : goal.returns-else-allows-clause-moves
 returns-else-allows-clause-moves g c =
     let old = g.S.Station.seen c.args.station.now in
     let f = c.requires.follows in
     let self = c.args.self.now in
-    let low : c.args.s < length self.known.items = let e = slots-of self f.desk in omega (arith, e, f.hand.1, self.each_known) in
-    let at = known-at self.known.items c.args.s low in
-    moves-by c.in-Open.ensures.made 0 (λ ms h.
+    let at = known-at self.known.items c.args.s (let e = slots-of self f.desk in omega (arith, e, f.hand.1, self.each_known)) in
+    quiet-by c.in-Open.ensures.made (λ ms. (refl, refl, refl)) (refl, refl, refl) refl (λ ms h.
     let lets = lets-by (model_desk old.desk) ms c.in-Open.id c.args.s _ (kept_of at.0) (place-made old ms h) (ap slot_of f.hand.0)
     (h.knows.slots c.args.s at.0 at.1)
-    ∙ sym (c.allows.ensures at.0 at.1) ∙ c.if-allows.false in
-    record {
-      may = tt;
-      timed = refl;
-      shares = h.shares;
-      answers = h.answers;
-      told = h.told;
-      knows = same-knows h.knows (shut-out (model_desk old.desk) ms c.in-Open.id lets) (record {
-        known = refl;
-        finished = refl;
-        arrived = refl;
-        times = refl;
-        shares = refl;
-      })
-          (dropped-strides (model_desk old.desk) ms c.args.s _ _ _ (place-made old ms h) (ap slot_of f.hand.0) h.knows.strides c.drop_slot.ensures
-          ∙ sym (look-strides (model_desk old.desk) ms c.in-Open.id false lets));
-      point = sym (ap (λ b. cond b point.Take point.Early) lets);
-    })
+    ∙ sym (c.allows.ensures at.0 at.1) ∙ c.if-allows.false in (
+      tt,
+      drop-knows old ms h (ap slot_of f.hand.0) h.knows.strides (shut-out (model_desk old.desk) ms c.in-Open.id lets)
+          (sym (look-strides (model_desk old.desk) ms c.in-Open.id false lets)) (rest-kept refl refl refl refl refl) c.drop_slot.ensures,
+      sym (ap (λ b. cond b point.Take point.Early) lets),
+    ))
 
 pub returns-in-Invalid-clause-moves : goal.returns-in-Invalid-clause-moves
 returns-in-Invalid-clause-moves g c =
     let old = g.S.Station.seen c.args.station.now in
-    let f = c.requires.follows in
-    moves-by c.in-Invalid.ensures.made 0 (λ ms h. record {
-      may = tt;
-      timed = refl;
-      shares = h.shares;
-      answers = h.answers;
-      told = h.told;
-      knows = same-knows h.knows (drop-same (model_desk old.desk) ms LookInvalid tt) (record {
-        known = refl;
-        finished = refl;
-        arrived = refl;
-        times = refl;
-        shares = refl;
-      })
-          (dropped-strides (model_desk old.desk) ms c.args.s _ _ _ (place-made old ms h) (ap slot_of f.hand.0) h.knows.strides c.drop_slot-in-Invalid.ensures);
-      point = refl;
-    })
+    quiet-by c.in-Invalid.ensures.made (λ ms. (refl, refl, refl)) (refl, refl, refl) refl
+    (λ ms h. (
+      tt,
+      shut-knows old ms h (ap slot_of c.requires.follows.hand.0) h.knows.strides refl (rest-kept refl refl refl refl refl)
+          c.drop_slot-in-Invalid.ensures,
+      refl,
+    ))
 
 pub returns-in-Vacant-clause-moves : goal.returns-in-Vacant-clause-moves
 returns-in-Vacant-clause-moves g c =
     let old = g.S.Station.seen c.args.station.now in
-    let f = c.requires.follows in
-    moves-by c.in-Vacant.ensures.made 0 (λ ms h. record {
-      may = tt;
-      timed = refl;
-      shares = h.shares;
-      answers = h.answers;
-      told = h.told;
-      knows = same-knows h.knows (drop-same (model_desk old.desk) ms LookVacant tt) (record {
-        known = refl;
-        finished = refl;
-        arrived = refl;
-        times = refl;
-        shares = refl;
-      })
-          (dropped-strides (model_desk old.desk) ms c.args.s _ _ _ (place-made old ms h) (ap slot_of f.hand.0) h.knows.strides c.drop_slot-in-Vacant.ensures);
-      point = refl;
-    })
+    quiet-by c.in-Vacant.ensures.made (λ ms. (refl, refl, refl)) (refl, refl, refl) refl
+    (λ ms h. (
+      tt,
+      shut-knows old ms h (ap slot_of c.requires.follows.hand.0) h.knows.strides refl (rest-kept refl refl refl refl refl)
+          c.drop_slot-in-Vacant.ensures,
+      refl,
+    ))

@@ -1,14 +1,14 @@
 use Rattle.std.proofs.Common.{◌+◌, ◌<◌, ◌≤◌, cond, lt-ltb, le-ltb, refl, sym, ap, ◌∙◌, subst}
 use Rattle.turn_model.specs.Points as point
 use Rattle.worker_machine.specs.Loads.{model_desk}
-use Rattle.worker_machine.proofs.Moving.{moves-by, keeps-on, shares-kept, answers-kept}
+use Rattle.worker_machine.proofs.Moving.{quiet-by, keeps-on}
 use Rattle.worker_machine.proofs.Picking.{pick-knows, pick-point}
 use Rattle.slot_station.specs.Desks.{Desk}
 use Rattle.bench_cell.specs.declared.plan.Plan.{Plan}
 use Rattle.worker_machine.proofs.Calls.{place-by}
 use Rattle.worker_machine.proofs.Outcomes.{picked-hand}
 use Rattle.worker_machine.specs.declared.phase.Phase.TheVariants as phase
-use Rattle.worker_machine.proofs.Telling.{picked-gives, told-kept}
+use Rattle.worker_machine.proofs.Telling.{picked-gives}
 use Rattle.worker_machine.proofs.kept.Core.scan.Goals as goal
 
 pub returns-else-s-self-clause-hand : goal.returns-else-s-self-clause-hand
@@ -20,44 +20,27 @@ returns-else-s-self-clause-hand g c =
 
 pub returns-in-Got-clause-moves : goal.returns-in-Got-clause-moves
 returns-in-Got-clause-moves g c =
-    moves-by c.in-Got.ensures.made 0 (λ ms h. record {
-      may = refl;
-      timed = refl;
-      shares = h.shares;
-      answers = h.answers;
-      told = h.told;
-      knows = keeps-on h.knows refl;
-      point = refl;
-    })
+    quiet-by c.in-Got.ensures.made (λ ms. (refl, refl, refl)) (refl, refl, refl) refl (λ ms h. (refl, keeps-on h.knows refl, refl))
 
 pub returns-then-s-self-clause-moves : goal.returns-then-s-self-clause-moves
 returns-then-s-self-clause-moves g c =
-    let f = c.requires.follows in
     let old = g.S.Station.seen c.args.station.now in
-    let more = subst (λ (D : Desk Plan). c.args.s + 1 < D.shape.slots) f.desk c.if-s-self.true in
-    moves-by c.in-Taken.ensures.made 0 (λ ms h. record {
-      may = refl;
-      timed = refl;
-      shares = h.shares;
-      answers = h.answers;
-      told = h.told;
-      knows = keeps-on h.knows refl;
-      point = sym (ap (λ b. cond b (point.Scan (c.args.s + 1)) (point.pick (model_desk old.desk) ms)) (lt-ltb _ _ more));
-    })
+    let more = subst (λ (D : Desk Plan). c.args.s + 1 < D.shape.slots) c.requires.follows.desk c.if-s-self.true in
+    quiet-by c.in-Taken.ensures.made (λ ms. (refl, refl, refl)) (refl, refl, refl) refl (λ ms h. (
+      refl,
+      keeps-on h.knows refl,
+      sym (ap (λ b. cond b (point.Scan (c.args.s + 1)) (point.pick (model_desk old.desk) ms)) (lt-ltb _ _ more)),
+    ))
 
 pub returns-else-s-self-clause-moves : goal.returns-else-s-self-clause-moves
 returns-else-s-self-clause-moves g c =
     let f = c.requires.follows in
     let old = g.S.Station.seen c.args.station.now in
     let last = subst (λ (D : Desk Plan). D.shape.slots ≤ c.args.s + 1) f.desk c.if-s-self.false in
-    moves-by c.in-Taken.ensures.made 0 (λ ms h. record {
-      may = refl;
-      timed = refl;
-      shares = shares-kept h.shares c.pick.ensures.picks.rest.shares;
-      answers = answers-kept h.answers c.pick.ensures.replies;
-      told = told-kept c.args.self.now c.pick.new.self (phase.Scan c.args.s) c.pick.result c.pick.ensures.replies c.pick.ensures.records
-          (picked-gives _ c.pick.result c.pick.ensures.picked) h.told;
-      knows = pick-knows c.pick.ensures.picks h.knows refl;
-      point = pick-point c.pick.ensures.picks ms old.desk.shape.workers f.desk h.knows.strides h.knows.finished
-          ∙ sym (ap (λ b. cond b (point.Scan (c.args.s + 1)) (point.pick (model_desk old.desk) ms)) (le-ltb _ _ last));
-    })
+    quiet-by c.in-Taken.ensures.made (λ ms. (refl, refl, refl)) (c.pick.ensures.picks.rest.shares, c.pick.ensures.replies, c.pick.ensures.records) (picked-gives _ c.pick.result c.pick.ensures.picked)
+    (λ ms h. (
+      refl,
+      pick-knows c.pick.ensures.picks h.knows refl,
+      pick-point c.pick.ensures.picks ms old.desk.shape.workers f.desk h.knows.strides h.knows.finished
+          ∙ sym (ap (λ b. cond b (point.Scan (c.args.s + 1)) (point.pick (model_desk old.desk) ms)) (le-ltb _ _ last)),
+    ))

@@ -1,12 +1,10 @@
 use Rattle.std.proofs.Common.{[]}
 use Rattle.worker_machine.proofs.Visits.{shut-lost, shut-won}
 use Rattle.std.proofs.Common.{refl}
-use Rattle.slot_history.specs.declared.act.Act.TheVariants.{ShutWon, ShutLost}
-use Rattle.worker_machine.proofs.Moving.{moves-by, place-made}
-use Rattle.worker_machine.proofs.VisitMoves.{drop-same, dropped-strides, same-knows}
+use Rattle.worker_machine.proofs.Moving.{quiet-by, rest-kept}
+use Rattle.worker_machine.proofs.VisitMoves.{shut-knows}
 use Rattle.std.proofs.Common.{ap}
 use Rattle.slot_history.specs.States.{slot_of}
-use Rattle.worker_machine.specs.Loads.{model_desk}
 use Rattle.worker_machine.proofs.kept.Core.shut.Goals as goal
 
 pub returns-in-Won-clause-hand : goal.returns-in-Won-clause-hand
@@ -22,43 +20,21 @@ returns-in-Lost-clause-hand g c =
 pub returns-in-Won-clause-moves : goal.returns-in-Won-clause-moves
 returns-in-Won-clause-moves g c =
     let old = g.S.Station.seen c.args.station.now in
-    let f = c.requires.follows in
-    moves-by c.in-Won.ensures.made 0 (λ ms h. record {
-      may = tt;
-      timed = refl;
-      shares = h.shares;
-      answers = h.answers;
-      told = h.told;
-      knows = same-knows h.knows (drop-same (model_desk old.desk) ms ShutWon tt) (record {
-        known = refl;
-        finished = refl;
-        arrived = refl;
-        times = refl;
-        shares = refl;
-      })
-          (dropped-strides (model_desk old.desk) ms c.args.spent.slot _ _ _ (place-made old ms h)
-          (ap slot_of f.hand.0.place) h.knows.strides c.drop_slot.ensures);
-      point = refl;
-    })
+    quiet-by c.in-Won.ensures.made (λ ms. (refl, refl, refl)) (refl, refl, refl) refl
+    (λ ms h. (
+      tt,
+      shut-knows old ms h (ap slot_of c.requires.follows.hand.0.place) h.knows.strides refl (rest-kept refl refl refl refl refl)
+          c.drop_slot.ensures,
+      refl,
+    ))
 
 pub returns-in-Lost-clause-moves : goal.returns-in-Lost-clause-moves
 returns-in-Lost-clause-moves g c =
     let old = g.S.Station.seen c.args.station.now in
-    let f = c.requires.follows in
-    moves-by c.in-Lost.ensures.made 0 (λ ms h. record {
-      may = tt;
-      timed = refl;
-      shares = h.shares;
-      answers = h.answers;
-      told = h.told;
-      knows = same-knows h.knows (drop-same (model_desk old.desk) ms ShutLost tt) (record {
-        known = refl;
-        finished = refl;
-        arrived = refl;
-        times = refl;
-        shares = refl;
-      })
-          (dropped-strides (model_desk old.desk) ms c.args.spent.slot _ _ _ (place-made old ms h)
-          (ap slot_of f.hand.0.place) h.knows.strides c.drop_slot.ensures);
-      point = refl;
-    })
+    quiet-by c.in-Lost.ensures.made (λ ms. (refl, refl, refl)) (refl, refl, refl) refl
+    (λ ms h. (
+      tt,
+      shut-knows old ms h (ap slot_of c.requires.follows.hand.0.place) h.knows.strides refl (rest-kept refl refl refl refl refl)
+          c.drop_slot.ensures,
+      refl,
+    ))

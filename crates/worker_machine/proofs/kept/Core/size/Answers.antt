@@ -1,7 +1,7 @@
 use Rattle.std.proofs.Common.{refl, sym, ap, ◌∙◌}
 use Rattle.slot_history.specs.States.{held_at, next_id}
 use Rattle.worker_machine.proofs.Holdings.{next-held}
-use Rattle.worker_machine.proofs.Moving.{moves-by, keeps-on, place-made}
+use Rattle.worker_machine.proofs.Moving.{quiet-by, keeps-on, place-made}
 use Rattle.slot_station.specs.Desks.{Desk}
 use Rattle.bench_cell.specs.declared.plan.Plan.{Plan}
 use Rattle.worker_machine.proofs.Steps.{size-fills}
@@ -26,16 +26,12 @@ returns-clause-moves g c =
     ap (λ (x : Desk Plan). total_of x.subject (next_by c.args.holder)) (sym f.desk) ∙ ap (total_of (arc_value c.args.self.now.plan))
     (sym c.next_of.ensures)
     ∙ ap (λ (p : Plan). total_of p c.next_of.result) (sym c.deref.ensures) ∙ c.task_total-total.ensures.total in
-    moves-by c.set_total.ensures.made 0 (λ ms h. record {
-      may = (
+    quiet-by c.set_total.ensures.made (λ ms. (refl, refl, refl)) (refl, refl, refl) refl (λ ms h. (
+      (
         refl,
         ap (λ p. total_of old.desk.subject (next_id (held_at p))) (sym (place-made old ms h))
             ∙ ap (total_of old.desk.subject) (next-held f.hand.1) ∙ total,
-      );
-      timed = refl;
-      shares = h.shares;
-      answers = h.answers;
-      told = h.told;
-      knows = keeps-on h.knows refl;
-      point = refl;
-    })
+      ),
+      keeps-on h.knows refl,
+      refl,
+    ))

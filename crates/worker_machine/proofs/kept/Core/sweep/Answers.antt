@@ -2,7 +2,7 @@ use Rattle.worker_machine.proofs.Calls.{place-by}
 use Rattle.worker_machine.proofs.Desks.{some-workers}
 use Rattle.worker_machine.proofs.Visits.{finalises}
 use Rattle.std.proofs.Common.{refl}
-use Rattle.worker_machine.proofs.Moving.{moves-by, keeps-on}
+use Rattle.worker_machine.proofs.Moving.{quiet-by, keeps-on, mind-on, rest-kept}
 use Rattle.worker_machine.proofs.kept.Core.sweep.Goals as goal
 
 pub returns-in-Last-clause-hand : goal.returns-in-Last-clause-hand
@@ -14,30 +14,9 @@ returns-in-Last-clause-hand g c =
 
 pub returns-in-Last-clause-moves : goal.returns-in-Last-clause-moves
 returns-in-Last-clause-moves g c =
-    moves-by c.in-Last.ensures.made 0 (λ ms h. record {
-      may = tt;
-      timed = refl;
-      shares = h.shares;
-      answers = h.answers;
-      told = h.told;
-      knows = record {
-        strides = h.knows.strides;
-        finished = h.knows.finished;
-        arrived = h.knows.arrived;
-        times = h.knows.times;
-        slots = h.knows.slots;
-      };
-      point = refl;
-    })
+    quiet-by c.in-Last.ensures.made (λ ms. (refl, refl, refl)) (refl, refl, refl) refl
+    (λ ms h. (tt, mind-on h.knows (record { strides = refl; rest = rest-kept refl refl refl refl refl }) refl, refl))
 
 pub returns-in-Others-clause-moves : goal.returns-in-Others-clause-moves
 returns-in-Others-clause-moves g c =
-    moves-by c.in-Others.ensures.made 0 (λ ms h. record {
-      may = tt;
-      timed = refl;
-      shares = h.shares;
-      answers = h.answers;
-      told = h.told;
-      knows = keeps-on h.knows refl;
-      point = refl;
-    })
+    quiet-by c.in-Others.ensures.made (λ ms. (refl, refl, refl)) (refl, refl, refl) refl (λ ms h. (tt, keeps-on h.knows refl, refl))

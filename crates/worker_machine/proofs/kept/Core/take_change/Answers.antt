@@ -1,6 +1,6 @@
 use Rattle.std.proofs.Common.{◌+◌, refl, sym, ap, ◌∙◌, cond, lt-ltb, le-ltb}
 use Rattle.turn_model.specs.Points as point
-use Rattle.worker_machine.proofs.Moving.{moves-by}
+use Rattle.worker_machine.proofs.Moving.{quiet-by}
 use Rattle.worker_machine.proofs.TakenNotices.{took-changes}
 use Rattle.worker_machine.proofs.Calls.{place-by}
 use Rattle.worker_machine.proofs.Joining.{changed-slots}
@@ -14,7 +14,7 @@ invariant_of-self g c =
       is_one = c.args.self.now.is_one;
       few_workers = c.args.self.now.few_workers;
       few_slots = c.args.self.now.few_slots;
-      passes = ap (λ (x : Strides). x.slots) c.join_changed.ensures ∙ changed-slots 64 c.args.part c.take_change-bits.result
+      passes = ap (λ (x : Strides). x.slots) c.join_all.ensures ∙ changed-slots 64 c.args.part c.take_change-bits.result
           (strides_of c.args.self.now.strides) ∙ c.args.self.now.passes;
       each_known = c.forget_groups.ensures.length ∙ c.args.self.now.each_known;
       room = c.args.self.now.room;
@@ -33,24 +33,16 @@ returns-else-part-lt-PARTS-clause-hand g c =
 
 pub returns-then-part-lt-PARTS-clause-moves : goal.returns-then-part-lt-PARTS-clause-moves
 returns-then-part-lt-PARTS-clause-moves g c =
-    moves-by c.take_change-bits.ensures.made 0 (λ ms h. record {
-      may = refl;
-      timed = refl;
-      shares = h.shares;
-      answers = h.answers;
-      told = h.told;
-      knows = took-changes c.args.part c.take_change-bits.result ms h.knows refl c.join_changed.ensures c.forget_groups.ensures.groups (refl, refl, refl) refl;
-      point = sym (ap (λ b. cond b (point.Change (c.args.part + 1)) point.Count) (lt-ltb _ _ c.if-part-lt-PARTS.true));
-    })
+    quiet-by c.take_change-bits.ensures.made (λ ms. (refl, refl, refl)) (refl, refl, refl) refl (λ ms h. (
+      refl,
+      took-changes c.args.part c.take_change-bits.result ms h.knows refl c.join_all.ensures c.forget_groups.ensures.groups (refl, refl, refl) refl,
+      sym (ap (λ b. cond b (point.Change (c.args.part + 1)) point.Count) (lt-ltb _ _ c.if-part-lt-PARTS.true)),
+    ))
 
 pub returns-else-part-lt-PARTS-clause-moves : goal.returns-else-part-lt-PARTS-clause-moves
 returns-else-part-lt-PARTS-clause-moves g c =
-    moves-by c.take_change-bits.ensures.made 0 (λ ms h. record {
-      may = refl;
-      timed = refl;
-      shares = h.shares;
-      answers = h.answers;
-      told = h.told;
-      knows = took-changes c.args.part c.take_change-bits.result ms h.knows refl c.join_changed.ensures c.forget_groups.ensures.groups (refl, refl, refl) refl;
-      point = sym (ap (λ b. cond b (point.Change (c.args.part + 1)) point.Count) (le-ltb _ _ c.if-part-lt-PARTS.false));
-    })
+    quiet-by c.take_change-bits.ensures.made (λ ms. (refl, refl, refl)) (refl, refl, refl) refl (λ ms h. (
+      refl,
+      took-changes c.args.part c.take_change-bits.result ms h.knows refl c.join_all.ensures c.forget_groups.ensures.groups (refl, refl, refl) refl,
+      sym (ap (λ b. cond b (point.Change (c.args.part + 1)) point.Count) (le-ltb _ _ c.if-part-lt-PARTS.false)),
+    ))

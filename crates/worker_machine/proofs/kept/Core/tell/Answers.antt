@@ -1,41 +1,25 @@
 use Rattle.std.proofs.Common.{◌≡◌, ◌≢◌, ◌+◌, true, false, refl, sym, ap, ◌∙◌}
 use Rattle.slot_station.specs.declared.token.Announcer.{Announcer}
 use Rattle.worker_machine.proofs.Giving.{told-last, told-more}
-use Rattle.worker_machine.proofs.Moving.{moves-by, keeps-on, place-made}
+use Rattle.worker_machine.proofs.Moving.{quiet-by, keeps-on, place-made}
 use Rattle.worker_machine.proofs.kept.Core.tell.Goals as goal
 
 pub returns-then-all_told-clause-moves : goal.returns-then-all_told-clause-moves
 returns-then-all_told-clause-moves g c =
     let f = c.requires.follows in
     let old = g.S.Station.seen c.args.station.now in
-    let told = ap (λ (x : Announcer). x.told) c.announce.ensures.told in
-    let workers = ap (λ (x : Announcer). x.workers) c.announce.ensures.told in
-    let all : c.args.announcer.told + 1 ≡ old.desk.shape.workers = sym told ∙ c.all_told.ensures.0 c.if-all_told.true ∙ workers ∙ f.hand.0.workers in
-    rw c.told_all.ensures (moves-by c.announce.ensures.made 0 (λ ms h. record {
-      may = tt;
-      timed = refl;
-      shares = h.shares;
-      answers = h.answers;
-      told = h.told;
-      knows = keeps-on h.knows refl;
-      point = told-last old.desk.shape _ _ _ _ (sym f.hand.0.place ∙ place-made old ms h) all;
-    }))
+    let all : c.args.announcer.told + 1 ≡ old.desk.shape.workers = sym (ap (λ (x : Announcer). x.told) c.announce.ensures.told)
+    ∙ c.all_told.ensures.0 c.if-all_told.true ∙ ap (λ (x : Announcer). x.workers) c.announce.ensures.told ∙ f.hand.0.workers in
+    rw c.told_all.ensures (quiet-by c.announce.ensures.made (λ ms. (refl, refl, refl)) (refl, refl, refl) refl
+    (λ ms h. (tt, keeps-on h.knows refl, told-last old.desk.shape _ _ _ _ (sym f.hand.0.place ∙ place-made old ms h) all)))
 
 pub returns-else-all_told-clause-moves : goal.returns-else-all_told-clause-moves
 returns-else-all_told-clause-moves g c =
     let f = c.requires.follows in
     let old = g.S.Station.seen c.args.station.now in
-    let told = ap (λ (x : Announcer). x.told) c.announce.ensures.told in
-    let workers = ap (λ (x : Announcer). x.workers) c.announce.ensures.told in
     let some : c.args.announcer.told + 1 ≢ old.desk.shape.workers = λ e.
-    let yes : c.all_told.result ≡ true = c.all_told.ensures.1 (told ∙ e ∙ sym (workers ∙ f.hand.0.workers)) in
+    let yes : c.all_told.result ≡ true = c.all_told.ensures.1 (ap (λ (x : Announcer). x.told) c.announce.ensures.told ∙ e
+    ∙ sym (ap (λ (x : Announcer). x.workers) c.announce.ensures.told ∙ f.hand.0.workers)) in
     let no : c.all_told.result ≡ false = c.if-all_told.false in absurd (cc) in
-    moves-by c.announce.ensures.made 0 (λ ms h. record {
-      may = tt;
-      timed = refl;
-      shares = h.shares;
-      answers = h.answers;
-      told = h.told;
-      knows = keeps-on h.knows refl;
-      point = told-more old.desk.shape _ _ _ _ (sym f.hand.0.place ∙ place-made old ms h) some;
-    })
+    quiet-by c.announce.ensures.made (λ ms. (refl, refl, refl)) (refl, refl, refl) refl
+    (λ ms h. (tt, keeps-on h.knows refl, told-more old.desk.shape _ _ _ _ (sym f.hand.0.place ∙ place-made old ms h) some))

@@ -11,6 +11,10 @@ use Rattle.worker_machine.specs.declared.phase.Phase.TheVariants.{Look, Early, T
 use Rattle.worker_machine.specs.declared.phase.Phase.TheVariants.{Back, Leave, Ask, Sweep, Pay}
 use Rattle.worker_machine.specs.declared.phase.Phase.TheVariants.{Fetch, Note}
 
+-- At most four times a turn makes a step for each worker: it asks, fetches, puts and tells. It scans
+-- each slot once, takes 2 * PARTS words of notices, and all else takes 16 steps. So a line adds up
+-- the slots that are left to be scanned, the workers that are left in the round under way, those of
+-- the rounds that may follow, and the single steps between them.
 abbrev pub left : Desk Plan → Phase → ℕ
 left D (Ready e) = D.shape.slots + 4 * D.shape.workers + 2 * PARTS + 16
 left D (Return k) = D.shape.slots + 4 * D.shape.workers + 15 + PARTS + (PARTS - k)

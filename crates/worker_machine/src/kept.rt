@@ -17,41 +17,41 @@ use stride_set::StrideSet;
 #[derive(Drop)]
 pub struct Known {
     /// The query that its notice record is of, if that is known.
-    pub group: Option<u32>,
+    pub(crate) group: Option<u32>,
     /// The query that the decay is of.
-    pub query: Option<u32>,
-    pub decay: Decay,
+    pub(crate) query: Option<u32>,
+    pub(crate) decay: Decay,
     /// The task set that the sizer is of.
-    pub id: Option<u32>,
-    pub sizer: Sizer,
+    pub(crate) id: Option<u32>,
+    pub(crate) sizer: Sizer,
     /// The end of its last range of that task set, 0 before one.
-    pub last_end: u32,
+    pub(crate) last_end: u32,
 }
 
 /// All that a worker keeps but for its phase.
 #[derive(Drop)]
 pub struct Core {
-    pub worker: u32,
-    pub workers: u32,
-    pub slots: u32,
-    pub plan: Arc<Plan>,
+    pub(crate) worker: u32,
+    pub(crate) workers: u32,
+    pub(crate) slots: u32,
+    pub(crate) plan: Arc<Plan>,
     /// The passes of the slots, and which of them are active.
-    pub strides: StrideSet,
+    pub(crate) strides: StrideSet,
     /// What is known of each slot.
-    pub known: Vec<Known>,
+    pub(crate) known: Vec<Known>,
     /// How many task sets were done when this turn asked.
-    pub finished: u32,
+    pub(crate) finished: u32,
     /// How many queries were admitted when this turn asked.
-    pub arrived: u32,
+    pub(crate) arrived: u32,
     /// How many ranges it began.
-    pub begun: u64,
+    pub(crate) begun: u64,
     /// The times of its ranges.
-    pub times: Memo,
+    pub(crate) times: Memo,
     /// The benches in hand.
-    pub benches: Vec<Bench>,
-    pub replies: Vec<QueryReply>,
-    pub records: Vec<Record>,
-    pub shares: Vec<Share>,
+    pub(crate) benches: Vec<Bench>,
+    pub(crate) replies: Vec<QueryReply>,
+    pub(crate) records: Vec<Record>,
+    pub(crate) shares: Vec<Share>,
     ghost is_one: { worker < workers },
     ghost few_workers: { workers ≤ 64 },
     ghost few_slots: { (0 < slots) × (slots ≤ 128) },

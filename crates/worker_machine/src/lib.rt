@@ -9,9 +9,10 @@
 //! It stands on `slot_station` (what a worker may call), `turn_model` (which moves are turns),
 //! `bench_cell` (what the cells hold), `stride_set` (which slot is next), `prio_decay` (what time
 //! in a query costs) and `morsel_size` (how much is claimed). The one fact that the layers above
-//! may use: a worker that follows its station (`Follows`) follows it after each step, each step is
-//! one move that the model lets it make (`Moves`), a turn is one of the model (`Turns`), and it
-//! takes at most `slots + 4 * workers + 20` steps.
+//! may use: a worker that follows its station (`Follows`) follows it after each step, and a turn
+//! takes at most `slots + 4 * workers + 20` steps. If the worker has made some list of moves
+//! (`HasMade`), each step is one more that the model lets it make (`Moves`), and a turn is one of
+//! the model (`Turns`). A new worker has made none, so this holds of it and all its steps.
 #![tactic(auto)]
 
 mod benches;

@@ -17,7 +17,8 @@ pub(crate) struct Worked {
     pub priority: u32,
 }
 
-// Counts one more range in the worker's share of its query. The shares ascend by query.
+// Counts one more range in the worker's share of its query. The shares ascend by query. There is
+// room for one of each query (`HasShares`): a worker has no more than that.
 pub(crate) fn count_range(shares: &mut Vec<Share>, range: Worked)
     ensures room { vec_capacity shares.old ≤ vec_capacity shares.new }
     ensures counted { (queries : ℕ) → AscendWithin 0 queries shares.old.items

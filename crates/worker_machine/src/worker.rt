@@ -151,7 +151,8 @@ impl Worker {
         })
     }
 
-    /// Makes exactly one station call that ticks, and the work that follows it.
+    /// Makes exactly one station call that ticks, and the work that follows it. If the worker has
+    /// made some moves (`HasMade`), as a new one has made none, this is one move more.
     pub fn step<S: Station<Bench>, L: Ledger, M: Meter, G: Gate>(
         &mut self,
         alloc: Global,
@@ -176,7 +177,8 @@ impl Worker {
         ended
     }
 
-    /// Makes steps up to the end of a turn. None is under way before.
+    /// Makes steps up to the end of a turn. None is under way before. If the worker has made some
+    /// moves (`HasMade`), as a new one has made none, these are a turn more.
     pub fn turn<S: Station<Bench>, L: Ledger, M: Meter, G: Gate>(
         &mut self,
         alloc: Global,

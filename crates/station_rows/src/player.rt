@@ -91,15 +91,16 @@ impl<T: Form> Player<T> {
         table.expect_words(rt, alloc, words.as_slice())
     }
 
-    /// Plays the entries of the workers in order, and asserts that each call makes its entry.
+    /// Plays these entries of a worker in order, and asserts that each call makes its entry.
     pub(crate) fn play<L: Ledger>(
         &mut self,
         rt: &impl Abort,
-        entries: &[(u32, Act)],
+        worker: u32,
+        acts: &[Act],
         steps: &mut Steps<L>,
     ) {
-        for (i, (worker, act)) in entries.iter().enumerate() {
-            let made = self.call(rt, *worker, act, steps);
+        for (i, act) in acts.iter().enumerate() {
+            let made = self.call(rt, worker, act, steps);
             assert!(rt;
                 made == *act,
                 "another answer to entry {i}, of worker {worker}"

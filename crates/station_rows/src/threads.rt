@@ -198,20 +198,16 @@ fn share<R: Threads + Abort + Sync, L: Ledger>(
     let mut steps = Steps::<L>::start(blank);
     let totals = vec![in alloc; (0, 800)]?;
     let mut player = Player::<BoardTable>::new(alloc, 1, WORKERS, Sets { queries: 1, totals })?;
-    player.play(rt, &opens(0, 0, 0, 800), &mut steps);
-    player.play(rt, &[(0, Act::Announce); 4], &mut steps);
+    player.play(rt, 0, &opens(0, 0, 800), &mut steps);
+    player.play(rt, 0, &[Act::Announce; 4], &mut steps);
     let Player { table, sets, hands } = player;
     let (table, ranges) = visit_in_threads(rt, alloc, table, &sets)?;
     expect_morsels(rt, ranges);
     let mut player = Player { table, sets, hands };
-    player.play(rt, &shuts(0, 0, 0), &mut steps);
-    player.play(rt, &[(0, Act::MarkMissed); 3], &mut steps);
-    let ends = [
-        (0, Act::SweepLast),
-        (0, Act::NoteDone(1)),
-        (0, Act::Release),
-    ];
-    player.play(rt, &ends, &mut steps);
+    player.play(rt, 0, &shuts(0, 0), &mut steps);
+    player.play(rt, 0, &[Act::MarkMissed; 3], &mut steps);
+    let ends = [Act::SweepLast, Act::NoteDone(1), Act::Release];
+    player.play(rt, 0, &ends, &mut steps);
     let slot = [0, 1, 1, 0, 3_435_973_837_616, 4_294_967_296];
     player.expect_words(rt, alloc, &slot, &[[0, 0, 0, 1, 0]; 4])
 }

@@ -1,5 +1,5 @@
 -- The work of a plan.
-use Rattle.std.proofs.Common.{◌≡◌, ℕ, ◌<◌, ◌≤◌, List, length, slice_get, Some, sym, ap, ◌∙◌, subst, arith, inl, inr}
+use Rattle.std.proofs.Common.{◌≡◌, ℕ, ◌<◌, ◌≤◌, List, All, length, slice_get, Some, sym, ap, ◌∙◌, subst, arith, inl, inr}
 use Rattle.std.specs.Option.{option_map, option_map_or}
 use Rattle.std.specs.Arc.{arc_value}
 use Rattle.std.proofs.lemmas.List.{length-map}
@@ -15,6 +15,9 @@ use Rattle.run_laws.specs.Ends.{IsWork}
 use Rattle.bench_cell.specs.declared.plan.Plan.{Plan}
 use Rattle.bench_cell.specs.Plans.{checked_of, stages_in, tables_of}
 use Rattle.worker_machine.specs.Plans.{stages_at}
+use Rattle.worker_machine.specs.Loads.{load_of}
+use Rattle.one_thread.specs.Tables.{TableStory}
+use Rattle.pool_run.specs.Scenes.{new_table}
 use Rattle.pool_run.specs.Runs.{MayRun, asked_of}
 
 few-merges : (o : Output) → merges_of o ≤ 1
@@ -38,7 +41,7 @@ stages-are : (plan : Plan) (q : ℕ) (c : Checked) → slice_get (checked_of pla
 stages-are plan q c here = ap (λ o. option_map_or stages_in o 0) here
 
 -- what may be asked of a plan is work of a run that ends
-pub plan-works : (plan : Plan) (workers slots : ℕ) (order : List ℕ) → let asked = asked_of plan workers slots order in
+plan-works : (plan : Plan) (workers slots : ℕ) (order : List ℕ) → let asked = asked_of plan workers slots order in
     MayRun asked → IsWork asked.shape asked.load
 plan-works plan workers slots order may = record {
   shape = record { slots = may.slots; workers = may.workers; queries = plan.few };
@@ -50,6 +53,15 @@ plan-works plan workers slots order may = record {
       subst (λ n. n ≤ STAGES) (sym (stages-are plan q c.0 c.1)) (omega arith);
   in_time = may.in_time;
 }
+
+-- the same over the new table of the plan, whose workers are those of the order
+module _ (plan : Plan) (workers slots : ℕ) (order : List ℕ) {table : TableStory Plan} (new : table ≡ new_table plan workers slots)
+    (may : MayRun (asked_of plan workers slots order)) where
+  pub table-works : IsWork table.shape (load_of table.subject)
+  table-works = subst (λ (t : TableStory Plan). IsWork t.shape (load_of t.subject)) (sym new) (plan-works plan workers slots order may)
+
+  pub of-workers : All (λ w. w < table.shape.workers) order
+  of-workers = subst (λ (t : TableStory Plan). All (λ w. w < t.shape.workers) order) (sym new) may.order
 
 -- past the last query there are none
 pub none-past : (plan : Plan) (q : ℕ) → length plan.queries.items ≤ q → stages_at plan q ≡ 0

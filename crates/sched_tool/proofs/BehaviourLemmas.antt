@@ -7,7 +7,7 @@ use Rattle.sched_tool.specs.Behaviours.{Job, job_of, make_behaviour, run_behavio
 use Rattle.sched_tool.specs.Runs.{AnswerAll, IsReportIn}
 use Rattle.sched_tool.specs.declared.program.pace.Pace.TheVariants.{Turns, Steps}
 use Rattle.sched_tool.specs.Outsides.{Contents, known, Outside, surely_holds}
-use Rattle.sched_tool.specs.Verdicts.{OneAnswer, OneVerdict}
+use Rattle.sched_tool.specs.Verdicts.{OneVerdict}
 use Rattle.sched_tool.specs.Words.{check, make, Meaning, run, steps, turns}
 use Rattle.sched_tool.specs.Writing.{IsFinding}
 use Rattle.sched_tool.specs.declared.program.refusal.Refusal.{Refusal}
@@ -115,32 +115,30 @@ summary_consistent a b agree number = record {
   only = λ r s x y h k. absurd (not_memory r x h);
 }
 
+-- what holds of the behaviours of each command over two outsides holds of those of any words
+pub by_command : (a b : Outside) (P : Behaviour → Behaviour → Type 0) → P usage_behaviour usage_behaviour
+    → ((file : List ℕ) → P (check_behaviour a.holds file) (check_behaviour b.holds file)) → ((job : Job) → P (run_behaviour a job) (run_behaviour b job))
+    → ((number : ℕ) → P (summary_behaviour a.gives number) (summary_behaviour b.gives number))
+    → ((number : ℕ) (part : Part) → P (make_behaviour number part) (make_behaviour number part)) → (meaning : Option Meaning)
+    → P (behaviour_of a meaning) (behaviour_of b meaning)
+by_command a b P usage checks runs summaries parts None = usage
+by_command a b P usage checks runs summaries parts (Some (check file)) = checks file
+by_command a b P usage checks runs summaries parts (Some (turns asked)) = runs (job_of Turns asked)
+by_command a b P usage checks runs summaries parts (Some (steps asked)) = runs (job_of Steps asked)
+by_command a b P usage checks runs summaries parts (Some (run asked)) = usage
+by_command a b P usage checks runs summaries parts (Some (make number None)) = summaries number
+by_command a b P usage checks runs summaries parts (Some (make number (Some part))) = parts number part
+
 -- the behaviour of each command is sound
 pub sound : (outside : Outside) (meaning : Option Meaning) → IsSound (behaviour_of outside meaning)
-sound outside None = usage_sound
-sound outside (Some (check file)) = check_sound outside.holds file
-sound outside (Some (turns asked)) = run_sound outside (job_of Turns asked)
-sound outside (Some (steps asked)) = run_sound outside (job_of Steps asked)
-sound outside (Some (run asked)) = usage_sound
-sound outside (Some (make number None)) = summary_sound outside.gives number
-sound outside (Some (make number (Some part))) = make_sound number part
+sound outside =
+    by_command outside outside (λ does _. IsSound does) usage_sound (check_sound outside.holds) (run_sound outside) (summary_sound outside.gives) make_sound
 
 -- and consistent over outsides that agree
 pub consistent : (a b : Outside) → Agree a b → (meaning : Option Meaning) → AreConsistent (behaviour_of a meaning) (behaviour_of b meaning)
-consistent a b agree None = usage_consistent
-consistent a b agree (Some (check file)) = check_consistent a.holds b.holds agree.files file
-consistent a b agree (Some (turns asked)) = run_consistent a b agree (job_of Turns asked)
-consistent a b agree (Some (steps asked)) = run_consistent a b agree (job_of Steps asked)
-consistent a b agree (Some (run asked)) = usage_consistent
-consistent a b agree (Some (make number None)) = summary_consistent a b agree number
-consistent a b agree (Some (make number (Some part))) = make_consistent number part
-
-pub one_answer : OneAnswer
-one_answer content file a b x y =
-    x.2
-    ∙ ap check_text
-    (subject_is (surely_holds content) (surely_holds content) (SameFiles-known content) file x.0 y.0 x.1.held y.1.held)
-    ∙ sym y.2
+consistent a b agree =
+    by_command a b AreConsistent usage_consistent (check_consistent a.holds b.holds agree.files) (run_consistent a b agree)
+    (summary_consistent a b agree) make_consistent
 
 pub one_verdict : (times : ℕ → ℕ → ℕ → Type 0) → OneVerdict times
 one_verdict times content meaning =

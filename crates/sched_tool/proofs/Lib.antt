@@ -5,6 +5,7 @@ mod FaultLemmas
 mod GrammarLemmas
 mod ItemLemmas
 mod MakeLemmas
+mod OneTextLemmas
 mod OutsideLemmas
 mod PromiseLemmas
 mod QueriesLemmas

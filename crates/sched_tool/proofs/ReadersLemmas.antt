@@ -8,7 +8,7 @@ use Rattle.csv_tables.specs.declared.refusal.TableRefusal.{TableRefusal}
 use Rattle.csv_tables.specs.declared.refusal.TableRefusal.TheVariants as table_refusal
 use Rattle.script_json.proofs.VerdictLemmas.{HasOneVerdict-any}
 use Rattle.script_json.specs.Scripts.{ReadsScript, RefusesScript}
-use Rattle.script_json.specs.Verdicts.{HasOneVerdict, IsVerdict}
+use Rattle.script_json.specs.Verdicts.{IsVerdict}
 use Rattle.script_json.specs.declared.refusal.ScriptRefusal.{ScriptRefusal}
 use Rattle.script_json.specs.declared.refusal.ScriptRefusal.TheVariants as script_refusal
 use Rattle.script_json.specs.declared.script.Script.{Script}
@@ -27,7 +27,7 @@ ok_is_no_err a r e = cc
 -- bytes have one verdict as a script
 same_verdict : (bytes : List ℕ) (v w : Result Script ScriptRefusal) → IsVerdict bytes v → IsVerdict bytes w → v ≡ w
 same_verdict bytes v w x y =
-    let one : HasOneVerdict bytes = HasOneVerdict-any bytes in
+    let one = HasOneVerdict-any bytes in
     one.only v x ∙ sym (one.only w y)
 
 -- bytes are one script at most

@@ -1,5 +1,5 @@
 -- The work of a plan is that of its subject, and its queries arrive in time.
-use Rattle.std.proofs.Common.{◌≡◌, ◌≤◌, ◌+◌, ◌/◌, ◌%◌, ℕ, zero, suc, true, false, List, [], ◌∷◌, Option, None, Some, ap, refl, sym, subst}
+use Rattle.std.proofs.Common.{◌≡◌, ◌≤◌, ◌<◌, ◌+◌, ◌/◌, ◌%◌, ℕ, zero, suc, true, false, List, [], ◌∷◌, Option, None, Some, ap, refl, sym, subst}
 use Rattle.std.proofs.Common.{arith, ◌∙◌}
 use Rattle.std.proofs.lemmas.Bool.Decides.{nat_tests}
 use Rattle.std.proofs.lemmas.List.{length-map}
@@ -25,13 +25,12 @@ use Rattle.slot_history.specs.declared.shape.TheConstants.{STAGES}
 use Rattle.turn_model.specs.Measure.{ArriveInTime}
 use Rattle.bench_cell.specs.Plans.{checked_of, sets_of, stages_in, tables_of, total_in_query}
 use Rattle.bench_cell.specs.declared.plan.Plan.{Plan}
-use Rattle.pool_run.specs.Left as left
-use Rattle.pool_run.specs.Left.{ReportsMoves, ReportsTurns}
+use Rattle.pool_run.specs.Runs as runs
+use Rattle.pool_run.specs.Runs.{MayRun}
 use Rattle.worker_machine.specs.Loads.{load_of}
 use Rattle.report_text.specs.declared.report.Report.{Report}
-use Rattle.sched_tool.specs.Runs.{asked_of, IsReportIn, subject_of_plan, total_at, work_of}
+use Rattle.sched_tool.specs.Runs.{asked_of, IsLeftBy, IsReportIn, subject_of_plan, total_at, work_of}
 use Rattle.sched_tool.specs.declared.program.pace.Pace.{Pace}
-use Rattle.sched_tool.specs.declared.program.pace.Pace.TheVariants.{Steps, Turns}
 
 -- ---- the work of a plan
 
@@ -118,13 +117,24 @@ all_in_time : (queries : List Query) → first_early 0 0 queries ≡ None → (q
 all_in_time queries none q = omega (arith, none_early queries 0 0 none q)
 
 -- each query of such a plan arrives at the latest once all task sets of those before it are done
-pub in_time : (plan : Plan) (d : Shape) → first_early 0 0 (subject_of_plan plan).queries ≡ None → ArriveInTime d (load_of plan)
+in_time : (plan : Plan) (d : Shape) → first_early 0 0 (subject_of_plan plan).queries ≡ None → ArriveInTime d (load_of plan)
 in_time plan d none = subst (ArriveInTime d) (sym (load_is plan)) (λ q known. all_in_time (subject_of_plan plan).queries none q)
 
 -- ---- the run that is asked for
 
+-- such a plan may be run by so many workers over so many slots, by an order of workers
+pub may_run : (plan : Plan) (workers slots : ℕ) (order : List ℕ) → (1 ≤ workers) × (workers ≤ 64) → (1 ≤ slots) × (slots ≤ 128) → length order ≤ 4096
+    → All (λ worker. worker < workers) order → first_early 0 0 (subject_of_plan plan).queries ≡ None → MayRun (runs.asked_of plan workers slots order)
+may_run plan workers slots order some wide few below none = record {
+  workers = some;
+  slots = wide;
+  few = few;
+  order = below;
+  in_time = in_time plan (runs.asked_of plan workers slots order).shape none;
+}
+
 asked_is : (plan : Plan) (pace : Pace) (workers slots : ℕ) (order : List ℕ)
-    → left.asked_of plan workers slots order ≡ asked_of (record { pace = pace; workers = workers; slots = slots; order = order }) (subject_of_plan plan)
+    → runs.asked_of plan workers slots order ≡ asked_of (record { pace = pace; workers = workers; slots = slots; order = order }) (subject_of_plan plan)
 asked_is plan pace workers slots order =
     let count : length plan.queries.items ≡ length (map query_of (checked_of plan)) =
     sym (length-map (checked_of plan) query_of ∙ length-map plan.queries.items arc_value) in
@@ -134,15 +144,13 @@ asked_is plan pace workers slots order =
       order = order;
     }
 
-module _ (times : ℕ → ℕ → ℕ → Type 0) (plan : Plan) (workers slots : ℕ) (order : List ℕ) (report : Report) where
-  -- the report of a run of a plan is that of its subject
-  pub turns_report : ReportsTurns times (left.asked_of plan workers slots order) report
-      → IsReportIn times (record { pace = Turns; workers = workers; slots = slots; order = order }) (subject_of_plan plan) report
-  turns_report = subst (λ asked. ReportsTurns times asked report) (asked_is plan Turns workers slots order)
-
-  pub steps_report : ReportsMoves times (left.asked_of plan workers slots order) report
-      → IsReportIn times (record { pace = Steps; workers = workers; slots = slots; order = order }) (subject_of_plan plan) report
-  steps_report = subst (λ asked. ReportsMoves times asked report) (asked_is plan Steps workers slots order)
+-- the report of a run of a plan, by the pace that this is, is that of its subject
+pub report_by : (times : ℕ → ℕ → ℕ → Type 0) (plan : Plan) (pace : Pace) (workers slots : ℕ) (order : List ℕ) (report : Report) (of : Pace) → pace ≡ of
+    → IsLeftBy of times (runs.asked_of plan workers slots order) report
+    → IsReportIn times (record { pace = pace; workers = workers; slots = slots; order = order }) (subject_of_plan plan) report
+report_by times plan pace workers slots order report of is left =
+    subst (λ asked. IsLeftBy pace times asked report) (asked_is plan pace workers slots order)
+    (subst (λ pace. IsLeftBy pace times (runs.asked_of plan workers slots order) report) (sym is) left)
 
 -- ---- numbers of a plan
 

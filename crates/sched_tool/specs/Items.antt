@@ -97,8 +97,10 @@ pub record GiveTheSame (one other : ItemLine) : Type 0 where
 -- positional words; what is read is what that line gives
 abbrev pub ReadsLines : Type 0
 ReadsLines = (words : List (List ℕ)) (given : Given)
-    → (given_by nothing words ≡ Some given → (line : ItemLine) × Write line words × IsGiven line given)
-    × ((line : ItemLine) → Write line words → IsGiven line given → given_by nothing words ≡ Some given)
+    → (given_by nothing words ≡ Some given
+    → (line : ItemLine) × Write line words × IsGiven line given)
+    × ((line : ItemLine) → Write line words → IsGiven line given
+    → given_by nothing words ≡ Some given)
 
 -- Behind a command, the place of an option among the other items before `--` is free, and its value
 -- may stand behind `=` or be the next word: lines that give the same mean the same, also if they

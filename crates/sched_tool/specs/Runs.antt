@@ -16,7 +16,7 @@ use Rattle.slot_history.specs.declared.shape.TheConstants.{STAGES}
 use Rattle.turn_model.specs.Workloads.{Workload}
 use Rattle.bench_cell.specs.Plans.{checked_of, tables_of}
 use Rattle.bench_cell.specs.declared.plan.Plan.{Plan}
-use Rattle.pool_run.specs.Left.{Asked, ReportsMoves, ReportsTurns}
+use Rattle.pool_run.specs.Runs.{Asked, ReportsMoves, ReportsTurns}
 use Rattle.sched_tool.specs.Statuses.{answer_status, memory_status}
 use Rattle.sched_tool.specs.Words.{AskedRun}
 use Rattle.sched_tool.specs.declared.program.pace.Pace.{Pace}

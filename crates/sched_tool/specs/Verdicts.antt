@@ -1,16 +1,24 @@
--- One answer to a command, or one refusal of it.
-use Rattle.std.specs.Prelude.{◌≡◌, ℕ, List, Option}
-use Rattle.sched_tool.specs.Behaviours.{Behaviour, behaviour_of, check_behaviour}
-use Rattle.sched_tool.specs.Outsides.{known, surely_holds}
-use Rattle.sched_tool.specs.Words.{Meaning}
+-- At most one text of a command, or one refusal of it.
+use Rattle.std.specs.Prelude.{◌≡◌, ℕ, List, Option, Some}
+use Rattle.run_laws.specs.Agreeing.{takes}
+use Rattle.sched_tool.specs.Behaviours.{Behaviour, behaviour_of}
+use Rattle.sched_tool.specs.Outsides.{known}
+use Rattle.sched_tool.specs.Words.{Meaning, run}
 use Rattle.sched_tool.specs.Writing.{IsFinding}
 use Rattle.sched_tool.specs.declared.program.refusal.Refusal.{Refusal}
 
--- an accepted script has one answer if the contents of its files are known
-abbrev pub OneAnswer : Type 0
-OneAnswer = (content : List ℕ → Option (List ℕ)) (file a b : List ℕ)
-    → (check_behaviour (surely_holds content) file).answers a
-    → (check_behaviour (surely_holds content) file).answers b → a ≡ b
+-- what words ask for goes on one thread, if it runs anything: `run` doesn't
+abbrev pub IsOnOneThread : Option Meaning → Type 0
+IsOnOneThread (Some (run asked)) = ⊥
+IsOnOneThread meaning = Unit {0}
+
+-- A command on one thread has at most one text, if the contents of the files are known, each range
+-- takes a known time by its tuples and its query's cost, and no query runs out of memory.
+abbrev pub OneText : Type 0
+OneText = (time : ℕ → ℕ → ℕ) (content : List ℕ → Option (List ℕ)) (meaning : Option Meaning)
+    (one other : List ℕ) → IsOnOneThread meaning
+    → (behaviour_of (known content (takes time)) meaning).answers one
+    → (behaviour_of (known content (takes time)) meaning).answers other → one ≡ other
 
 -- what is accepted isn't refused, and what is refused has one reason; a fault or memory is none
 pub record HasOneVerdict (does : Behaviour) : Type 0 where

@@ -1,12 +1,14 @@
 //! Laws over definitions alone: what commands accept, answer and refuse, and how words are read.
 ghost use Rattle.sched_tool.specs.Items.{PlacesAreFree, ReadsLines};
-ghost use Rattle.sched_tool.specs.Verdicts.{OneAnswer, OneVerdict};
+ghost use Rattle.sched_tool.specs.Verdicts.{OneText, OneVerdict};
 
 use outside_io::Meter;
 
-/// An accepted script has one answer if the contents of its files are known.
-pub fn one_answer()
-    ensures { OneAnswer }
+/// Two texts that answer the same words whole are the same bytes, if the contents of the files are
+/// known, and the meter has one time for so many tuples of a query's cost. It holds of every
+/// command that goes on one thread, whatever the order of a run.
+pub fn one_text()
+    ensures { OneText }
 {}
 
 /// If the contents of the files are known, no words are both accepted and refused, and words that

@@ -7,7 +7,6 @@ ghost use Rattle.sched_tool.specs.Behaviours.{job_of, run_behaviour};
 ghost use Rattle.sched_tool.specs.Commands.{Gives, GivesUp, IsRunnable, run_meant};
 ghost use Rattle.sched_tool.specs.Outsides.{possible};
 ghost use Rattle.sched_tool.specs.Runs.{FitsReplies, IsReportIn, course_of, subject_of_plan};
-ghost use Rattle.sched_tool.specs.declared.program.pace.Pace.TheVariants.{Steps, Turns};
 
 use super::order::read_order;
 use super::output::Output;
@@ -64,54 +63,32 @@ fn run_plan<M: Meter>(
 {
     let order = read_order(alloc, run.workers, run.order)?;
     let order = order.as_slice();
+    report_of(alloc, plan, pace, run.workers, run.slots, order, meter)
+}
+
+/// The report of a run by whole turns or by single steps.
+pub fn report_of<M: Meter>(
+    alloc: Global,
+    plan: Arc<Plan>,
+    pace: Pace,
+    workers: u32,
+    slots: u32,
+    order: &[u32],
+    meter: &mut M,
+) -> Result<Report, AllocError>
+    requires workers { (1 ≤ workers) × (workers ≤ 64) }
+    requires slots { (1 ≤ slots) × (slots ≤ 128) }
+    requires few { length order.now ≤ 4096 }
+    requires below { All (λ worker. worker < workers) order.now }
+    requires in_time { first_early 0 0 (subject_of_plan (arc_value plan)).queries ≡ None }
+    ensures { IfOk result (IsReportIn M.may_take
+        (record { pace = pace; workers = workers; slots = slots; order = order.now })
+        (subject_of_plan (arc_value plan))) }
+{
     match pace {
-        Pace::Turns => turns_of(alloc, plan, run.workers, run.slots, order, meter),
-        Pace::Steps => steps_of(alloc, plan, run.workers, run.slots, order, meter),
+        Pace::Turns => Ok(run_turns(alloc, plan, workers, slots, order, meter)?.report),
+        Pace::Steps => Ok(run_steps(alloc, plan, workers, slots, order, meter)?.report),
     }
-}
-
-/// The report of a run by whole turns.
-pub fn turns_of<M: Meter>(
-    alloc: Global,
-    plan: Arc<Plan>,
-    workers: u32,
-    slots: u32,
-    order: &[u32],
-    meter: &mut M,
-) -> Result<Report, AllocError>
-    requires workers { (1 ≤ workers) × (workers ≤ 64) }
-    requires slots { (1 ≤ slots) × (slots ≤ 128) }
-    requires few { length order.now ≤ 4096 }
-    requires below { All (λ worker. worker < workers) order.now }
-    requires in_time { first_early 0 0 (subject_of_plan (arc_value plan)).queries ≡ None }
-    ensures { IfOk result (IsReportIn M.may_take
-        (record { pace = Turns; workers = workers; slots = slots; order = order.now })
-        (subject_of_plan (arc_value plan))) }
-{
-    let ran = run_turns(alloc, plan, workers, slots, order, meter)?;
-    Ok(ran.report)
-}
-
-// The report of a run by single steps.
-fn steps_of<M: Meter>(
-    alloc: Global,
-    plan: Arc<Plan>,
-    workers: u32,
-    slots: u32,
-    order: &[u32],
-    meter: &mut M,
-) -> Result<Report, AllocError>
-    requires workers { (1 ≤ workers) × (workers ≤ 64) }
-    requires slots { (1 ≤ slots) × (slots ≤ 128) }
-    requires few { length order.now ≤ 4096 }
-    requires below { All (λ worker. worker < workers) order.now }
-    requires in_time { first_early 0 0 (subject_of_plan (arc_value plan)).queries ≡ None }
-    ensures { IfOk result (IsReportIn M.may_take
-        (record { pace = Steps; workers = workers; slots = slots; order = order.now })
-        (subject_of_plan (arc_value plan))) }
-{
-    let ran = run_steps(alloc, plan, workers, slots, order, meter)?;
-    Ok(ran.report)
 }
 
 // The text of a report, with the status that its replies ask for.

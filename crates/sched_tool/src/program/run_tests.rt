@@ -12,100 +12,55 @@ const GROUPS: &str = r#"{"scan":"t","output":{"groups":{"by":["k"],
 
 const COUNT: &str = r#"{"scan":"t","output":{"totals":[{"fn":"count"}]}}"#;
 
+// Two queries of the weights 10 and 5.
+const WEIGHTED: &str = r#"{"scan":"t","weight":10,"output":{"totals":[{"fn":"count"}]}},
+{"scan":"t","weight":5,"output":{"totals":[{"fn":"count"}]}}"#;
+
+// What `GROUPS` answers, and its only share.
+const GROUPS_ANSWER: &str = "query 0 lines 2\ngroup 1: 30\ngroup 2: 5\n\
+shares\nworker 0 query 0 ranges 2 tuples 19 ns 1900 priority 10000\n";
+
 // One worker claims both task sets whole.
-const ONE_WORKER: &str = "query 0 lines 2\n\
-group 1: 30\n\
-group 2: 5\n\
-shares\n\
-worker 0 query 0 ranges 2 tuples 19 ns 1900 priority 10000\n\
-worker 0 widest 0 largest 167772\n\
-journal\n\
-set 0.0 slot 0 total 3 finisher 0\n\
-claim 0 3 worker 0\n\
-set 0.1 slot 0 total 16 finisher 0\n\
-claim 0 16 worker 0\n\
-end\n";
+const ONE_WORKER: &str = "worker 0 widest 0 largest 167772\n\
+journal\nset 0.0 slot 0 total 3 finisher 0\nclaim 0 3 worker 0\n\
+set 0.1 slot 0 total 16 finisher 0\nclaim 0 16 worker 0\nend\n";
 
 // Worker 0 claims both ranges, and worker 1 finishes both task sets.
-const TWO_WORKERS: &str = "query 0 lines 2\n\
-group 1: 30\n\
-group 2: 5\n\
-shares\n\
-worker 0 query 0 ranges 2 tuples 19 ns 1900 priority 10000\n\
-worker 0 widest 0 largest 167772\n\
-worker 1 widest 0 largest 0\n\
-journal\n\
-set 0.0 slot 0 total 3 finisher 1\n\
-claim 0 3 worker 0\n\
-set 0.1 slot 0 total 16 finisher 1\n\
-claim 0 16 worker 0\n\
-end\n";
+const TWO_WORKERS: &str = "worker 0 widest 0 largest 167772\nworker 1 widest 0 largest 0\n\
+journal\nset 0.0 slot 0 total 3 finisher 1\nclaim 0 3 worker 0\n\
+set 0.1 slot 0 total 16 finisher 1\nclaim 0 16 worker 0\nend\n";
 
-// Two queries of the weights 10 and 5.
-const TWO_QUERIES: &str = "query 0 lines 1\n\
-total 3\n\
-query 1 lines 1\n\
-total 3\n\
-shares\n\
-worker 0 query 0 ranges 1 tuples 3 ns 300 priority 10000\n\
-worker 0 query 1 ranges 1 tuples 3 ns 300 priority 5000\n\
-worker 0 widest 31457 largest 62914\n\
-journal\n\
-set 0.0 slot 0 total 3 finisher 0\n\
-claim 0 3 worker 0\n\
-set 1.0 slot 1 total 3 finisher 0\n\
-claim 0 3 worker 0\n\
-end\n";
+// One worker answers the two queries of different weights.
+const TWO_QUERIES: &str = "query 0 lines 1\ntotal 3\nquery 1 lines 1\ntotal 3\n\
+shares\nworker 0 query 0 ranges 1 tuples 3 ns 300 priority 10000\n\
+worker 0 query 1 ranges 1 tuples 3 ns 300 priority 5000\nworker 0 widest 31457 largest 62914\n\
+journal\nset 0.0 slot 0 total 3 finisher 0\nclaim 0 3 worker 0\n\
+set 1.0 slot 1 total 3 finisher 0\nclaim 0 3 worker 0\nend\n";
 
 // Three queries that wait for one slot: each finds the floor of the one before it.
-const ONE_SLOT: &str = "query 0 lines 1\n\
-total 3\n\
-query 1 lines 1\n\
-total 3\n\
-query 2 lines 1\n\
-total 3\n\
-shares\n\
+const ONE_SLOT: &str = "query 0 lines 1\ntotal 3\nquery 1 lines 1\ntotal 3\n\
+query 2 lines 1\ntotal 3\nshares\n\
 worker 0 query 0 ranges 1 tuples 3 ns 300 priority 10000\n\
 worker 0 query 1 ranges 1 tuples 3 ns 300 priority 10000\n\
-worker 0 query 2 ranges 1 tuples 3 ns 300 priority 10000\n\
-worker 0 widest 0 largest 31457\n\
-journal\n\
-set 0.0 slot 0 total 3 finisher 0\n\
-claim 0 3 worker 0\n\
-set 1.0 slot 0 total 3 finisher 0\n\
-claim 0 3 worker 0\n\
-set 2.0 slot 0 total 3 finisher 0\n\
-claim 0 3 worker 0\n\
-end\n";
+worker 0 query 2 ranges 1 tuples 3 ns 300 priority 10000\nworker 0 widest 0 largest 31457\n\
+journal\nset 0.0 slot 0 total 3 finisher 0\nclaim 0 3 worker 0\n\
+set 1.0 slot 0 total 3 finisher 0\nclaim 0 3 worker 0\n\
+set 2.0 slot 0 total 3 finisher 0\nclaim 0 3 worker 0\nend\n";
 
 const NO_QUERIES: &str = "shares\nworker 0 widest 0 largest 0\njournal\nend\n";
 
-const NO_ROWS: &str = "query 0 lines 1\n\
-total 0,0,-,-\n\
-shares\n\
-worker 0 widest 0 largest 0\n\
-journal\n\
-set 0.0 slot 0 total 0 finisher 0\n\
-end\n";
+const NO_ROWS: &str = "query 0 lines 1\ntotal 0,0,-,-\nshares\nworker 0 widest 0 largest 0\n\
+journal\nset 0.0 slot 0 total 0 finisher 0\nend\n";
 
-const NO_GROUPS: &str = "query 0 lines 0\n\
-shares\n\
-worker 0 query 0 ranges 1 tuples 16 ns 1600 priority 10000\n\
-worker 0 widest 0 largest 167772\n\
-journal\n\
-set 0.0 slot 0 total 0 finisher 0\n\
-set 0.1 slot 0 total 16 finisher 0\n\
-claim 0 16 worker 0\n\
-end\n";
+const NO_GROUPS: &str = "query 0 lines 0\nshares\n\
+worker 0 query 0 ranges 1 tuples 16 ns 1600 priority 10000\nworker 0 widest 0 largest 167772\n\
+journal\nset 0.0 slot 0 total 0 finisher 0\nset 0.1 slot 0 total 16 finisher 0\n\
+claim 0 16 worker 0\nend\n";
 
 // The morsels of 200,000 tuples: 16 doubling to 16,384, then 20,000 eight times, then the rest.
-const LONG_BEGIN: &str = "query 0 lines 1\n\
-total 200000\n\
-shares\n\
+const LONG_BEGIN: &str = "query 0 lines 1\ntotal 200000\nshares\n\
 worker 0 query 0 ranges 20 tuples 200000 ns 20000000 priority 7290\n\
-worker 0 widest 0 largest 233016888\n\
-journal\n\
-set 0.0 slot 0 total 200000 finisher 0\n";
+worker 0 widest 0 largest 233016888\njournal\nset 0.0 slot 0 total 200000 finisher 0\n";
 
 // Asserts what a run writes at status 0, for queries over a table: the command, and its words after
 // the script.
@@ -127,14 +82,17 @@ fn reports<'x>(
 #[test]
 fn reports_runs(rt: HostRuntime) -> Result<(), Fail> {
     let one: (&str, &[&str]) = ("turns", &["--workers", "1"]);
-    reports(&rt, GROUPS, TABLE, one, ONE_WORKER)?;
+    let text = format!(in rt.alloc(); "{GROUPS_ANSWER}{ONE_WORKER}")?;
+    reports(&rt, GROUPS, TABLE, one, text.as_str())?;
     let steps: (&str, &[&str]) = ("steps", &["--workers=1", "--order", "0,0,0,0,0,0,0,0,0"]);
-    reports(&rt, GROUPS, TABLE, steps, ONE_WORKER)?;
+    reports(&rt, GROUPS, TABLE, steps, text.as_str())?;
     let order: (&str, &[&str]) = ("turns", &["--workers=2", "--order", "1,0,1"]);
-    reports(&rt, GROUPS, TABLE, order, TWO_WORKERS)?;
-    let weights = r#"{"scan":"t","weight":10,"output":{"totals":[{"fn":"count"}]}},
-        {"scan":"t","weight":5,"output":{"totals":[{"fn":"count"}]}}"#;
-    reports(&rt, weights, TABLE, one, TWO_QUERIES)?;
+    let text = format!(in rt.alloc(); "{GROUPS_ANSWER}{TWO_WORKERS}")?;
+    reports(&rt, GROUPS, TABLE, order, text.as_str())?;
+    // Here a turn ends with Idle.
+    let idle: (&str, &[&str]) = ("steps", &["--workers=2", "--order", "1,1,1,0,0,0"]);
+    reports(&rt, GROUPS, TABLE, idle, text.as_str())?;
+    reports(&rt, WEIGHTED, TABLE, one, TWO_QUERIES)?;
     let three = format!(in rt.alloc(); "{COUNT},{COUNT},{COUNT}")?;
     let slot: (&str, &[&str]) = ("turns", &["--workers", "1", "--slots", "1"]);
     reports(&rt, three.as_str(), TABLE, slot, ONE_SLOT)?;
@@ -147,16 +105,10 @@ fn reports_runs(rt: HostRuntime) -> Result<(), Fail> {
 
 // Worker 1 looks at the task set before worker 0 shuts it. So it is marked, pays when it leaves, is
 // the last to do so, and finishes the task set.
-const PAID: &str = "query 0 lines 1\n\
-total 3\n\
-shares\n\
-worker 0 query 0 ranges 1 tuples 3 ns 300 priority 10000\n\
-worker 0 widest 0 largest 31457\n\
-worker 1 widest 0 largest 0\n\
-journal\n\
-set 0.0 slot 0 total 3 finisher 1\n\
-claim 0 3 worker 0\n\
-end\n";
+const PAID: &str = "query 0 lines 1\ntotal 3\n\
+shares\nworker 0 query 0 ranges 1 tuples 3 ns 300 priority 10000\n\
+worker 0 widest 0 largest 31457\nworker 1 widest 0 largest 0\n\
+journal\nset 0.0 slot 0 total 3 finisher 1\nclaim 0 3 worker 0\nend\n";
 
 // The text of numbers with a comma between: each so many times.
 fn order_of(alloc: Global, turns: &[(u32, u32)]) -> Result<String, AllocError> {
@@ -268,34 +220,55 @@ fn drawn_order(alloc: Global, seed: u32, len: u32) -> Result<String, AllocError>
     let mut state = u64::from(seed) + 1;
     for _ in 1..len {
         state = state.wrapping_mul(48_271) % 2_147_483_647;
-        let line = format!(in alloc; ",{}", state % 3)?;
-        text.push_str(line.as_str())?;
+        text.push_str(match state % 3 {
+            0 => ",0",
+            1 => ",1",
+            _ => ",2",
+        })?;
     }
     Ok(text)
 }
 
-#[test]
-fn steps_answer_as_check_does(rt: HostRuntime) -> Result<(), Fail> {
+// Asserts that `steps` of a script, with 3 workers, gives the answers of `check`, whatever the
+// order: so many drawn orders of so many numbers.
+fn steps_answer_as_check_does(
+    rt: &(impl Abort + AllocGlobal),
+    queries: &str,
+    slots: &str,
+    orders: u32,
+    len: u32,
+) -> Result<(), Fail> {
     let alloc = rt.alloc();
-    let script = script_of(alloc, ENTRIES, ALL_FORMS)?;
+    let script = script_of(alloc, ENTRIES, queries)?;
     let mut files = files_of(alloc, script.as_bytes(), TABLE.as_bytes(), &[])?;
-    let mut answers = written(&rt, &["check", "s.json"], &mut files)?;
+    let mut answers = written(rt, &["check", "s.json"], &mut files)?;
     answers.truncate(answers.len().saturating_sub(4));
     answers.extend_from_slice(b"shares\n")?;
-    for seed in 0..20 {
-        let order = drawn_order(alloc, seed, 600)?;
+    for seed in 0..orders {
+        let order = drawn_order(alloc, seed, len)?;
         let words = [
             "steps",
             "s.json",
             "--workers=3",
-            "--slots=2",
+            slots,
             "--order",
             order.as_str(),
         ];
-        let report = written(&rt, &words, &mut files)?;
+        let report = written(rt, &words, &mut files)?;
         assert!(rt; report.as_slice().starts_with(answers.as_slice()), "{seed}");
     }
     Ok(())
+}
+
+#[test]
+fn orders_leave_answers_of_all_forms(rt: HostRuntime) -> Result<(), Fail> {
+    steps_answer_as_check_does(&rt, ALL_FORMS, "--slots=2", 20, 600)
+}
+
+// The orders are as long as an order may be.
+#[test]
+fn long_orders_leave_answers(rt: HostRuntime) -> Result<(), Fail> {
+    steps_answer_as_check_does(&rt, WEIGHTED, "--slots=128", 200, 4096)
 }
 
 // The lines and the ranges are those of a model in another language.

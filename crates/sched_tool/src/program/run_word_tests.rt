@@ -1,78 +1,59 @@
 //! Tests of `read_words`: worked words of runs, the limits of an order, and very long words.
 use super::tests::{repeated, texts};
-use super::words::{Command, RunWords, read_words};
+use super::words::{Command, read_words};
 use std::alloc::{AllocError, Global};
 use std::test::Fail;
 
-// Whether words ask for such a run by whole turns.
-fn asks_turns(words: &[String], script: &str, workers: u32, slots: u32, order: &str) -> bool {
-    match read_words(words) {
-        Some(Command::Turns(run)) => is_run(run, script, workers, slots, order),
-        _ => false,
-    }
+// The run that words ask for, as text.
+fn run_text(alloc: Global, words: &[String]) -> Result<String, AllocError> {
+    let (name, run) = match read_words(words) {
+        Some(Command::Turns(run)) => ("turns", run),
+        Some(Command::Steps(run)) => ("steps", run),
+        Some(Command::Run(run)) => ("run", run),
+        _ => return String::from_str(alloc, "no run"),
+    };
+    let order = run.order.unwrap_or("");
+    format!(in alloc;
+        "{name} {} {} {} [{order}]",
+        run.script, run.workers, run.slots
+    )
 }
 
-fn is_run(run: RunWords<'_>, script: &str, workers: u32, slots: u32, order: &str) -> bool {
-    run.script == script
-        && run.workers == workers
-        && run.slots == slots
-        && run.order.unwrap_or("") == order
-}
-
+// Words with a space between, and the run that they ask for.
 #[test]
 fn reads_words_of_runs(rt: HostRuntime) -> Result<(), Fail> {
-    let cases: [(&[&str], &str, u32, u32, &str); 8] = [
+    let cases = [
+        ("turns --workers=1 -- s.json", "turns s.json 1 128 []"),
+        ("turns - --workers 1", "turns - 1 128 []"),
+        ("turns s --workers 000000001", "turns s 1 128 []"),
+        ("turns s --workers 1 --slots=128", "turns s 1 128 []"),
+        ("turns s --order 1 --workers 2", "turns s 2 128 [1]"),
+        ("turns s --workers=2 --order=1,0", "turns s 2 128 [1,0]"),
         (
-            &["turns", "--workers=1", "--", "s.json"],
-            "s.json",
-            1,
-            128,
-            "",
-        ),
-        (&["turns", "-", "--workers", "1"], "-", 1, 128, ""),
-        (&["turns", "s", "--workers", "000000001"], "s", 1, 128, ""),
-        (
-            &["turns", "s", "--workers", "1", "--slots=128"],
-            "s",
-            1,
-            128,
-            "",
+            "turns --slots 5 --order=0 --workers=64 s",
+            "turns s 64 5 [0]",
         ),
         (
-            &["turns", "s", "--order", "1", "--workers", "2"],
-            "s",
-            2,
-            128,
-            "1",
+            "turns s --workers 2 --order=0,000000001",
+            "turns s 2 128 [0,000000001]",
         ),
         (
-            &["turns", "--slots", "5", "--order=0", "--workers=64", "s"],
-            "s",
-            64,
-            5,
-            "0",
+            "turns --slots=1 --workers 64 -- --order",
+            "turns --order 64 1 []",
         ),
-        (
-            &["turns", "s", "--workers", "2", "--order=0,000000001"],
-            "s",
-            2,
-            128,
-            "0,000000001",
-        ),
-        (
-            &["turns", "--slots=1", "--workers", "64", "--", "--order"],
-            "--order",
-            64,
-            1,
-            "",
-        ),
+        ("steps s --workers=2", "steps s 2 128 []"),
+        ("steps --order 1 --slots 3 --workers=2 s", "steps s 2 3 [1]"),
+        ("run s --workers 2", "run s 2 128 []"),
+        ("run --slots=4 --workers 2 -- s", "run s 2 4 []"),
+        ("check s", "no run"),
     ];
-    for (words, script, workers, slots, order) in cases {
-        let words = texts(rt.alloc(), words)?;
-        assert!(rt;
-            asks_turns(words.as_slice(), script, workers, slots, order),
-            "{words:?}"
-        );
+    for (line, text) in cases {
+        let mut words = Vec::new(rt.alloc());
+        for word in line.split(' ') {
+            words.push(String::from_str(rt.alloc(), word)?)?;
+        }
+        let read = run_text(rt.alloc(), words.as_slice())?;
+        assert_eq!(rt; read.as_str(), text);
     }
     Ok(())
 }
@@ -151,52 +132,9 @@ fn limits_orders(rt: HostRuntime) -> Result<(), Fail> {
         let order = repeated(alloc, "0", ",0", others)?;
         let mut words = texts(alloc, &["turns", "s", "--workers", "1", "--order"])?;
         words.push(order.clone()?)?;
-        let asks = asks_turns(words.as_slice(), "s", 1, 128, order.as_str());
-        assert_eq!(rt; asks, fits, "{others}");
-    }
-    Ok(())
-}
-
-// The run that words ask for, as text.
-fn run_text(alloc: Global, words: &[String]) -> Result<String, AllocError> {
-    let (name, run) = match read_words(words) {
-        Some(Command::Turns(run)) => ("turns", run),
-        Some(Command::Steps(run)) => ("steps", run),
-        Some(Command::Run(run)) => ("run", run),
-        _ => return String::from_str(alloc, "no run"),
-    };
-    let order = run.order.unwrap_or("");
-    format!(in alloc;
-        "{name} {} {} {} [{order}]",
-        run.script, run.workers, run.slots
-    )
-}
-
-// `turns`, `steps` and `run` are read as themselves.
-#[test]
-fn tells_runs_apart(rt: HostRuntime) -> Result<(), Fail> {
-    let cases: [(&[&str], &str); 7] = [
-        (&["turns", "s", "--workers", "2"], "turns s 2 128 []"),
-        (
-            &["turns", "s", "--workers=2", "--order=1,0"],
-            "turns s 2 128 [1,0]",
-        ),
-        (&["steps", "s", "--workers=2"], "steps s 2 128 []"),
-        (
-            &["steps", "--order", "1", "--slots", "3", "--workers=2", "s"],
-            "steps s 2 3 [1]",
-        ),
-        (&["run", "s", "--workers", "2"], "run s 2 128 []"),
-        (
-            &["run", "--slots=4", "--workers", "2", "--", "s"],
-            "run s 2 4 []",
-        ),
-        (&["check", "s"], "no run"),
-    ];
-    for (words, text) in cases {
-        let words = texts(rt.alloc(), words)?;
-        let read = run_text(rt.alloc(), words.as_slice())?;
-        assert_eq!(rt; read.as_str(), text);
+        let read = run_text(alloc, words.as_slice())?;
+        let text = format!(in alloc; "turns s 1 128 [{order}]")?;
+        assert_eq!(rt; read == text, fits, "{others}");
     }
     Ok(())
 }

@@ -15,9 +15,10 @@ ghost use Rattle.sched_tool.specs.Summaries.{is_answer, lines_in, rounds_of_eigh
 ghost use Rattle.sched_tool.specs.Summaries.{summary_of};
 
 use super::output::Output;
+use super::pace::Pace;
 use super::plan::plan_of;
 use super::refusal::Refusal;
-use super::reports::turns_of;
+use super::reports::report_of;
 use super::subject::{Opened, check_queries};
 use bench_cell::Plan;
 use load_gen::{Generated, Summary, generate};
@@ -41,7 +42,15 @@ pub fn make_summary<M: Meter>(alloc: Global, number: u32, meter: &mut M) -> Resu
         → GivesUp (summary_behaviour M.may_take number) failed failed refusal) }
 {
     let plan = generated_plan(alloc, number)?;
-    let report = turns_of(alloc, Arc::try_clone(&plan)?, WORKERS, SLOTS, &[], meter)?;
+    let report = report_of(
+        alloc,
+        Arc::try_clone(&plan)?,
+        Pace::Turns,
+        WORKERS,
+        SLOTS,
+        &[],
+        meter,
+    )?;
     let summary = summary_of(number, &plan, &report);
     let text = format!(in alloc; "{summary}")?;
     Ok(Output::of_run(text.into_bytes(), report.replies.as_slice()))

@@ -1,7 +1,8 @@
 #!/bin/sh
 # Refuses each allocation of `sched_tool turns` in turn: for a script of groups, and for one of two
 # queries. Each run must end with 0 and the text of an undisturbed run, or with 7 and the line that
-# says so, or with 7 and a whole report in which a query ran out of memory. For each script it
+# says so, or with 7 and a whole report: in it a query ran out of memory, and every other query has
+# the answer of the undisturbed run. For each script it
 # prints how many allocations there are, and how many runs ended in each way. It needs a C compiler,
 # and a C library that lets a program's allocations be replaced (LD_PRELOAD).
 #
@@ -31,10 +32,20 @@ ending() {
     echo other
 }
 
-# Whether a report was written whole, which says of a query that it ran out of memory.
+# FILE: the answers part of a report, one line for each query.
+answers() {
+    awk '/^shares$/ { exit } /^query / { printf "%s", sep; sep = "\n" } { printf "%s|", $0 }' "$1"
+    echo
+}
+
+# Whether a report was written whole, in which some query ran out of memory, and every other one has
+# the answer of the undisturbed run.
 is_report() {
-    grep -q '^query [0-9]* memory$' said && grep -q '^shares$' said && grep -q '^journal$' said &&
-        [ "$(grep -c '^query ' said)" = "$queries" ] && [ "$(tail -n 1 said)" = end ]
+    answers said >new
+    answers whole >old
+    [ "$(tail -n 1 said)" = end ] && grep -q '^journal$' said &&
+        grep -q '^query [0-9]* memory|$' new && [ "$(wc -l <new)" = "$(wc -l <old)" ] &&
+        ! grep -v '^query [0-9]* memory|$' new | grep -v -x -F -f old | grep -q .
 }
 
 # QUERIES: refuses each allocation of a script with these queries.
@@ -42,7 +53,6 @@ refuse_each() {
     printf '{"version":1,"tables":[{"name":"t","file":"t.csv"}],"queries":[%s]}\n' "$1" >s.json
     run_without 0
     mv said whole
-    queries=$(grep -c '^query ' whole)
     all=$(cat counted)
     : >endings
     number=1

@@ -4,11 +4,12 @@
 # (an accumulator, `run_range`, `merge`), on one thread. The difference is what scheduling costs.
 #
 # In each round, one after the other: `turns` ten times, `check` of the same tables without a query
-# ten times, and the stages of the queries, each ten times. The time of a run is that of `turns`
-# less that of `check`, in CPU time, user and system; so the reading of the files doesn't count. The
-# time of the work is the sum of the least times of the queries. It prints the medians over the
-# rounds, in milliseconds, the median of the rounds' ratios, and how much more memory `turns` needs
-# than `check` does. It is no test. It needs the command rt and /usr/bin/time.
+# ten times, `make 7` ten times, and the stages of the queries, each ten times. The time of a run is
+# that of `turns` less that of `check`, in CPU time, user and system; so the reading of the files
+# doesn't count. The time of the work is the sum of the least times of the queries. It prints the
+# medians over the rounds, in milliseconds, the median of the rounds' ratios, how much more memory
+# `turns` needs than `check` does, and the whole times of `turns` and of `make 7`, which makes and
+# runs the same. It is no test. It needs the command rt and /usr/bin/time.
 #
 #   bench/turns.sh [ROUNDS]        15 rounds by default
 
@@ -38,11 +39,13 @@ round=0
 while [ "$round" -lt "$rounds" ]; do
     timed turns "$program" turns s.json --workers 8
     timed check "$program" check none.json
+    timed make "$program" make 7
     "$stages" | awk '$1 == "time" && $2 ~ /^[0-9]/ { sum += $3 } END { print sum / 1000000 }' >>work
     round=$((round + 1))
 done
 
 paste -d ' ' turns check work | awk '{ print $1 - $3, $5, ($1 - $3) / $5, $2 - $4 }' >rows
-printf '%10s %10s %6s %12s\n' 'run ms' 'work ms' ratio 'beyond KiB'
-printf '%10s %10s %6s %12s\n' "$(median rows 1)" "$(median rows 2)" "$(median rows 3)" \
-    "$(median rows 4)"
+format='%10s %10s %6s %12s %10s %10s\n'
+printf "$format" 'run ms' 'work ms' ratio 'beyond KiB' 'turns ms' 'make ms'
+printf "$format" "$(median rows 1)" "$(median rows 2)" "$(median rows 3)" "$(median rows 4)" \
+    "$(median turns 1)" "$(median make 1)"

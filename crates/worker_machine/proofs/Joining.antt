@@ -1,5 +1,6 @@
 -- Joins, one slot after another.
-use Rattle.std.proofs.Common.{◌≡◌, ℕ, zero, suc, ◌+◌, ◌*◌, Bool, true, false, ◌==◌, if◌then◌else◌, refl, sym, ap, ◌∙◌, add-one, eq-eqb, ne_eqb}
+use Rattle.std.proofs.Common.{◌≡◌, ℕ, zero, suc, ◌+◌, ◌*◌, Bool, true, false, ◌==◌, if◌then◌else◌, refl, sym, ap, ◌∙◌, add-one, arith, eq-eqb, ne_eqb}
+use Rattle.std.proofs.lemmas.Nat.Bits.{bit_at-zero}
 use Rattle.std.specs.Int.{bit_at}
 use Rattle.stride_set.specs.Strides.{Strides, Call, JoinReturn, JoinChange, stride_after}
 use Rattle.worker_machine.specs.Joins.{join_of, joined}
@@ -29,6 +30,13 @@ module _ (join : ℕ → Call) where
 
   pub joined-no : (n part bits : ℕ) (st old : Strides) → (bit_at bits n ≡ 1 → ⊥) → old ≡ joined join n part bits st → old ≡ joined join (n + 1) part bits st
   joined-no n part bits st old bit is = is ∙ sym (joined-by n part bits st false (ne_eqb _ _ bit))
+
+  -- a word without notices joins no slot
+  pub joined-none : (n part bits : ℕ) (st : Strides) → bits ≡ 0 → st ≡ joined join n part bits st
+  joined-none zero part bits st none = joined-zero part bits st
+  joined-none (suc n) part bits st none =
+      joined-no n part bits st st (λ bit. absurd (omega (arith, ap (λ b. bit_at b n) none ∙ bit_at-zero n, bit))) (joined-none n part bits st none)
+      ∙ ap (λ k. joined join k part bits st) (add-one n)
 
   slots-step : (b : Bool) (x : Strides) (call : Call) (n : ℕ) → x.slots ≡ n → (stride_after x call).slots ≡ x.slots →
       (if b then stride_after x call else x).slots ≡ n

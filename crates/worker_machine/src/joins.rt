@@ -26,6 +26,9 @@ pub(crate) fn join_all(strides: &mut StrideSet, notice: Notice, part: u32, bits:
     ensures { strides_of strides.new ≡ joined (join_of notice) 64 part bits
         (strides_of strides.old) }
 {
+    if bits == 0 {
+        return;
+    }
     for k in 0..64 {
         if (bits >> k) % 2 == 1 {
             join(strides, notice, part * 64 + k);
@@ -52,6 +55,9 @@ pub(crate) fn forget_groups(known: &mut Vec<Known>, part: u32, bits: u64)
     ensures sized { (plan : Plan) → AreSized plan known.old.items → AreSized plan known.new.items }
     ensures groups { AreForgotten (is_in_mask part bits) known.old.items known.new.items }
 {
+    if bits == 0 {
+        return;
+    }
     for k in 0..64 {
         if (bits >> k) % 2 == 1 {
             forget(&mut known[(part * 64 + k) as usize]);

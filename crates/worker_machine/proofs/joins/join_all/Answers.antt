@@ -1,9 +1,13 @@
 use Rattle.std.proofs.Common.{◌+◌, ◌*◌, ◌<◌, sym, ap, ◌∙◌, subst}
 use Rattle.stride_set.specs.Strides.{Strides, strides_of}
-use Rattle.worker_machine.proofs.Joining.{joined-zero, joined-yes, joined-no, notice-slots}
+use Rattle.worker_machine.proofs.Joining.{joined-zero, joined-none, joined-yes, joined-no, notice-slots}
 use Rattle.worker_machine.specs.Joins.{join_of}
 use Rattle.worker_machine.proofs.joins.join_all.Goals.{then-bits-k-eq1, else-bits-k-eq1}
 use Rattle.worker_machine.proofs.joins.join_all.Goals as goal
+
+pub returns-then-bits-eq0 : goal.returns-then-bits-eq0
+returns-then-bits-eq0 c =
+    joined-none (join_of c.args.notice) 64 c.args.part c.args.bits (strides_of c.args.strides.now) c.if-bits-eq0.true
 
 pub loop-k-init : goal.loop-k-init
 loop-k-init c =

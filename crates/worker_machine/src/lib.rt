@@ -34,7 +34,7 @@ mod visit;
 mod worker;
 
 pub use kept::{Core, Known};
-pub use laws::{new_follows, new_has_made_none};
+pub use laws::{new_follows, new_has_made_none, what_is_told};
 pub use parts::WorkerParts;
 pub use phase::{Phase, Stepped};
 pub use ran::Ran;

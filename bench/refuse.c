@@ -1,5 +1,5 @@
 // Loaded before a program (LD_PRELOAD), it refuses the allocation of the number in REFUSE, counted from 1, and writes
-// how many there were into the file named by COUNTED.
+// how many there were into the file named by COUNTED. It counts malloc and realloc: the program calls no other.
 #include <stdio.h>
 #include <stdlib.h>
 

@@ -69,27 +69,28 @@ fn all_rows(from: u32, to: u32, rows: &mut [u32]) -> usize
     count
 }
 
-// Writes the numbers of a range whose values stand in a relation to another. Each relation has
-// loops of its own.
+// Writes the numbers of a range whose values stand in a relation to another. Each relation has a
+// loop of its own. Few values equal one, so these are counted first.
 fn select(column: &[i64], op: Op, value: i64, from: u32, to: u32, rows: &mut [u32]) -> usize
     requires range { IsRangeOf from to (length column.now) (length rows.old) }
     ensures { BeginsWith (filter (compares_at op column.now value) (numbers_from from to))
         result rows.old rows.new }
 {
     match op {
-        Op::Eq => select_any(column, Op::Eq, value, from, to, rows),
-        Op::Ne => select_any(column, Op::Ne, value, from, to, rows),
-        Op::Lt => select_any(column, Op::Lt, value, from, to, rows),
-        Op::Le => select_any(column, Op::Le, value, from, to, rows),
-        Op::Gt => select_any(column, Op::Gt, value, from, to, rows),
-        Op::Ge => select_any(column, Op::Ge, value, from, to, rows),
+        Op::Eq => select_rare(column, Op::Eq, value, from, to, rows),
+        Op::Ne => select_each(column, Op::Ne, value, from, to, rows),
+        Op::Lt => select_each(column, Op::Lt, value, from, to, rows),
+        Op::Le => select_each(column, Op::Le, value, from, to, rows),
+        Op::Gt => select_each(column, Op::Gt, value, from, to, rows),
+        Op::Ge => select_each(column, Op::Ge, value, from, to, rows),
     }
 }
 
-// The same, for one relation. Often none does, and to count them takes less time than to write.
+// The same, for a relation in which few values stand. Often none of a range does, and to count them
+// takes less time than to write.
 #[inline(always)]
 #[tactic(auto, using(crate::proofs::SelectionLemmas::none_selected))]
-fn select_any(column: &[i64], op: Op, value: i64, from: u32, to: u32, rows: &mut [u32]) -> usize
+fn select_rare(column: &[i64], op: Op, value: i64, from: u32, to: u32, rows: &mut [u32]) -> usize
     requires range { IsRangeOf from to (length column.now) (length rows.old) }
     ensures { BeginsWith (filter (compares_at op column.now value) (numbers_from from to))
         result rows.old rows.new }

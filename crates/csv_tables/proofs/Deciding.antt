@@ -1,5 +1,5 @@
 -- Each list of records stands for a table or has a first refusal.
-use Rattle.std.proofs.Common.{◌≡◌, ◌⊎◌, ℕ, zero, suc, ℤ, ◌<◌, ◌≤◌, ◌+◌, ◌^◌, ◌++◌, ◌∷◌, true, false, nat_eq, List, [], All, Option, None, Some, length, get_or}
+use Rattle.std.proofs.Common.{◌≡◌, ◌⊎◌, ℕ, zero, suc, ℤ, ◌<◌, ◌≤◌, ◌+◌, ◌^◌, ◌++◌, ◌∷◌, nat_eq, List, [], All, Option, None, Some, length, get_or}
 use Rattle.std.proofs.Common.{map, ap, add-one, arith, inl, inr, refl, subst, sym, ◌∙◌, append_assoc, FitsSigned}
 use Rattle.std.specs.Cmp.Lexicographic.{pointwise}
 use Rattle.std.specs.Int.{w64}

@@ -4,15 +4,16 @@ use Rattle.std.proofs.Common.{ap, append_assoc, arith, refl, subst, sym, ◌∙�
 use Rattle.std.specs.Char.{digit_value}
 use Rattle.std.specs.Fmt.{signed_decimal}
 use Rattle.std.specs.Int.{w64}
-use Rattle.std.specs.List.{list_any}
+use Rattle.std.specs.List.{flat_map, list_any}
 use Rattle.std.specs.Str.Parse.{AllDigits}
 use Rattle.std.proofs.lemmas.Bool.{ne_eqb}
 use Rattle.std.proofs.lemmas.Fmt.{decimal_is_IsNumeral}
 use Rattle.std.proofs.lemmas.Int.{ints}
-use Rattle.std.proofs.lemmas.List.{length-map, length-take-le, map-append, take_more}
+use Rattle.std.proofs.lemmas.List.{flat_map_more, length-map, length-take-le, map-append, take_more}
 use Rattle.std.proofs.lemmas.List.Elements.{All-head}
 use Rattle.csv.specs.Writing.{default_writer, field_text, is_blank, needs_byte, next_sep, row_body, row_text}
 use Rattle.csv.proofs.WriteFacts.{row-more}
+use Rattle.csv_tables.specs.Writing.{line_text, table_text}
 use Rattle.csv_tables.proofs.Texts.{plain_text}
 
 -- a digit is no mark
@@ -93,10 +94,19 @@ value_pushed old before new values col within fits was pushed =
 -- and then with the end of the line
 pub row_pushed : (old before new : List ℕ) (values : List ℤ) → 0 < length values → All (FitsSigned w64) values
     → before ≡ old ++ row_body default_writer (map signed_decimal values) → new ≡ before ++ 10 ∷ []
-    → new ≡ old ++ row_text default_writer (map signed_decimal values)
+    → new ≡ old ++ line_text values
 row_pushed old before new values some fits was pushed =
     let line = row_body default_writer (map signed_decimal values) in
     pushed
     ∙ ap (λ text. text ++ 10 ∷ []) was
     ∙ append_assoc old line (10 ∷ [])
     ∙ ap (λ line. old ++ line) (sym (row_ended values some fits))
+
+-- the text of a table of one row more
+pub text_more : (names : List (List ℕ)) (rows : List (List ℤ)) (row : List ℤ)
+    → table_text (record { names = names; rows = rows ++ row ∷ [] }) ≡ table_text (record { names = names; rows = rows }) ++ line_text row
+text_more names rows row =
+    let line : List (List ℕ) → List ℕ = row_text default_writer in
+    let texts : List (List ℤ) → List (List (List ℕ)) = map (map signed_decimal) in
+    ap (λ lines. line names ++ flat_map line lines) (map-append (map signed_decimal) rows (row ∷ []))
+    ∙ sym (flat_map_more line (line names) (texts rows) (map signed_decimal row))

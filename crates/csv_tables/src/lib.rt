@@ -23,7 +23,7 @@ mod writing;
 
 pub use crate::reading::load;
 pub use crate::refusal::TableRefusal;
-pub use crate::writing::write_table;
+pub use crate::writing::{push_line, write_table};
 
 #[cfg(test)]
 mod tests;

@@ -176,6 +176,18 @@ fn writes_what_it_loads(rt: HostRuntime) -> Result<(), Fail> {
     Ok(())
 }
 
+// Lines that are added to a text, with the values at both ends of their range.
+#[test]
+fn adds_lines(rt: HostRuntime) -> Result<(), Fail> {
+    let mut text = Vec::from_slice(rt.alloc(), b"k,v\n")?;
+    push_line(&mut text, &[1, -10])?;
+    push_line(&mut text, &[i64::MIN, i64::MAX])?;
+    push_line(&mut text, &[0])?;
+    let want = b"k,v\n1,-10\n-9223372036854775808,9223372036854775807\n0\n".as_slice();
+    assert_eq!(rt; text.as_slice(), want);
+    Ok(())
+}
+
 // Every prefix of a text of 18 bytes: its rows, or its refusal.
 #[test]
 fn reads_each_prefix(rt: HostRuntime) -> Result<(), Fail> {

@@ -1,6 +1,6 @@
 // Writing a table: its names by `csv`, and its rows, which need no quotes, straight into the text.
 ghost use Rattle.std.specs.Prelude.{◌≡◌, ◌<◌, ◌++◌, All, FitsSigned, IfOk, OnOk};
-ghost use Rattle.std.specs.Prelude.{length, map, slice_index_or, []};
+ghost use Rattle.std.specs.Prelude.{length, slice_index_or, []};
 ghost use Rattle.std.specs.Fmt.{signed_decimal};
 ghost use Rattle.std.specs.Int.{w64};
 ghost use Rattle.col_table.specs.Name.{IsName};
@@ -8,7 +8,7 @@ ghost use Rattle.col_table.specs.NamedRows.{name_at};
 ghost use Rattle.csv.specs.Records.{fields_of};
 ghost use Rattle.csv.specs.Writing.{default_writer, next_sep, row_text};
 ghost use Rattle.csv_tables.specs.Loading.{LoadsTable};
-ghost use Rattle.csv_tables.specs.Writing.{BeginsWithMark, table_text};
+ghost use Rattle.csv_tables.specs.Writing.{BeginsWithMark, line_text, table_text};
 
 use col_table::Table;
 use csv::{ByteRecord, WriterBuilder};
@@ -63,28 +63,55 @@ fn fill_names(table: &Table, fields: &mut ByteRecord) -> Result<(), AllocError>
     Ok(())
 }
 
-// Adds the line of a row of a table to a text.
-fn push_row(text: &mut Vec<u8>, table: &Table, row: u32) -> Result<(), AllocError>
-    requires { row < length table.now.rows }
-    ensures { let values = slice_index_or table.now.rows row [] in
-        OnOk result ((text.new.items
-        ≡ text.old.items ++ row_text default_writer (map signed_decimal values))
-        × All (FitsSigned w64) values) }
+/// Adds the line of a row with these values to a text, as `write_table` writes it.
+pub fn push_line(text: &mut Vec<u8>, values: &[i64]) -> Result<(), AllocError>
+    requires { 0 < length values.now }
+    ensures { OnOk result (text.new.items ≡ text.old.items ++ line_text values.now) }
 {
     let mut buffer = Buffer::new();
-    for col in 0..table.cols() {
-        push_comma(text, col)?;
-        text.extend_from_slice(buffer.format(table.value(row, col)).as_bytes())?;
+    for (place, value) in values.iter().enumerate() {
+        push_value(text, &mut buffer, place, *value)?;
     }
     text.push(b'\n')?;
     Ok(())
 }
 
-// Adds what stands before the value of a row in this column to a text.
-fn push_comma(text: &mut Vec<u8>, col: u32) -> Result<(), AllocError>
-    ensures { OnOk result (text.new.items ≡ text.old.items ++ next_sep default_writer col) }
+// Adds the line of a row of a table to a text.
+fn push_row(text: &mut Vec<u8>, table: &Table, row: u32) -> Result<(), AllocError>
+    requires { row < length table.now.rows }
+    ensures { let values = slice_index_or table.now.rows row [] in
+        OnOk result ((text.new.items ≡ text.old.items ++ line_text values)
+        × All (FitsSigned w64) values) }
 {
-    if col > 0 {
+    let mut buffer = Buffer::new();
+    for col in 0..table.cols() {
+        push_value(text, &mut buffer, col as usize, table.value(row, col))?;
+    }
+    text.push(b'\n')?;
+    Ok(())
+}
+
+// Adds the value at this place of a row to a text, and what stands before it.
+#[inline]
+fn push_value(
+    text: &mut Vec<u8>,
+    buffer: &mut Buffer,
+    place: usize,
+    value: i64,
+) -> Result<(), AllocError>
+    ensures { OnOk result (text.new.items
+        ≡ (text.old.items ++ next_sep default_writer place) ++ signed_decimal value) }
+{
+    push_comma(text, place)?;
+    text.extend_from_slice(buffer.format(value).as_bytes())?;
+    Ok(())
+}
+
+// Adds what stands before the value at this place of a row to a text.
+fn push_comma(text: &mut Vec<u8>, place: usize) -> Result<(), AllocError>
+    ensures { OnOk result (text.new.items ≡ text.old.items ++ next_sep default_writer place) }
+{
+    if place > 0 {
         text.push(b',')?;
     }
     Ok(())

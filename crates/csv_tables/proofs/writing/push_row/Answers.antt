@@ -17,13 +17,11 @@ loop-col-preserved c =
     let within : col < length values = omega (arith, width, c.cols-col-end.ensures.count) in
     let value_fits : FitsSigned w64 c.value.result = search (rules, c.value.type_inv) in
     let fits = subst (FitsSigned w64) c.value.ensures value_fits in
-    let here : c.as_bytes.result.now ≡ signed_decimal (get_or values col (pos 0)) = c.as_bytes.ensures.value ∙ c.format.ensures.text
-    ∙ ap signed_decimal (to_z-of_z w64 c.value.result value_fits ∙ c.value.ensures) in
     record {
       text = value_pushed c.args.text.now.items c.loop-col.text.items _ values col within fits inv.text (
-          c.in_ok-extend_from_slice.ensures.items
-          ∙ ap (λ front. front ++ c.as_bytes.result.now) c.in_ok-push_comma.ensures
-          ∙ ap (λ text. (c.loop-col.text.items ++ next_sep default_writer col) ++ text) here);
+          c.in_ok-push_value.ensures
+          ∙ ap (λ value. (c.loop-col.text.items ++ next_sep default_writer col) ++ signed_decimal value)
+          (to_z-of_z w64 c.value.result value_fits ∙ c.value.ensures));
       fits = subst (All (FitsSigned w64)) (sym (take_more values col (pos 0) within))
           (All-push (FitsSigned w64) (take col values) (get_or values col (pos 0)) inv.fits fits);
     }

@@ -1,12 +1,10 @@
-use Rattle.std.proofs.Common.{◌≡◌, ◌<◌, ◌∙◌, ◌++◌, ◌∷◌, [], All, FitsSigned, ap, arith, get_or, length, map, subst, sym, take}
-use Rattle.std.specs.Fmt.{signed_decimal}
+use Rattle.std.proofs.Common.{◌≡◌, ◌<◌, ◌∙◌, ◌++◌, [], All, FitsSigned, ap, arith, get_or, length, subst, sym, take}
 use Rattle.std.specs.Int.{w64}
-use Rattle.std.specs.List.{flat_map}
-use Rattle.std.proofs.lemmas.List.{flat_map_more, map-append, take_all, take_more}
+use Rattle.std.proofs.lemmas.List.{take_all, take_more}
 use Rattle.std.proofs.lemmas.List.Elements.{All-push}
-use Rattle.csv.specs.Writing.{default_writer, row_text}
 use Rattle.csv_tables.specs.Loading.{LoadsTable}
-use Rattle.csv_tables.specs.Writing.{table_text}
+use Rattle.csv_tables.specs.Writing.{line_text, table_text}
+use Rattle.csv_tables.proofs.Lines.{text_more}
 use Rattle.csv_tables.proofs.Texts.{text_loads}
 use Rattle.csv_tables.proofs.writing.write_table.Goals as goal
 
@@ -19,14 +17,12 @@ loop-row-preserved c =
     let values = get_or rows row [] in
     let pushed = c.in_ok-push_row.ensures in
     let more = take_more rows row [] within in
-    let before = map (map signed_decimal) (take row rows) in
     record {
       text =
           pushed.0
-          ∙ ap (λ text. text ++ row_text default_writer (map signed_decimal values)) c.loop-row.invariant.text
-          ∙ flat_map_more (row_text default_writer) (row_text default_writer names) before (map signed_decimal values)
-          ∙ ap (λ lines. row_text default_writer names ++ flat_map (row_text default_writer) lines)
-          (sym (map-append (map signed_decimal) (take row rows) (values ∷ [])) ∙ ap (map (map signed_decimal)) (sym more));
+          ∙ ap (λ text. text ++ line_text values) c.loop-row.invariant.text
+          ∙ sym (text_more names (take row rows) values)
+          ∙ ap (λ rows. table_text (record { names = names; rows = rows })) (sym more);
       fits = subst (All (All (FitsSigned w64))) (sym more) (All-push (All (FitsSigned w64)) (take row rows) values c.loop-row.invariant.fits pushed.1);
     }
 
@@ -36,7 +32,7 @@ returns c =
     let all : take c.loop-row.row table.rows ≡ table.rows = take_all c.loop-row.row table.rows (omega (arith, c.rows-row-end.ensures.count)) in
     let fits = subst (All (All (FitsSigned w64))) all c.loop-row.invariant.fits in
     let text : c.loop-row.text.items ≡ table_text table =
-    c.loop-row.invariant.text ∙ ap (λ rows. flat_map (row_text default_writer) (table.names ∷ map (map signed_decimal) rows)) all in
+    c.loop-row.invariant.text ∙ ap (λ rows. table_text (record { names = table.names; rows = rows })) all in
     let legal = c.in_ok-text.ensures.1 in
     let shape = c.rows-row-end.ensures.table in record {
       text = text;

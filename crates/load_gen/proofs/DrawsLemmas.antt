@@ -16,6 +16,9 @@ pub state_after-more : (state count : ℕ) → state_after state (count + 1) ≡
 unfolding state_after
 state_after-more state count = rw add-one refl
 
+pub state_after-one : (state : ℕ) → state_after state 1 ≡ next_state state
+state_after-one state = state_after-more state 0 ∙ ap next_state (state_after-zero state)
+
 -- draws after draws
 pub state_after-after : (state first more : ℕ) → state_after (state_after state first) more ≡ state_after state (first + more)
 unfolding state_after

@@ -100,7 +100,7 @@ table_t-loads state count few =
       (fits-draw (state_after state (3 * row + 2)) 16 (omega arith) (omega arith), (fits-signed (state_after state (3 * row + 3)), tt)),
     ))
 
-fits-row : (row count : ℕ) → row < count → count ≤ MAX_ROWS → FitsSigned w64 (pos row)
+pub fits-row : (row count : ℕ) → row < count → count ≤ MAX_ROWS → FitsSigned w64 (pos row)
 fits-row row count before few = omega (arith, ints)
 
 pub table_u-loads : (state count : ℕ) → count ≤ MAX_ROWS → LoadsTable (table_text (table_u state count)) (table_u state count)

@@ -1,12 +1,15 @@
--- Rows across columns that are made number by number.
-use Rattle.std.proofs.Common.{◌≡◌, ℕ, zero, suc, ◌+◌, ◌<◌, ◌≤◌, ℤ, pos, List, [], ◌∷◌, ◌++◌, FitsSigned, map, of_z, to_z, w64, refl, sym, ap, ◌∙◌}
+-- Rows across columns that are made number by number, and the texts of tables of such rows.
+use Rattle.std.proofs.Common.{◌≡◌, ℕ, zero, suc, ◌+◌, ◌*◌, ◌<◌, ◌≤◌, ℤ, pos, List, [], ◌∷◌, ◌++◌, FitsSigned, map, of_z, to_z, w64, refl, sym, ap, ◌∙◌}
 use Rattle.std.proofs.Common.{arith, add-one}
 use Rattle.std.specs.Global.{Vec}
 use Rattle.std.proofs.lemmas.Int.{to_z-of_z}
 use Rattle.col_table.specs.Columns.{row_across, rows_across, values_of}
 use Rattle.col_table.specs.NamedRows.{NamedRows}
-use Rattle.load_gen.specs.Draws.{each_below}
-use Rattle.load_gen.proofs.DrawsLemmas.{each_below-more, each_below-zero, get_or-each_below}
+use Rattle.csv_tables.specs.Writing.{line_text, table_text}
+use Rattle.csv_tables.proofs.Lines.{text_more}
+use Rattle.load_gen.specs.Draws.{draw, each_below, state_after}
+use Rattle.load_gen.specs.Tables.{row_of_t, row_of_u}
+use Rattle.load_gen.proofs.DrawsLemmas.{each_below-more, each_below-zero, get_or-each_below, state_after-after}
 
 -- the columns that are made so
 abbrev pub columns_below : ℕ → List (ℕ → ℤ) → List (List ℤ)
@@ -49,10 +52,32 @@ made_of_columns names wanted columns count makes named values =
     ∙ ap (named_rows wanted) (ap (λ values. rows_across values count) values ∙ rows_across-columns_below count count makes (omega arith))
 
 -- one more value of a column
-pub pushed_more : (count : ℕ) (made : ℕ → ℤ) (old new : List ℤ) (value : ℤ) → new ≡ old ++ to_z w64 (of_z w64 value) ∷ [] → FitsSigned w64 value
+pub pushed_more : (count : ℕ) (made : ℕ → ℤ) (old new : List ℤ) (value : ℤ) → new ≡ old ++ to_z w64 (of_z w64 value) ∷ [] → FitsSigned w64 (made count)
     → old ≡ each_below count made → value ≡ made count → new ≡ each_below (count + 1) made
 pushed_more count made old new value push fits before here =
     push
-    ∙ ap (λ last. old ++ last ∷ []) (to_z-of_z w64 value fits ∙ here)
+    ∙ ap (λ value. old ++ to_z w64 (of_z w64 value) ∷ []) here
+    ∙ ap (λ last. old ++ last ∷ []) (to_z-of_z w64 (made count) fits)
     ∙ ap (λ values. values ++ made count ∷ []) before
     ∙ sym (each_below-more count made)
+
+-- ---- rows and texts
+
+-- the first row that is drawn after the rows before a place is the row at that place
+pub row_of_t-later : (state row : ℕ) → row_of_t (state_after state (3 * row)) 0 ≡ row_of_t state row
+row_of_t-later state row =
+    let at : (place : ℕ) → state_after (state_after state (3 * row)) place ≡ state_after state (3 * row + place) = state_after-after state (3 * row) in
+    rw (at 1, at 2, at 3) refl
+
+pub row_of_u-later : (state row : ℕ) → pos row ∷ pos (draw (state_after state row) 1 100) ∷ [] ≡ row_of_u state row
+row_of_u-later state row = rw (state_after-after state row 1) refl
+
+-- the text of a table of one row more
+pub text_made : (names : List (List ℕ)) (count : ℕ) (made : ℕ → List ℤ) (old new : List ℕ) (row : List ℤ) → new ≡ old ++ line_text row
+    → old ≡ table_text (named_rows names (each_below count made)) → row ≡ made count → new ≡ table_text (named_rows names (each_below (count + 1) made))
+text_made names count made old new row push before here =
+    push
+    ∙ ap (λ text. text ++ line_text row) before
+    ∙ ap (λ row. table_text (named_rows names (each_below count made)) ++ line_text row) here
+    ∙ sym (text_more names (each_below count made) (made count))
+    ∙ ap (λ rows. table_text (named_rows names rows)) (sym (each_below-more count made))

@@ -15,6 +15,7 @@ mod parts;
 mod queries;
 mod summary;
 mod tables;
+mod texts;
 
 pub use crate::generated::{Generated, generate};
 pub use crate::parts::{Part, make_part};

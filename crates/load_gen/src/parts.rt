@@ -4,8 +4,8 @@ ghost use Rattle.load_gen.specs.Generated.{ReadsBack, part_text};
 
 use crate::draws::Draws;
 use crate::generated::draw_script;
-use crate::tables::{T_ROWS, U_ROWS, draw_t, draw_u};
-use csv_tables::write_table;
+use crate::tables::{T_ROWS, U_ROWS};
+use crate::texts::{write_t, write_u};
 use script_json::write_script;
 use std::alloc::{AllocError, Global};
 
@@ -23,21 +23,18 @@ pub enum Part {
 /// The text of a part of the large input of a number: a script in its canonical form, or a table as
 /// CSV.
 ///
-/// Only that part is made: the draws of what comes before it are passed over.
+/// Only that part is made: the draws of what comes before it are passed over. A table is written
+/// line by line into a text that is reserved once.
 pub fn make_part(alloc: Global, number: u32, part: Part) -> Result<Vec<u8>, AllocError>
     ensures text { IfOk result (λ bytes. bytes.items ≡ part_text number part) }
     ensures reads_back { IfOk result (λ bytes. ReadsBack number part bytes.items) }
 {
     let mut draws = Draws::new(number);
     match part {
-        Part::TableT => {
-            let table = draw_t(alloc, &mut draws, T_ROWS)?;
-            write_table(alloc, &table)
-        }
+        Part::TableT => write_t(alloc, &mut draws, T_ROWS),
         Part::TableU => {
             draws.skip(3 * T_ROWS);
-            let table = draw_u(alloc, &mut draws, U_ROWS)?;
-            write_table(alloc, &table)
+            write_u(alloc, &mut draws, U_ROWS)
         }
         Part::Script => {
             draws.skip(3 * T_ROWS + U_ROWS);

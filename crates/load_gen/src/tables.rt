@@ -1,11 +1,11 @@
 // The two tables of a large input.
-ghost use Rattle.std.specs.Prelude.{◌≡◌, ◌≤◌, ◌*◌, All, IfOk, OnOk, length};
+ghost use Rattle.std.specs.Prelude.{◌≡◌, ◌≤◌, ◌*◌, ◌∷◌, [], All, IfOk, OnOk, length, pos};
 ghost use Rattle.col_table.specs.Columns.{rows_across, values_of};
 ghost use Rattle.col_table.specs.NamedRows.{IsHeading};
 ghost use Rattle.csv_tables.specs.Loading.{LoadsTable};
 ghost use Rattle.csv_tables.specs.Writing.{table_text};
-ghost use Rattle.load_gen.specs.Draws.{state_after};
-ghost use Rattle.load_gen.specs.Tables.{table_t, table_u};
+ghost use Rattle.load_gen.specs.Draws.{draw, next_state, state_after};
+ghost use Rattle.load_gen.specs.Tables.{row_of_t, table_t, table_u};
 
 use crate::draws::Draws;
 use crate::names::name;
@@ -30,9 +30,7 @@ pub(crate) fn draw_t(alloc: Global, draws: &mut Draws, rows: u32) -> Result<Tabl
     let mut groups = Vec::with_capacity(alloc, rows as usize)?;
     let mut values = Vec::with_capacity(alloc, rows as usize)?;
     for _ in 0..rows {
-        let key = draws.value_below(1_000);
-        let group = draws.value_below(16);
-        let value = draws.signed();
+        let [key, group, value] = next_row_of_t(draws);
         keys.push(key)?;
         groups.push(group)?;
         values.push(value)?;
@@ -52,13 +50,35 @@ pub(crate) fn draw_u(alloc: Global, draws: &mut Draws, rows: u32) -> Result<Tabl
     let mut keys = Vec::with_capacity(alloc, rows as usize)?;
     let mut weights = Vec::with_capacity(alloc, rows as usize)?;
     for row in 0..rows {
-        let weight = draws.value_below(100);
-        keys.push(i64::from(row))?;
+        let [key, weight] = next_row_of_u(draws, row);
+        keys.push(key)?;
         weights.push(weight)?;
     }
     let names = vec![in alloc; name(alloc, "k")?, name(alloc, "w")?]?;
     let columns = vec![in alloc; keys, weights]?;
     Ok(table_of(names, columns, rows))
+}
+
+/// The next row of a table like `t`.
+#[inline]
+pub(crate) fn next_row_of_t(draws: &mut Draws) -> [i64; 3]
+    ensures row { result ≡ row_of_t draws.old 0 }
+    ensures draws { draws.new ≡ state_after draws.old 3 }
+{
+    let key = draws.value_below(1_000);
+    let group = draws.value_below(16);
+    let value = draws.signed();
+    [key, group, value]
+}
+
+/// The row of a table like `u` at this place, which comes next.
+#[inline]
+pub(crate) fn next_row_of_u(draws: &mut Draws, row: u32) -> [i64; 2]
+    ensures row { result ≡ pos row ∷ pos (draw draws.old 1 100) ∷ [] }
+    ensures draws { draws.new ≡ next_state draws.old }
+{
+    let weight = draws.value_below(100);
+    [i64::from(row), weight]
 }
 
 // The table of these columns under names that may head a table.

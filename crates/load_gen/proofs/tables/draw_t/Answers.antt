@@ -1,15 +1,16 @@
-use Rattle.std.proofs.Common.{◌≡◌, ℕ, ℤ, ◌+◌, ◌*◌, ◌%◌, ◌∷◌, [], FitsSigned, codes, length, pos, w64, ◌∙◌, ap, arith, rules, subst, sym}
+use Rattle.std.proofs.Common.{◌≡◌, ℕ, ℤ, ◌+◌, ◌*◌, ◌∷◌, [], codes, get_or, length, pos, ◌∙◌, ap, arith, subst, sym}
 use Rattle.std.specs.Global.{Vec}
 use Rattle.std.proofs.lemmas.List.Elements.{All-cons, All-nil, All-same}
 use Rattle.col_table.specs.Columns.{rows_across, values_of}
 use Rattle.col_table.specs.NamedRows.{IsHeading}
 use Rattle.csv_tables.specs.Loading.{LoadsTable}
 use Rattle.csv_tables.specs.Writing.{table_text}
-use Rattle.load_gen.specs.Draws.{draw, each_below, next_state, signed_draw, signed_of, state_after}
-use Rattle.load_gen.specs.Tables.{table_t}
-use Rattle.load_gen.proofs.DrawsLemmas.{each_below-zero, length-each_below, state_after-more, state_after-zero}
+use Rattle.load_gen.specs.Draws.{draw, each_below, signed_draw, state_after}
+use Rattle.load_gen.specs.Tables.{row_of_t, table_t}
+use Rattle.load_gen.proofs.DrawsLemmas.{each_below-zero, length-each_below, state_after-after, state_after-zero}
 use Rattle.load_gen.proofs.LoadsLemmas.{t-heading, table_t-loads}
-use Rattle.load_gen.proofs.TablesLemmas.{made_of_columns, named_rows, pushed_more, same_three}
+use Rattle.load_gen.proofs.ScriptLemmas.{fits-draw, fits-signed}
+use Rattle.load_gen.proofs.TablesLemmas.{made_of_columns, named_rows, pushed_more, row_of_t-later, same_three}
 use Rattle.load_gen.proofs.tables.draw_t.Goals as goal
 
 -- what the columns hold at a row
@@ -34,26 +35,18 @@ pub loop-preserved : goal.loop-preserved
 loop-preserved c =
     let state = c.args.draws.now in
     let row = c.loop.counter in
-    let first : c.value_below-key.new.self ≡ state_after state (3 * row + 1) =
-    c.value_below-key.ensures.state ∙ ap next_state c.loop.invariant.draws ∙ sym (state_after-more state (3 * row)) in
-    let two : (3 * row + 1) + 1 ≡ 3 * row + 2 = omega arith in
-    let three : (3 * row + 2) + 1 ≡ 3 * row + 3 = omega arith in
+    let before : c.loop.draws ≡ state_after state (3 * row) = c.loop.invariant.draws in
     let all : 3 * row + 3 ≡ 3 * (row + 1) = omega arith in
-    let second : c.value_below-group.new.self ≡ state_after state (3 * row + 2) =
-    c.value_below-group.ensures.state ∙ ap next_state first ∙ sym (state_after-more state (3 * row + 1)) ∙ ap (state_after state) two in
-    let third : c.signed-value.new.self ≡ state_after state (3 * row + 3) =
-    c.signed-value.ensures.state ∙ ap next_state second ∙ sym (state_after-more state (3 * row + 2)) ∙ ap (state_after state) three in
-    let key_fits : FitsSigned w64 c.value_below-key.result = search (rules, c.value_below-key.type_inv) in
-    let group_fits : FitsSigned w64 c.value_below-group.result = search (rules, c.value_below-group.type_inv) in
-    let value_fits : FitsSigned w64 c.signed-value.result = search (rules, c.signed-value.type_inv) in
+    let made : c.next_row_of_t.result ≡ row_of_t state row =
+    c.next_row_of_t.ensures.row ∙ ap (λ state. row_of_t state 0) before ∙ row_of_t-later state row in
     record {
-      keys = pushed_more row (key state) c.loop.keys.items _ c.value_below-key.result c.in_ok-push.ensures.items key_fits c.loop.invariant.keys
-          (c.value_below-key.ensures.draw ∙ ap (λ x. pos (x % 1000)) (sym c.value_below-key.ensures.state ∙ first));
-      groups = pushed_more row (group state) c.loop.groups.items _ c.value_below-group.result c.in_ok-push-2.ensures.items group_fits c.loop.invariant.groups
-          (c.value_below-group.ensures.draw ∙ ap (λ x. pos (x % 16)) (sym c.value_below-group.ensures.state ∙ second));
-      values = pushed_more row (value state) c.loop.values.items _ c.signed-value.result c.in_ok-push-3.ensures.items value_fits c.loop.invariant.values
-          (c.signed-value.ensures.draw ∙ ap signed_of (sym c.signed-value.ensures.state ∙ third));
-      draws = third ∙ ap (state_after state) all;
+      keys = pushed_more row (key state) c.loop.keys.items _ _ c.in_ok-push.ensures.items (fits-draw (state_after state (3 * row + 1)) 1000 (omega arith) (omega arith))
+          c.loop.invariant.keys (ap (λ values. get_or values 0 (pos 0)) made);
+      groups = pushed_more row (group state) c.loop.groups.items _ _ c.in_ok-push-2.ensures.items
+          (fits-draw (state_after state (3 * row + 2)) 16 (omega arith) (omega arith)) c.loop.invariant.groups (ap (λ values. get_or values 1 (pos 0)) made);
+      values = pushed_more row (value state) c.loop.values.items _ _ c.in_ok-push-3.ensures.items (fits-signed (state_after state (3 * row + 3)))
+          c.loop.invariant.values (ap (λ values. get_or values 2 (pos 0)) made);
+      draws = c.next_row_of_t.ensures.draws ∙ ap (λ state. state_after state 3) before ∙ state_after-after state (3 * row) 3 ∙ ap (state_after state) all;
     }
 
 pub table_of-requires-clause-heights : goal.table_of-requires-clause-heights

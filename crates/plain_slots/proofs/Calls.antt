@@ -12,7 +12,7 @@ use Rattle.slot_history.specs.Sets.{upd}
 use Rattle.slot_history.specs.States.{SlotState, Empty, Reserved, Open, Shut, Finishing, ObjectState, slot_of, id_of, owes, can_leave, is_open, is_shut}
 use Rattle.slot_history.specs.States.{is_empty, is_inside, reservation, has_own_cell}
 use Rattle.slot_history.specs.Steps.{site, slot_after, moved, claimed, shut_by, held_on}
-use Rattle.slot_history.specs.Allowed.{IsAllowed}
+use Rattle.slot_history.specs.Allowed.{IsAllowed, debts}
 use Rattle.slot_history.specs.Calls.{Looking, Claiming, Shutting, Leaving, Admitting, NotingDone, SettingTotal}
 use Rattle.one_thread.specs.Stories.{MayMake}
 use Rattle.slot_history.proofs.Places.{inside-slots}
@@ -97,6 +97,13 @@ pub debt-index : (o : Inside) (ok : Kept o) (k v : ℕ) → k < o.shape.slots �
 debt-index o ok k v in_k in_v i at = let c = ok.debts_are.count in let l = o.owing.ok.0 in
     let p = pair-within o.shape.slots o.shape.workers k v in_k in_v in omega arith
 
+-- the number that is read is that of the slot's debts
+pub count-read : (o : Inside) (ok : Kept o) (k : ℕ) → k < o.shape.slots → (c : ℕ) → c ≡ get_or o.debts.items k c → c ≡ debts o.shape ((now_of o).slots k)
+count-read o ok k in_k c is = read o.debts.items k (debts o.shape ((now_of o).slots k)) c (ok.debts_are.counted k in_k) is
+
+pub count-index : (o : Inside) (ok : Kept o) (k : ℕ) → k < o.shape.slots → k < o.debts.len
+count-index o ok k in_k = let c = ok.debts_are.counts_are in let l = o.debts.ok.0 in omega arith
+
 pub leave-after : (o : Inside) (ok : Kept o) (w : ℕ) (p : Place) (k : ℕ) → Spot o w Leaving p k → (b : Bool) → b ≡ owes ((now_of o).slots k) w
     → (id : ℕ) → id ≡ id_of ((now_of o).slots k) → (l : Leave) → l ≡ leave_of w k id b → (a' : Act) → a' ≡ leave_act l
     → (places : List Place) (log : List Logged) → Wrote o w a' places log
@@ -156,10 +163,10 @@ reserve-after o ok w low s free in_s r answers a' is places log wrote y holds =
     let d = o.shape in let S = now_of o in let x = S.slots s in
     let a : Act = reserve_act s (reserve_of w s x) in
     writes o ok w low a a' (is ∙ ap (reserve_act s) answers) (reserve-fine d S w s x free in_s refl) places log wrote (reserve-calm s (reserve_of w s x)) s
-    (reserve-site s (reserve_of w s x) (S.places w)) (set o.slots.items s y) o.owing.items (
+    (reserve-site s (reserve_of w s x) (S.places w)) (set o.slots.items s y) o.owing.items o.debts.items (
       subst (λ z. HasSlots d (set o.slots.items s z) (upd S.slots s (slot_after d w a x))) (sym (holds ∙ reserve-shown d w s x))
           (slots-set d o.slots.items S.slots s (slot_after d w a x) ok.slots_are in_s),
-      debts-kept d o.owing.items S.slots s (slot_after d w a x) ok.debts_are (λ v h. reserve-debts d w s x v),
+      debts-kept d o.owing.items o.debts.items S.slots s (slot_after d w a x) ok.debts_are (λ v h. reserve-debts d w s x v),
     )
 
 reserve-holds : (d : Shape) (w s : ℕ) (x : SlotState) (p : Place) → ReserveGives d w (moved d (reserve_act s (reserve_of w s x)) p) (reserve_of w s x)
@@ -214,10 +221,10 @@ claim-after o ok w p k n s r y got c answers a' is places log wrote =
     let after : slot_after d w a x ≡ claimed x n = claim-slot d w n c x in
     writes o ok w s.low a a' is (subst (λ m. IsAllowed d S w (claim_act n m)) (sym answers) (claim-fine d S w n k id p r (sym s.is ∙ at) some most got.0))
     places log wrote (claim-calm n c) k
-    (s.slot ∙ ap slot_of s.is ∙ claim-site n c (S.places w)) (set o.slots.items k y) o.owing.items (
+    (s.slot ∙ ap slot_of s.is ∙ claim-site n c (S.places w)) (set o.slots.items k y) o.owing.items o.debts.items (
       subst (λ z. HasSlots d (set o.slots.items k z) (upd S.slots k (slot_after d w a x))) (ap shown after ∙ got.1)
           (slots-set d o.slots.items S.slots k (slot_after d w a x) ok.slots_are s.in_slots),
-      debts-kept d o.owing.items S.slots k (slot_after d w a x) ok.debts_are (λ v h. ap (λ z. owes z v) after ∙ owes-claimed x n v),
+      debts-kept d o.owing.items o.debts.items S.slots k (slot_after d w a x) ok.debts_are (λ v h. ap (λ z. owes z v) after ∙ owes-claimed x n v),
     )
 
 claim-holds : (d : Shape) (w n : ℕ) (p : Place) (r : Option (ℕ × ℕ)) → ClaimGives d w (moved d (claim_act n (claim_of w p r)) p) (claim_of w p r)
@@ -263,10 +270,10 @@ shut-after o ok w p k s b y got r answers a' is places log wrote =
     let after : slot_after d w a x ≡ shut_by w x = shut-slot d w p x in
     writes o ok w s.low a a' (is ∙ ap shut_act (answers ∙ ap (shut_of w p d) got.0)) (shut-fine d S w k id p x (sym s.is ∙ at) refl was.0) places log wrote
     (shut-calm (shut_of w p d (is_open x))) k
-    (s.slot ∙ ap slot_of s.is ∙ shut-site (shut_of w p d (is_open x)) (S.places w)) (set o.slots.items k y) o.owing.items (
+    (s.slot ∙ ap slot_of s.is ∙ shut-site (shut_of w p d (is_open x)) (S.places w)) (set o.slots.items k y) o.owing.items o.debts.items (
       subst (λ z. HasSlots d (set o.slots.items k z) (upd S.slots k (slot_after d w a x))) (ap shown after ∙ got.1)
           (slots-set d o.slots.items S.slots k (slot_after d w a x) ok.slots_are s.in_slots),
-      debts-kept d o.owing.items S.slots k (slot_after d w a x) ok.debts_are (λ v h. ap (λ z. owes z v) after ∙ owes-shut w x v),
+      debts-kept d o.owing.items o.debts.items S.slots k (slot_after d w a x) ok.debts_are (λ v h. ap (λ z. owes z v) after ∙ owes-shut w x v),
     )
 
 shut-holds : (d : Shape) (w : ℕ) (p : Place) (b : Bool) → ShutGives d w (moved d (shut_act (shut_of w p d b)) p) (shut_of w p d b)
@@ -299,9 +306,9 @@ pub total-after : (o : Inside) (ok : Kept o) (w t : ℕ) → MayMake (story_of o
 total-after o ok w t asks places log wrote =
     let S = now_of o in let k = slot_of (S.places w) in
     writes o ok w asks.below (SetTotal t) (SetTotal t) refl asks.may places log wrote
-    (λ v p f. refl, λ v p f. refl, λ n. refl, λ n. refl) k refl o.slots.items o.owing.items (
+    (λ v p f. refl, λ v p f. refl, λ n. refl, λ n. refl) k refl o.slots.items o.owing.items o.debts.items (
       slots-kept o.shape o.slots.items S.slots k (held_on (SetTotal t) (S.slots k)) ok.slots_are (held-shown (SetTotal t) (S.slots k)),
-      debts-kept o.shape o.owing.items S.slots k (held_on (SetTotal t) (S.slots k)) ok.debts_are (λ v h. owes-held (SetTotal t) (S.slots k) v),
+      debts-kept o.shape o.owing.items o.debts.items S.slots k (held_on (SetTotal t) (S.slots k)) ok.debts_are (λ v h. owes-held (SetTotal t) (S.slots k) v),
     )
 
 pub note-after : (o : Inside) (ok : Kept o) (w n : ℕ) → MayMake (story_of o) w (NotingDone n)
@@ -309,10 +316,10 @@ pub note-after : (o : Inside) (ok : Kept o) (w n : ℕ) → MayMake (story_of o)
     → IsObject (record (contents o) { places = places; finished = o.finished + n; log = log })
 note-after o ok w n asks places log wrote =
     let S = now_of o in let k = slot_of (S.places w) in
-    follow o ok w asks.below (NoteDone n) (NoteDone n) refl asks.may places log wrote o.slots.items o.owing.items o.returns.items
+    follow o ok w asks.below (NoteDone n) (NoteDone n) refl asks.may places log wrote o.slots.items o.owing.items o.debts.items o.returns.items
     o.changes.items o.admitted (o.finished + n) (
       slots-kept o.shape o.slots.items S.slots k (held_on (NoteDone n) (S.slots k)) ok.slots_are (held-shown (NoteDone n) (S.slots k)),
-      debts-kept o.shape o.owing.items S.slots k (held_on (NoteDone n) (S.slots k)) ok.debts_are (λ v h. owes-held (NoteDone n) (S.slots k) v),
+      debts-kept o.shape o.owing.items o.debts.items S.slots k (held_on (NoteDone n) (S.slots k)) ok.debts_are (λ v h. owes-held (NoteDone n) (S.slots k) v),
       ok.returns_are,
       ok.changes_are,
       ok.admitted_is,
@@ -328,9 +335,9 @@ admit-cases o ok w q asks true same r answers n counts a' is places log wrote =
     let e : S.admitted ≡ q = sym ok.admitted_is ∙ eqb-true o.admitted q same in
     let (s, h, at, none, few) = asks.may in
     follow o ok w asks.below (AdmitGot q) a' (is ∙ ap (admit_act q) answers)
-    (s, h, at, none, few, e) places log wrote o.slots.items o.owing.items o.returns.items o.changes.items n o.finished (
+    (s, h, at, none, few, e) places log wrote o.slots.items o.owing.items o.debts.items o.returns.items o.changes.items n o.finished (
       slots-kept o.shape o.slots.items S.slots k (held_on (AdmitGot q) (S.slots k)) ok.slots_are (held-shown (AdmitGot q) (S.slots k)),
-      debts-kept o.shape o.owing.items S.slots k (held_on (AdmitGot q) (S.slots k)) ok.debts_are (λ v h. owes-held (AdmitGot q) (S.slots k) v),
+      debts-kept o.shape o.owing.items o.debts.items S.slots k (held_on (AdmitGot q) (S.slots k)) ok.debts_are (λ v h. owes-held (AdmitGot q) (S.slots k) v),
       ok.returns_are,
       ok.changes_are,
       counts ∙ ap (λ j. j + 1) ok.admitted_is,

@@ -36,7 +36,7 @@ read l i x r is e = e ∙ get_or_from_slice_get l i x r is
 
 -- what an object keeps
 abbrev pub contents : Inside → Contents
-contents o = contents_of o.shape o.slots.items o.owing.items o.places.items o.returns.items o.changes.items o.admitted o.finished o.log
+contents o = contents_of o.shape o.slots.items o.owing.items o.debts.items o.places.items o.returns.items o.changes.items o.admitted o.finished o.log
 
 abbrev pub Kept : Inside → Type 0
 Kept o = IsObject (contents o)
@@ -72,17 +72,17 @@ module _ (o : Inside) (ok : Kept o) where
 
     -- after a call, where the rest that is kept is that of the next state
     pub follow : (a a' : Act) → a' ≡ a → IsAllowed o.shape (now_of o) w a → (places : List Place) (log : List Logged) → Wrote o w a' places log
-        → (slots : List Slot) (owing : List Bool) (returns changes : List ℕ) (admitted finished : ℕ)
-        → (let S = next o.shape (now_of o) w a in HasSlots o.shape slots S.slots × HasDebts o.shape owing S.slots × HasMasks o.shape S.returns returns
+        → (slots : List Slot) (owing : List Bool) (counts returns changes : List ℕ) (admitted finished : ℕ)
+        → (let S = next o.shape (now_of o) w a in HasSlots o.shape slots S.slots × HasDebts o.shape owing counts S.slots × HasMasks o.shape S.returns returns
         × HasMasks o.shape S.changes changes × (admitted ≡ S.admitted) × (finished ≡ S.finished))
-        → IsObject (contents_of o.shape slots owing places returns changes admitted finished log)
-    follow a a' is allowed places log wrote slots owing returns changes admitted finished new =
+        → IsObject (contents_of o.shape slots owing counts places returns changes admitted finished log)
+    follow a a' is allowed places log wrote slots owing counts returns changes admitted finished new =
         let p = (now_of o).places w in
         let e : places ≡ set o.places.items w (moved o.shape a p) = wrote.0 p place-is ∙ ap (λ b. set o.places.items w (moved o.shape b p)) is in
         let f : log ≡ call w a ∷ o.log = wrote.1 ∙ ap (λ b. call w b ∷ o.log) is in
-        let After : List Place → List Logged → Type 0 = λ q l. IsObject (contents_of o.shape slots owing q returns changes admitted finished l) in
+        let After : List Place → List Logged → Type 0 = λ q l. IsObject (contents_of o.shape slots owing counts q returns changes admitted finished l) in
         subst (λ q. After q log) (sym e) (subst (After (set o.places.items w (moved o.shape a p))) (sym f)
-        (after-call (contents o) w a ok low allowed slots owing returns changes admitted finished new))
+        (after-call (contents o) w a ok low allowed slots owing counts returns changes admitted finished new))
 
     -- notices and numbers after a call that changes none
     resting : (a : Act) → Calm a → (let S = next o.shape (now_of o) w a in
@@ -103,9 +103,9 @@ module _ (o : Inside) (ok : Kept o) where
         let S = now_of o in
         let k = site a (S.places w) in
         let same : slot_after o.shape w a (S.slots k) ≡ S.slots k = still o.shape w (S.slots k) in
-        follow a a' is allowed places log wrote o.slots.items o.owing.items returns changes o.admitted o.finished (
+        follow a a' is allowed places log wrote o.slots.items o.owing.items o.debts.items returns changes o.admitted o.finished (
           slots-kept o.shape o.slots.items S.slots k (slot_after o.shape w a (S.slots k)) ok.slots_are (ap shown same),
-          debts-kept o.shape o.owing.items S.slots k (slot_after o.shape w a (S.slots k)) ok.debts_are (λ v h. ap (λ x. owes x v) same),
+          debts-kept o.shape o.owing.items o.debts.items S.slots k (slot_after o.shape w a (S.slots k)) ok.debts_are (λ v h. ap (λ x. owes x v) same),
           masks.0,
           masks.1,
           ok.admitted_is ∙ sym (numbers.0 S.admitted),
@@ -123,16 +123,16 @@ module _ (o : Inside) (ok : Kept o) where
     -- after a call that changes no notices and no numbers, where the slot and the debts are those of the next state
     pub writes : (a a' : Act) → a' ≡ a → IsAllowed o.shape (now_of o) w a → (places : List Place) (log : List Logged) → Wrote o w a' places log → Calm a
         → (k : ℕ) → k ≡ site a ((now_of o).places w)
-        → (slots : List Slot) (owing : List Bool) → (let S = now_of o in
-        HasSlots o.shape slots (upd S.slots k (slot_after o.shape w a (S.slots k))) × HasDebts o.shape owing
+        → (slots : List Slot) (owing : List Bool) (counts : List ℕ) → (let S = now_of o in
+        HasSlots o.shape slots (upd S.slots k (slot_after o.shape w a (S.slots k))) × HasDebts o.shape owing counts
         (upd S.slots k (slot_after o.shape w a (S.slots k))))
-        → IsObject (record (contents o) { slots = slots; owing = owing; places = places; log = log })
-    writes a a' is allowed places log wrote calm k at slots owing new =
+        → IsObject (record (contents o) { slots = slots; owing = owing; debts = counts; places = places; log = log })
+    writes a a' is allowed places log wrote calm k at slots owing counts new =
         let S = now_of o in
         let rest = resting a calm in
-        follow a a' is allowed places log wrote slots owing o.returns.items o.changes.items o.admitted o.finished (
+        follow a a' is allowed places log wrote slots owing counts o.returns.items o.changes.items o.admitted o.finished (
           subst (λ j. HasSlots o.shape slots (upd S.slots j (slot_after o.shape w a (S.slots j)))) at new.0,
-          subst (λ j. HasDebts o.shape owing (upd S.slots j (slot_after o.shape w a (S.slots j)))) at new.1,
+          subst (λ j. HasDebts o.shape owing counts (upd S.slots j (slot_after o.shape w a (S.slots j)))) at new.1,
           rest.0,
           rest.1,
           rest.2,

@@ -7,6 +7,7 @@ use Rattle.slot_history.specs.declared.place.Place.{Place}
 use Rattle.slot_history.specs.States.{SlotState, owes}
 use Rattle.slot_history.specs.Steps.{slot_after, changes_after, returns_after}
 use Rattle.slot_history.specs.Steps.{admitted_after, finished_after}
+use Rattle.slot_history.specs.Allowed as allowed
 use Rattle.slot_history.specs.Allowed.{IsMask, IsAllowed}
 use Rattle.slot_history.specs.Histories.{IsLegal}
 use Rattle.slot_station.specs.declared.log.Logged.{Logged}
@@ -27,17 +28,22 @@ pub record HasSlots (d : Shape) (slots : List Slot) (states : ℕ → SlotState)
   pub count : length slots ≡ d.slots
   pub are : (s : ℕ) → s < d.slots → slice_get slots s ≡ Some (shown (states s))
 
--- a list says of each slot and worker whether the worker was marked there and has not paid
-pub record HasDebts (d : Shape) (owing : List Bool) (states : ℕ → SlotState) : Type 0 where
+-- a list says of each slot and worker whether the worker was marked there and has not paid, and
+-- another one how many such workers each slot has
+pub record HasDebts (d : Shape) (owing : List Bool) (counts : List ℕ) (states : ℕ → SlotState)
+    : Type 0 where
   pub count : length owing ≡ d.slots * d.workers
   pub are : (s v : ℕ) → s < d.slots → v < d.workers
       → slice_get owing (s * d.workers + v) ≡ Some (owes (states s) v)
+  pub counts_are : length counts ≡ d.slots
+  pub counted : (s : ℕ) → s < d.slots → slice_get counts s ≡ Some (allowed.debts d (states s))
 
 -- what an object keeps
 pub record Contents : Type 0 where
   pub shape : Shape
   pub slots : List Slot
   pub owing : List Bool
+  pub debts : List ℕ
   pub places : List Place
   pub returns : List ℕ
   pub changes : List ℕ
@@ -50,7 +56,7 @@ pub record IsObject (kept : Contents) : Type 0 where
   pub shape : IsShape kept.shape
   pub legal : IsLegal kept.shape (calls_of kept.log)
   pub slots_are : HasSlots kept.shape kept.slots (state_in kept.shape kept.log).slots
-  pub debts_are : HasDebts kept.shape kept.owing (state_in kept.shape kept.log).slots
+  pub debts_are : HasDebts kept.shape kept.owing kept.debts (state_in kept.shape kept.log).slots
   pub places_are : HasPlaces kept.shape kept.places (state_in kept.shape kept.log).places
   pub returns_are : HasMasks kept.shape (state_in kept.shape kept.log).returns kept.returns
   pub changes_are : HasMasks kept.shape (state_in kept.shape kept.log).changes kept.changes

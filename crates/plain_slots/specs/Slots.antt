@@ -1,12 +1,9 @@
 -- What an object keeps of the state of a slot, and what its calls make of that and of other lists.
 use Rattle.std.specs.Prelude.{◌≡◌, ℕ, ◌+◌, ◌*◌, ◌/◌, ◌<◌, ◌≤◌, Bool, true, false, eqb, ◌&&◌, min}
 use Rattle.std.specs.Prelude.{List, Option, Some, None, bit_or, slice_get, slice_set, slice_index}
-use Rattle.std.specs.Prelude.{slice_index_or}
-use Rattle.slot_history.specs.declared.shape.Shape.{Shape}
 use Rattle.slot_history.specs.declared.shape.TheConstants.{PARTS, MOST_SLOTS, MOST_WORKERS}
 use Rattle.slot_history.specs.declared.place.Place.{Place}
 use Rattle.slot_history.specs.declared.place.Place.TheVariants.{Announcing}
-use Rattle.slot_history.specs.Sets.{count_of}
 use Rattle.slot_history.specs.States as state
 use Rattle.slot_history.specs.Allowed.{bit_of}
 use Rattle.slot_station.specs.declared.reply.Look.{Look}
@@ -61,10 +58,6 @@ ClaimFrom x n (Some r) = let task = state.task_of x in
 -- a payment is the last where so many other workers have to pay, if the slot was swept
 abbrev pub pays_last : ℕ → state.SlotState → Bool
 pays_last debts x = state.is_swept x && eqb debts 0
-
--- how many workers have to pay at a slot, by the list of those that have to
-abbrev pub debts_in : Shape → List Bool → ℕ → ℕ
-debts_in d owing s = count_of d.workers (λ v. slice_index_or owing (s * d.workers + v) false)
 
 -- it holds of the place of a worker, where the list has one
 abbrev pub OfPlace : List Place → ℕ → (Place → Type 0) → Type 0

@@ -1,5 +1,5 @@
 //! What the calls of an object answer, and what they write for that.
-ghost use Rattle.std.specs.Prelude.{◌≡◌, ℕ, ◌+◌, ◌*◌, ◌^◌, ◌<◌, ◌≤◌, Bool, true, false, cond, eqb};
+ghost use Rattle.std.specs.Prelude.{◌≡◌, ◌+◌, ◌^◌, ◌<◌, true, false, cond, eqb};
 ghost use Rattle.std.specs.Prelude.{◌||◌, ◌∷◌, length, slice_set};
 ghost use Rattle.slot_history.specs.declared.shape.Shape.{Shape};
 ghost use Rattle.slot_history.specs.declared.act.Act.TheVariants.{SweepOthers};
@@ -8,14 +8,14 @@ ghost use Rattle.slot_history.specs.Steps as steps;
 ghost use Rattle.slot_station.specs.Answers.{mark_of, sweep_of, pay_of, reserve_of, admit_of};
 ghost use Rattle.slot_station.specs.Log.{call};
 ghost use Rattle.slot_station.specs.Places.{IsCounted};
-ghost use Rattle.plain_slots.specs.Slots.{shown, OfEach, OfPlace, pays_last, debts_in, words_told};
+ghost use Rattle.plain_slots.specs.Slots.{shown, OfEach, OfPlace, pays_last, words_told};
 ghost use Rattle.plain_slots.specs.Slots.{CanTell};
 
 use crate::slot::{Slot, id_in, is_swept, sweep_in, word_in};
 use slot_history::act::{Act, Entry};
 use slot_history::place::Place;
 use slot_history::shape::Shape;
-use slot_station::answers::{cell_index, finaliser, mask_index, reserver};
+use slot_station::answers::{finaliser, mask_index, reserver};
 use slot_station::ghost_list::GhostList;
 use slot_station::log::Logged;
 use slot_station::moves::place_after;
@@ -40,31 +40,20 @@ pub(crate) fn step(
     log.push(&Logged::Call(Entry { worker, act: *act }));
 }
 
-/// Marks a worker that is at the slot.
-pub(crate) fn mark_if(is_there: bool, owes: &mut bool) -> Mark
+/// Marks a worker that is at the slot, and counts its debt there.
+pub(crate) fn mark_if(is_there: bool, owes: &mut bool, debts: &mut u32) -> Mark
+    requires { debts.old + 1 < 2 ^ 32 }
     ensures mark { result ≡ mark_of is_there }
     ensures owes { owes.new ≡ (is_there || owes.old) }
+    ensures debts { debts.new ≡ cond is_there (debts.old + 1) debts.old }
 {
     if is_there {
         *owes = true;
+        *debts += 1;
         Mark::Marked
     } else {
         Mark::Missed
     }
-}
-
-/// How many workers have to pay at a slot.
-pub(crate) fn debts_at(owing: &[bool], shape: &Shape, slot: u32) -> u32
-    requires { slot * shape.now.workers + shape.now.workers ≤ length owing.now }
-    ensures { result ≡ debts_in shape.now owing.now slot }
-{
-    let mut debts = 0;
-    for worker in 0..shape.workers {
-        if owing[cell_index(shape, slot, worker)] {
-            debts += 1;
-        }
-    }
-    debts
 }
 
 /// Sweeps a slot at which so many workers have to pay.
@@ -83,13 +72,16 @@ pub(crate) fn swept_by(worker: u32, place: &Place, slot: &mut Slot, debts: u32) 
     }
 }
 
-/// Pays at a slot at which so many other workers have to pay.
-pub(crate) fn paid_by(worker: u32, place: &Place, slot: &mut Slot, debts: u32) -> Pay
-    ensures pay { OfEach slot.old (λ x. result ≡ pay_of worker place.now (pays_last debts x)) }
+/// Pays one of so many debts at a slot.
+pub(crate) fn paid_by(worker: u32, place: &Place, slot: &mut Slot, debts: &mut u32) -> Pay
+    requires { 0 < debts.old }
+    ensures debts { debts.new + 1 ≡ debts.old }
+    ensures pay { OfEach slot.old (λ x. result ≡ pay_of worker place.now (pays_last debts.new x)) }
     ensures slot { OfEach slot.old (λ x. states.is_shut x ≡ true
-        → slot.new ≡ cond (pays_last debts x) (shown (steps.finalised_by worker x)) (shown x)) }
+        → slot.new ≡ cond (pays_last debts.new x) (shown (steps.finalised_by worker x)) (shown x)) }
 {
-    if is_swept(slot) && debts == 0 {
+    *debts -= 1;
+    if is_swept(slot) && *debts == 0 {
         *slot = Slot::Finishing(id_in(slot));
         Pay::Last(finaliser(worker, place))
     } else {

@@ -1,8 +1,9 @@
 //! The object on one thread whose state is that of its slots and workers (`PlainTable`).
 //!
 //! It stands on `one_thread`, which has the table and its seats over any object, and gives the
-//! object: what a call does to the state of slots and workers, in time that does not grow with the
-//! history. What a caller needs of the crates below is named here again.
+//! object: what a call does to the state of slots and workers, in time that grows neither with the
+//! history nor with the number of workers. What a caller needs of the crates below is named here
+//! again.
 //!
 //! The layers above may use one fact: `PlainTable` is a `OneTable`, so each of its seats is a
 //! `Station`.

@@ -3,9 +3,7 @@
 ghost use Rattle.one_thread.specs.Stories.{MakesCall};
 ghost use Rattle.plain_slots.specs.Objects.{MayMove};
 
-use crate::answers::{
-    admit_at, announce_at, debts_at, mark_if, paid_by, reserved_by, step, swept_by,
-};
+use crate::answers::{admit_at, announce_at, mark_if, paid_by, reserved_by, step, swept_by};
 use crate::slot::{Slot, Work, claim_in, id_in, seen_in, shut_in};
 use one_thread::object::SlotObject;
 use slot_history::act::Act;
@@ -23,14 +21,17 @@ use std::alloc::{AllocError, Global};
 use std::marker::Model;
 use std::mem;
 
-/// What is kept: of each slot what it holds and which workers have to pay there, of each worker its
-/// place and its pending notices, and the two numbers. The log is for contracts alone.
+/// What is kept: of each slot what it holds, which workers have to pay there and how many they are,
+/// of each worker its place and its pending notices, and the two numbers. The log is for contracts
+/// alone.
 #[derive(Drop)]
 pub struct PlainObject {
     shape: Shape,
     slots: Vec<Slot>,
     /// Of slot s and worker w at `s * workers + w`, whether w was marked at s and has not paid.
     owing: Vec<bool>,
+    /// Of each slot, how many workers were marked there and have not paid.
+    debts: Vec<u32>,
     places: Vec<Place>,
     /// Of worker w the mask words from `w * PARTS` on.
     returns: Vec<u64>,
@@ -52,6 +53,7 @@ impl Model for PlainObject {
       shape = o.shape;
       slots = o.slots.items;
       owing = o.owing.items;
+      debts = o.debts.items;
       places = o.places.items;
       returns = o.returns.items;
       changes = o.changes.items;
@@ -81,6 +83,7 @@ impl SlotObject for PlainObject {
             shape,
             slots: vec![in alloc; Slot::Empty; slots]?,
             owing: vec![in alloc; false; slots * workers]?,
+            debts: vec![in alloc; 0; slots]?,
             places: vec![in alloc; Place::Free; workers]?,
             returns: vec![in alloc; 0; workers * PARTS as usize]?,
             changes: vec![in alloc; 0; workers * PARTS as usize]?,
@@ -103,6 +106,7 @@ impl SlotObject for PlainObject {
             shape: _,
             slots: _,
             owing: _,
+            debts: _,
             places: _,
             returns: _,
             changes: _,
@@ -185,7 +189,7 @@ impl SlotObject for PlainObject {
         let next = nth_other(worker, asked);
         let is_there = is_at(&self.places[next as usize], s);
         let owes = &mut self.owing[cell_index(&self.shape, s, next)];
-        let mark = mark_if(is_there, owes);
+        let mark = mark_if(is_there, owes, &mut self.debts[s as usize]);
         step(
             &self.shape,
             &mut self.places,
@@ -199,7 +203,7 @@ impl SlotObject for PlainObject {
     fn sweep(&mut self, worker: u32) -> Sweep {
         let place = self.places[worker as usize];
         let s = slot_at(&place);
-        let debts = debts_at(&self.owing, &self.shape, s);
+        let debts = self.debts[s as usize];
         let sweep = swept_by(worker, &place, &mut self.slots[s as usize], debts);
         step(
             &self.shape,
@@ -215,7 +219,7 @@ impl SlotObject for PlainObject {
         let place = self.places[worker as usize];
         let s = slot_at(&place);
         self.owing[cell_index(&self.shape, s, worker)] = false;
-        let debts = debts_at(&self.owing, &self.shape, s);
+        let debts = &mut self.debts[s as usize];
         let pay = paid_by(worker, &place, &mut self.slots[s as usize], debts);
         step(
             &self.shape,

@@ -4,8 +4,8 @@ use Rattle.slot_history.specs.declared.place.Place.TheVariants.{Asking}
 use Rattle.slot_history.specs.Calls.{MarkingNext}
 use Rattle.slot_history.specs.States.{is_at}
 use Rattle.slot_history.specs.Table.{nth_other}
-use Rattle.plain_slots.proofs.Calls.{debt-read, debt-index}
-use Rattle.plain_slots.proofs.Endings.{asks-at, next-worker, mark-after}
+use Rattle.plain_slots.proofs.Calls.{debt-read, debt-index, count-read, count-index}
+use Rattle.plain_slots.proofs.Endings.{asks-at, next-worker, mark-after, count-fits}
 use Rattle.plain_slots.proofs.Following.{read, spot, place-is, place-index, counted-at, counted-then, makes}
 use Rattle.plain_slots.proofs.object.PlainObjectSlotObject.mark_next.Goals as goal
 
@@ -32,6 +32,17 @@ index_mut-owes-requires c =
     (c.cell_index.ensures ∙ ap (λ u. c.slot_at-s.result * c.self.inside.shape.workers + u)
     (c.nth_other-next.ensures ∙ asked-is c.args.worker c.in-Asking.is at))
 
+pub index_mut-requires : goal.index_mut-requires
+index_mut-requires c =
+    let s = spot c.self.inside c.self.invariant _ c.self.view_is c.args.worker MarkingNext tt c.requires _ c.index.ensures _ c.slot_at-s.ensures in
+    count-index c.self.inside c.self.invariant c.slot_at-s.result s.in_slots
+
+pub mark_if-mark-requires : goal.mark_if-mark-requires
+mark_if-mark-requires c =
+    let s = spot c.self.inside c.self.invariant _ c.self.view_is c.args.worker MarkingNext tt c.requires _ c.index.ensures _ c.slot_at-s.ensures in
+    count-fits c.self.inside c.self.invariant c.slot_at-s.result c.index_mut.result.now
+    (count-read c.self.inside c.self.invariant c.slot_at-s.result s.in_slots _ c.index_mut.ensures.value)
+
 pub step-requires-clause-counted : goal.step-requires-clause-counted
 step-requires-clause-counted c = counted-at c.self.inside c.self.invariant c.args.worker
     (spot c.self.inside c.self.invariant _ c.self.view_is c.args.worker MarkingNext tt c.requires _ c.index.ensures _ c.slot_at-s.ensures).low
@@ -49,11 +60,12 @@ invariant_of-self c =
     (λ u. c.slot_at-s.result * o.shape.workers + u) is in
     let there = read o.places.items c.nth_other-next.result _ c.index-2.result.now
     (ap (λ u. slice_get o.places.items u) is ∙ place-is o ok v low) c.index-2.ensures in
-    rw c.mark_if-mark.ensures.owes
+    rw (c.mark_if-mark.ensures.owes, c.mark_if-mark.ensures.debts)
     (mark-after o ok c.args.worker c.index.result.now c.slot_at-s.result id n m s at more
     c.is_at-is_there.result (c.is_at-is_there.ensures ∙ ap (λ q. is_at q c.slot_at-s.result) there)
     c.cell_index.result index c.index_mut-owes.result.now
     (debt-read o ok c.slot_at-s.result v s.in_slots low c.cell_index.result index _ c.index_mut-owes.ensures.value)
+    c.index_mut.result.now (count-read o ok c.slot_at-s.result s.in_slots _ c.index_mut.ensures.value)
     c.mark_if-mark.result c.mark_if-mark.ensures.mark c.act.result c.act.ensures _ _ (c.step.ensures.places, c.step.ensures.log))
 
 pub returns-clause-made : goal.returns-clause-made

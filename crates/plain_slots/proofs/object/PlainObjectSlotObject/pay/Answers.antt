@@ -1,8 +1,8 @@
 use Rattle.std.proofs.Common.{false, set, sym, ap, ◌∙◌}
 use Rattle.slot_history.specs.Calls.{Paying}
 use Rattle.slot_station.specs.Tokens.{PayGives}
-use Rattle.plain_slots.proofs.Calls.{debt-index}
-use Rattle.plain_slots.proofs.Endings.{row-within_set, pay-after, pay-gives}
+use Rattle.plain_slots.proofs.Calls.{debt-index, count-read, count-index}
+use Rattle.plain_slots.proofs.Endings.{one-owes, pay-after, pay-gives}
 use Rattle.plain_slots.proofs.Following.{spot, slot-read, makes, brought}
 use Rattle.plain_slots.proofs.object.PlainObjectSlotObject.pay.Goals as goal
 
@@ -20,17 +20,24 @@ invariant_of-self c =
     let s = spot c.self.inside c.self.invariant _ c.self.view_is c.args.worker Paying tt c.requires _ c.index.ensures _ c.slot_at-s.ensures in
     let shows = slot-read c.self.inside c.self.invariant c.slot_at-s.result s.in_slots c.index_mut-2.result.now c.index_mut-2.ensures.value in
     pay-after c.self.inside c.self.invariant c.args.worker c.index.result.now c.slot_at-s.result s _
-    (ap (λ i. set o.owing.items i false) c.cell_index.ensures) c.debts_at-debts.result (rw (← c.deref.ensures.value) c.debts_at-debts.ensures)
+    (ap (λ i. set o.owing.items i false) c.cell_index.ensures) c.index_mut-debts.result.now c.paid_by-pay.new.debts
+    (count-read c.self.inside c.self.invariant c.slot_at-s.result s.in_slots _ c.index_mut-debts.ensures.value) c.paid_by-pay.ensures.debts
     c.paid_by-pay.new.slot (λ x e k. c.paid_by-pay.ensures.slot x (e ∙ sym shows) k) c.paid_by-pay.result
     (λ x e. c.paid_by-pay.ensures.pay x (e ∙ sym shows)) c.act.result c.act.ensures _ _ (c.step.ensures.places, c.step.ensures.log)
 
 pub returns-clause-made : goal.returns-clause-made
 returns-clause-made c = makes _ _ _ _ c.args.worker _ c.act.result c.self.view_is c.act.ensures c.step.ensures.log (invariant_of-self c).legal
 
-pub debts_at-debts-requires : goal.debts_at-debts-requires
-debts_at-debts-requires c =
+pub index_mut-debts-requires : goal.index_mut-debts-requires
+index_mut-debts-requires c =
     let s = spot c.self.inside c.self.invariant _ c.self.view_is c.args.worker Paying tt c.requires _ c.index.ensures _ c.slot_at-s.ensures in
-    rw c.deref.ensures.value (row-within_set c.self.inside c.self.invariant c.slot_at-s.result c.cell_index.result false s.in_slots)
+    count-index c.self.inside c.self.invariant c.slot_at-s.result s.in_slots
+
+pub paid_by-pay-requires : goal.paid_by-pay-requires
+paid_by-pay-requires c =
+    let s = spot c.self.inside c.self.invariant _ c.self.view_is c.args.worker Paying tt c.requires _ c.index.ensures _ c.slot_at-s.ensures in
+    one-owes c.self.inside c.self.invariant c.args.worker c.index.result.now c.slot_at-s.result s c.index_mut-debts.result.now
+    (count-read c.self.inside c.self.invariant c.slot_at-s.result s.in_slots _ c.index_mut-debts.ensures.value)
 
 pub returns-clause-holder : goal.returns-clause-holder
 returns-clause-holder c =

@@ -1,14 +1,15 @@
 use Rattle.std.proofs.Common.{sym, ◌∙◌}
 use Rattle.slot_history.specs.Calls.{Sweeping}
 use Rattle.slot_station.specs.Tokens.{SweepGives}
-use Rattle.plain_slots.proofs.Endings.{row-within, sweep-after, sweep-gives}
+use Rattle.plain_slots.proofs.Calls.{count-read, count-index}
+use Rattle.plain_slots.proofs.Endings.{sweep-after, sweep-gives}
 use Rattle.plain_slots.proofs.Following.{spot, slot-read, counted-at, makes, brought}
 use Rattle.plain_slots.proofs.object.PlainObjectSlotObject.sweep.Goals as goal
 
-pub debts_at-debts-requires : goal.debts_at-debts-requires
-debts_at-debts-requires c =
+pub index-debts-requires : goal.index-debts-requires
+index-debts-requires c =
     let s = spot c.self.inside c.self.invariant _ c.self.view_is c.args.worker Sweeping tt c.requires _ c.index.ensures _ c.slot_at-s.ensures in
-    rw c.deref.ensures.value (row-within c.self.inside c.self.invariant c.slot_at-s.result s.in_slots)
+    count-index c.self.inside c.self.invariant c.slot_at-s.result s.in_slots
 
 pub index_mut-requires : goal.index_mut-requires
 index_mut-requires c = (spot c.self.inside c.self.invariant _ c.self.view_is c.args.worker Sweeping tt c.requires _ c.index.ensures _ c.slot_at-s.ensures).index
@@ -17,8 +18,8 @@ pub invariant_of-self : goal.invariant_of-self
 invariant_of-self c =
     let s = spot c.self.inside c.self.invariant _ c.self.view_is c.args.worker Sweeping tt c.requires _ c.index.ensures _ c.slot_at-s.ensures in
     let shows = slot-read c.self.inside c.self.invariant c.slot_at-s.result s.in_slots c.index_mut.result.now c.index_mut.ensures.value in
-    sweep-after c.self.inside c.self.invariant c.args.worker c.index.result.now c.slot_at-s.result s c.debts_at-debts.result
-    (rw (← c.deref.ensures.value) c.debts_at-debts.ensures)
+    sweep-after c.self.inside c.self.invariant c.args.worker c.index.result.now c.slot_at-s.result s c.index-debts.result.now
+    (count-read c.self.inside c.self.invariant c.slot_at-s.result s.in_slots _ c.index-debts.ensures)
     c.swept_by-sweep.new.slot (λ x e d k. c.swept_by-sweep.ensures.slot x (e ∙ sym shows) d k) c.swept_by-sweep.result c.swept_by-sweep.ensures.sweep
     c.act.result c.act.ensures _ _ (c.step.ensures.places, c.step.ensures.log)
 
@@ -33,4 +34,4 @@ pub returns-clause-holder : goal.returns-clause-holder
 returns-clause-holder c =
     let s = spot c.self.inside c.self.invariant _ c.self.view_is c.args.worker Sweeping tt c.requires _ c.index.ensures _ c.slot_at-s.ensures in
     brought s c.act.ensures c.step.ensures.log (λ p. SweepGives c.self.inside.shape c.args.worker p c.swept_by-sweep.result)
-    (sweep-gives c.self.inside.shape c.args.worker c.index.result.now c.debts_at-debts.result _ c.swept_by-sweep.ensures.sweep)
+    (sweep-gives c.self.inside.shape c.args.worker c.index.result.now c.index-debts.result.now _ c.swept_by-sweep.ensures.sweep)

@@ -13,7 +13,6 @@ use Rattle.slot_history.specs.Calls.{Call, Leaving, MayAt}
 use Rattle.slot_history.specs.Histories.{IsLegal, IsOfTotals, Called, Begins, own_calls, entry, place_of}
 use Rattle.slot_history.proofs.Sets.{upd-same}
 use Rattle.slot_history.proofs.Own.{place-mine}
-use Rattle.slot_station.specs.declared.note.Note.{Note}
 use Rattle.slot_station.specs.declared.token.Announcer.{Announcer}
 use Rattle.slot_station.specs.declared.reply.Look.{Look}
 use Rattle.slot_station.specs.declared.reply.Look.TheVariants as look
@@ -195,10 +194,6 @@ module _ {B Sub : Type 0} {b : Ghosts B Sub} (x : Seat b) where
   -- a fact of the seat's desk, of the object
   pub shape-for : (P : Shape → Type 0) → P start.shape → P object.shape
   shape-for P h = subst P (sym object-shape) h
-
-  -- of notes
-  notes-for : (P : (ℕ → Note) → Type 0) → P (note_in now.log worker) → P (note_in object.log worker)
-  notes-for P h = subst (λ (t : TableStory Sub). P (note_in t.log worker)) (sym x.view) h
 
   -- a token, by the place before the call
   pub token-old : (X : Shape → Place → Type 0) → X start.shape place → X object.shape (place_in object worker)

@@ -16,7 +16,7 @@ use Rattle.slot_history.specs.States.{SlotState, Open, Shut, Finishing, ObjectSt
 use Rattle.slot_history.specs.States.{id_of, has_id, is_open, owes, is_inside, has_own_cell}
 use Rattle.slot_history.specs.Steps.{state_after}
 use Rattle.slot_history.specs.Allowed.{IsAllowed}
-use Rattle.slot_history.specs.Histories.{IsLegal, Called, Morsel, entry, place_of, claims_of}
+use Rattle.slot_history.specs.Histories.{IsLegal, Morsel, entry, place_of, claims_of}
 use Rattle.slot_history.specs.Histories.{claims_after, is_install, installs_of, slot_with}
 use Rattle.slot_history.specs.Lives.{Book, book_of, Never, IsSlotBook, life_of}
 use Rattle.slot_history.specs.Table.{IsTable}
@@ -86,10 +86,6 @@ named-installed d w _ h id legal is = absurd (cc)
 
 pub named-low : (d : Shape) (w : ℕ) (a : Act) (h : List Entry) (id : ℕ) → IsLegal d (entry w a ∷ h) → named_id a ≡ Some id → id < STAGES * d.queries
 named-low d w a h id legal is = installed-low d (entry w a ∷ h) legal id (named-installed d w a h id legal is)
-
--- and of a call that a worker made, by its trail
-pub called-low : (d : Shape) (w : ℕ) (a : Act) (id : ℕ) (old new : List Entry) → Called d (entry w a) old new → named_id a ≡ Some id → id < STAGES * d.queries
-called-low d w a id old new (h, is, begins, same, legal) named = named-low d w a h id (subst (IsLegal d) is legal) named
 
 -- ---- ids of places
 

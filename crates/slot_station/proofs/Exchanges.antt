@@ -14,13 +14,11 @@ use Rattle.slot_history.specs.States.{ObjectState, slot_of, id_at, id_of, is_ope
 use Rattle.slot_history.specs.States.{has_own_cell}
 use Rattle.slot_history.specs.Steps.{state_after}
 use Rattle.slot_history.specs.Histories.{IsLegal, place_of, ranges_of}
-use Rattle.slot_history.specs.Bounds.{IsPlaceWithin}
 use Rattle.slot_history.proofs.Table.{table}
 use Rattle.slot_history.proofs.Places.{inside-slots}
 use Rattle.slot_history.proofs.Duties.{IsHeldBy}
 use Rattle.slot_history.proofs.Holdings.{holder-place}
 use Rattle.slot_history.proofs.Growth.{open-has}
-use Rattle.slot_history.proofs.Within.{within-slots}
 use Rattle.slot_station.specs.declared.note.Note.{Note}
 use Rattle.slot_station.specs.Cells.{has_cell, kept_note, fresh_note, NoteSays, FitsNext}
 use Rattle.slot_station.specs.Cells.{FitsClaims}
@@ -62,11 +60,6 @@ module _ {B : Type 0} (P Q : B → Type 0) where
   pub says-fresh : (new : Option B) → IfSome new Q → NoteSays P Q (fresh_note new) new
   says-fresh None fit = refl
   says-fresh (Some b) fit = fit
-
--- ---- places inside a slot
-
-pub has-within : (d : Shape) (p : Place) → has_cell p ≡ true → IsPlaceWithin d p → slot_of p < d.slots
-has-within d p h k = within-slots d p k (λ e. true≢false (sym h ∙ ap has_cell e))
 
 -- ---- the own cell, of the slot that the worker is inside
 

@@ -7,7 +7,7 @@ use Rattle.slot_history.specs.declared.act.Act.TheVariants.{LookOpen, ClaimRange
 use Rattle.slot_history.specs.declared.act.Act.TheVariants.{SweepOthers, AdmitLost, Arrivals}
 use Rattle.slot_history.specs.declared.act.Act.TheVariants.{Finished}
 use Rattle.slot_history.specs.declared.act.Entry.{Entry}
-use Rattle.slot_history.specs.States.{SlotState, Empty, Open, Shut, task_of}
+use Rattle.slot_history.specs.States.{SlotState, Open, Shut, task_of}
 use Rattle.slot_history.specs.Steps.{state_after}
 use Rattle.slot_history.specs.States as states
 use Rattle.slot_history.specs.Histories.{IsLegal, entry}

@@ -3,9 +3,7 @@ use Rattle.std.proofs.Common.{◌≡◌, ℕ, ◌*◌, ◌<◌, true, List, ◌�
 use Rattle.std.proofs.Common.{Some, IfSome, None, refl, sym, ap, ap₂, ◌∙◌, subst, eq-eqb, ne_eqb, arith}
 use Rattle.std.specs.Prelude.{unwrap_or}
 use Rattle.std.proofs.Math.Bool.{and-false}
-use mathlib.Core.Option as std_option
-use Rattle.atomic_table.specs.Table as table
-use Rattle.atomic_table.specs.Table.{Me, Allows, step, rest}
+use Rattle.atomic_table.specs.Table.{Me, Allows, rest}
 use Rattle.atomic_table.specs.declared.shared.Seat.{Seat}
 use Rattle.slot_history.specs.declared.shape.Shape.{Shape}
 use Rattle.slot_station.specs.declared.note.Note.{Note}
@@ -15,7 +13,7 @@ use Rattle.slot_station.specs.Log.{note_in}
 use Rattle.board_rule.specs.declared.view.View.{View}
 use Rattle.board_rule.specs.declared.board.Board.{Board}
 use Rattle.board_rule.specs.declared.board.Pass.{Pass}
-use Rattle.board_rule.specs.Cells.{Takes, Gives, index_in, note_put, taking, giving}
+use Rattle.board_rule.specs.Cells.{Takes, Gives, index_in, note_put}
 use Rattle.board_rule.specs.Passes.{board_shape, board_subject, seen_at, seen_of, IsSeatOf, IsPassOf}
 use Rattle.board_rule.specs.Rule.{RunningRule, Terms, terms_of}
 use Rattle.board_rule.specs.Views.{number, view_place, seen_by_view, with_out, view_exchanged}
@@ -39,9 +37,6 @@ module _ {B Sub : Type 0} (total : Sub → ℕ → Option ℕ) (fits : Sub → �
   abbrev terms : Terms B Sub
   terms = terms_of total fits b.table.shared.key
 
-  abbrev load_step : table.Step (Option B)
-  load_step = step b.table.shared.table_id.slots 0 0 0 std_option.none
-
   -- what a load of the meeting word owes, by the seat number i that knows and holds m
   abbrev Owes : ℕ → Me (Option B) (View Sub) → (ℕ → Me (Option B) (View Sub) → Type 0) → Type 0
   Owes i m then = Allows (RunningRule terms) b.table.shared.table_id.slots i m 0 (λ n. n) then
@@ -58,8 +53,8 @@ module _ {B Sub : Type 0} (total : Sub → ℕ → Option ℕ) (fits : Sub → �
   low : number v < d.workers
   low = below b p.worker p.place p.seat ours
 
-  pub take-step : Owes p.seat.id p.seat.me (taking fits u load_step p.seat.me)
-  take-step = take-allowed terms b.table.shared.table_id.slots p.seat.id v u p.seat.me.1 ours.2 low has-v count load_step
+  pub take-step : Owes p.seat.id p.seat.me (λ _ new. Takes fits u p.seat.me new)
+  take-step = take-allowed terms b.table.shared.table_id.slots p.seat.id v u p.seat.me.1 ours.2 low has-v count
       (still b p.worker p.place p.seat ours)
 
   -- where the worker is, by the view and by what the pass shows
@@ -86,9 +81,9 @@ module _ {B Sub : Type 0} (total : Sub → ℕ → Option ℕ) (fits : Sub → �
       holds : m ≡ (with_out v u, (index_in v u, new) ∷ rest l.1)
       holds = puts ∙ ap₂ (λ x y. (x, (y, new) ∷ rest l.1)) t.view heads.0
 
-      pub give-step : (i : ℕ) → IfSome new (MayPut (seen_of b p) u fits) → Owes i m (giving load_step m)
-      give-step i fit = subst (λ x. Owes i x (giving load_step x)) (sym holds)
-          (give-allowed terms b.table.shared.table_id.slots i (with_out v u) u ((index_in v u, new) ∷ rest l.1) ours.2 low has-v count load_step new
+      pub give-step : (i : ℕ) → IfSome new (MayPut (seen_of b p) u fits) → Owes i m (λ _ n. Gives m n)
+      give-step i fit = subst (λ x. Owes i x (λ _ n. Gives x n)) (sym holds)
+          (give-allowed terms b.table.shared.table_id.slots i (with_out v u) u ((index_in v u, new) ∷ rest l.1) ours.2 low has-v count new
           (rest l.1) refl refl
           (λ x is. let e : board_subject b ≡ x = (let r : Some (board_subject b) ≡ Some x = sym ours.5 ∙ is in cc) in
           subst (λ s. IfSome new (MayPut (seen_by_view v s) u fits)) e

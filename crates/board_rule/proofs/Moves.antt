@@ -8,7 +8,7 @@ use mathlib.Core.Option.{some}
 use mathlib.Core.Bool.{true≢false}
 use lib.ListN.{get_elem?}
 use Rattle.atomic_table.specs.Table as table
-use Rattle.atomic_table.specs.Table.{Me, Allows, keeps, takes, gives, put_back}
+use Rattle.atomic_table.specs.Table.{Allows, takes, gives, put_back}
 use Rattle.atomic_table.proofs.Lists.{at_set}
 use Rattle.slot_history.specs.declared.shape.Shape.{Shape}
 use Rattle.slot_history.specs.declared.place.Place.{Place}
@@ -30,7 +30,7 @@ use Rattle.slot_station.proofs.Lists.{pair-within}
 use Rattle.slot_words.specs.declared.address.Address.TheVariants.{Meeting}
 use Rattle.slot_words.proofs.Addresses.{stands-set}
 use Rattle.board_rule.specs.declared.view.View.{View}
-use Rattle.board_rule.specs.Cells.{index_in, note_put, taking, giving}
+use Rattle.board_rule.specs.Cells.{index_in, note_put, Takes, Gives}
 use Rattle.board_rule.specs.Rule.{Terms, Knowledge, IsViewOf, IsTrueOf, CellIs, named, RunningRule, cell_index, moment_known}
 use Rattle.board_rule.specs.Views.{times, number, view_place, seen_by_view, with_out, view_exchanged}
 use Rattle.board_rule.proofs.Extends as extends
@@ -278,18 +278,17 @@ module _ {B Sub : Type 0} (terms : Terms B Sub) (slots i : ℕ) (v : View Sub) (
   nums = headed v.numbers (number v) some_number refl
 
   -- the cell may be taken
-  pub take-allowed : (s : table.Step (Option B)) → v.out ≡ None
-      → Allows (RunningRule terms) slots i (v, cells) 0 (λ n. n) (taking terms.fits u s (v, cells))
-  take-allowed s still st (known, ok) len at small =
+  pub take-allowed : v.out ≡ None → Allows (RunningRule terms) slots i (v, cells) 0 (λ n. n) (λ _ new. Takes terms.fits u (v, cells) new)
+  take-allowed still st (known, ok) len at small =
       let (y, next, (e, said, kept)) = take terms known st ok i v at nums.0 nums.1 low u may still (len ∙ count) in
       let same : index_in v u ≡ spot = index-is terms known st ok i v at nums.0 nums.1 low u may in
       (with_out v u, takes spot y, e, (next, kept), record { value = y; holds = ap (λ j. (j, y) ∷ cells) (sym same); view = refl; says = said })
 
   -- the cell may be given back
-  pub give-allowed : (s : table.Step (Option B)) (y : Option B) (r : List (ℕ × Option B)) → cells ≡ (index_in v u, y) ∷ r → v.out ≡ Some u
+  pub give-allowed : (y : Option B) (r : List (ℕ × Option B)) → cells ≡ (index_in v u, y) ∷ r → v.out ≡ Some u
       → ((x : Sub) → v.subject ≡ Some x → IfSome y (MayPut (seen_by_view v x) u terms.fits))
-      → Allows (RunningRule terms) slots i (v, cells) 0 (λ n. n) (giving s (v, cells))
-  give-allowed s y r is out fit st (known, ok) len at small =
+      → Allows (RunningRule terms) slots i (v, cells) 0 (λ n. n) (λ _ new. Gives (v, cells) new)
+  give-allowed y r is out fit st (known, ok) len at small =
       let same : index_in v u ≡ spot = index-is terms known st ok i v at nums.0 nums.1 low u may in
       let is' : cells ≡ (spot, y) ∷ r = is ∙ ap (λ j. (j, y) ∷ r) same in
       let v' : View Sub = view_exchanged v u (put_note (view_place v) y) in

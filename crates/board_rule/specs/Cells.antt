@@ -1,6 +1,6 @@
 -- A cell is taken out of the table and given back.
 use Rattle.std.specs.Prelude.{◌≡◌, ℕ, List, [], ◌∷◌, Option, Some, unwrap_or}
-use Rattle.atomic_table.specs.Table.{Step, Me, rest}
+use Rattle.atomic_table.specs.Table.{Me, rest}
 use Rattle.slot_history.specs.declared.place.Place.{Place}
 use Rattle.slot_history.specs.States.{slot_of}
 use Rattle.slot_station.specs.declared.note.Note.{Note}
@@ -34,11 +34,3 @@ pub record Gives {B Sub : Type 0} (old new : Me (Option B) (View Sub)) : Type 0 
   pub holds : new.1 ≡ rest old.1
   pub view : new.0
       ≡ view_exchanged old.0 (unwrap_or old.0.out 0) (note_put (view_place old.0) old.1)
-
-abbrev pub taking : {B Sub : Type 0} → (Sub → ℕ → ℕ → List (ℕ × ℕ) → B → Type 0) → ℕ
-    → Step (Option B) → Me (Option B) (View Sub) → ℕ → Me (Option B) (View Sub) → Type 0
-taking fits u step old found new = Takes fits u old new
-
-abbrev pub giving : {B Sub : Type 0}
-    → Step (Option B) → Me (Option B) (View Sub) → ℕ → Me (Option B) (View Sub) → Type 0
-giving step old found new = Gives old new

@@ -1,15 +1,14 @@
 -- When a seat may make a step that is a call, and what its view is after it.
 use Rattle.std.specs.Prelude.{◌≡◌, ℕ, ◌<◌, Some, None, Option, [], ◌∷◌, List}
-use Rattle.atomic_table.specs.Table.{Step, Me}
+use Rattle.atomic_table.specs.Table.{Me}
 use Rattle.slot_history.specs.declared.act.Act.{Act}
 use Rattle.slot_history.specs.Histories.{Called, IsOfTotals, entry}
 use Rattle.slot_history.specs.Calls.{Call, MayAt}
 use Rattle.slot_station.specs.Cells.{CellsAllow}
 use Rattle.slot_station.specs.Desks.{Seen, caller_of, own_place, totals_of}
-use Rattle.slot_words.specs.Steps.{answer_of}
 use Rattle.board_rule.specs.declared.view.View.{View}
 use Rattle.board_rule.specs.Rule.{Terms}
-use Rattle.board_rule.specs.Views.{number, view_place, seen_by_view, view_called}
+use Rattle.board_rule.specs.Views.{number, seen_by_view, view_called}
 
 -- the station's worker may make the call, by its place, its notes and the subject
 pub record AllowsCall {O Sub : Type 0} (total : Sub → ℕ → Option ℕ) (seen : Seen O Sub)
@@ -37,7 +36,3 @@ module _ {S Sub : Type 0} (totals : Sub → ℕ → Option ℕ) where
     pub holds : new.1 ≡ old.1
     pub of_subject : (subject : Sub) → old.0.subject ≡ Some subject
         → IsOfTotals (totals subject) old.0.shape new.0.trail
-
-  -- the step is this call, with the answer that the call reads in the word found
-  abbrev pub IsCall : Call → Step S → Me S (View Sub) → ℕ → Me S (View Sub) → Type 0
-  IsCall c step old found new = HasCalled (answer_of c (view_place old.0) found) old new

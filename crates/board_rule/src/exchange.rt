@@ -1,11 +1,10 @@
 //! Exchanges of cells: a load takes a cell out of the table, the seat exchanges it, and a load
 //! gives it back.
 ghost use Rattle.std.specs.Prelude.{◌≡◌, ◌<◌, ◌+◌, ℕ, IfSome};
-ghost use mathlib.Core.Option.{none};
-ghost use Rattle.atomic_table.specs.Table.{Allows, step};
+ghost use Rattle.atomic_table.specs.Table.{Allows};
 ghost use Rattle.slot_station.specs.Desks.{Exchanges, caller_of, own_place};
 ghost use Rattle.slot_station.specs.Exchanges.{HoldsNoted, MayExchange, MayPut, put_note};
-ghost use Rattle.board_rule.specs.Cells.{Takes, taking};
+ghost use Rattle.board_rule.specs.Cells.{Takes};
 ghost use Rattle.board_rule.specs.Passes.{HasExchanged, IsPassOf, seen_of};
 ghost use Rattle.board_rule.specs.Rule.{RunningRule, terms_of};
 
@@ -30,10 +29,9 @@ fn take_cell<K: NamesCell, B: Fits>(
     requires table { seat.old.table_id ≡ board.now.table.shared.table_id }
     requires words { 0 < board.now.table.shared.table_id.words }
     requires step { let shared = board.now.table.shared in
-        let load = step shared.table_id.slots 0 0 0 none in
         let rule = RunningRule (terms_of B.total B.fits shared.key) in
         Allows rule shared.table_id.slots seat.old.id seat.old.me 0 (λ n. n)
-        (taking B.fits cell load seat.old.me) }
+        (λ _ new. Takes B.fits cell seat.old.me new) }
     ensures same { (seat.new.table_id ≡ seat.old.table_id) × (seat.new.id ≡ seat.old.id) }
     ensures takes { Takes B.fits cell seat.old.me seat.new.me }
 {

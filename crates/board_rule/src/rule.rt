@@ -1,10 +1,12 @@
 //! The rule over the words, the cells and the views, and what a seat learns at each kind of step.
 ghost use Rattle.std.specs.Prelude.{ℕ};
 ghost use Rattle.slot_history.specs.Calls.{Call, Looking};
-ghost use Rattle.board_rule.specs.Cells.{taking, giving};
+ghost use Rattle.board_rule.specs.Cells.{Takes, Gives};
 ghost use Rattle.board_rule.specs.Rule.{RunningRule, terms_of};
-ghost use Rattle.board_rule.specs.Steps.{IsCall};
-ghost use Rattle.board_rule.specs.Views.{fresh_view, kept_part, dealt_part, joined, spent};
+ghost use Rattle.board_rule.specs.Steps.{HasCalled};
+ghost use Rattle.board_rule.specs.Views.{dealt_part, fresh_view, joined, kept_part, spent};
+ghost use Rattle.board_rule.specs.Views.{view_place};
+ghost use Rattle.slot_words.specs.Steps.{answer_of};
 
 use crate::view::View;
 use atomic_table::{Join, Play, Split, TableRule};
@@ -40,13 +42,14 @@ impl NamesCall for Brand {
     ghost call = { Looking };
 }
 
-/// A step that is a call.
+/// A step that is a call, with the answer that the call reads in the word found.
 pub struct Calling<K> {
     call: PhantomData<K>,
 }
 
 impl<K: NamesCall, B: Fits> Play<Option<B>, View<B::Subject>> for Calling<K> {
-    ghost then = { IsCall B.total K.call };
+    ghost then = { λ _ old found new.
+        HasCalled B.total (answer_of K.call (view_place old.0) found) old new };
 }
 
 /// Whose cell is taken. Who takes it picks the worker.
@@ -64,14 +67,14 @@ pub struct Taking<K> {
 }
 
 impl<K: NamesCell, B: Fits> Play<Option<B>, View<B::Subject>> for Taking<K> {
-    ghost then = { taking B.fits K.cell };
+    ghost then = { λ _ old _ new. Takes B.fits K.cell old new };
 }
 
 /// A load that gives back the cell that is out.
 pub struct Giving;
 
 impl<B: Fits> Play<Option<B>, View<B::Subject>> for Giving {
-    ghost then = { giving };
+    ghost then = { λ _ old _ new. Gives old new };
 }
 
 /// A load that deals the further numbers to a new seat.

@@ -48,9 +48,9 @@ pub trait ShowsHistory {
 struct ShowHistory;
 
 impl<X: ShowsHistory> Play<X, LinkedList<Logged>> for ShowHistory {
-    ghost use Rattle.slot_station.specs.GhostLists.{Shows};
+    ghost use Rattle.slot_station.specs.GhostLists.{IsShown};
 
-    ghost then = { Shows X.history };
+    ghost then = { λ step old _ new. IsShown X.history step.said old.0 new.0 × (new.1 ≡ old.1) };
 }
 
 /// Where a history is kept that has to outlive the object that shows it. It is made with the

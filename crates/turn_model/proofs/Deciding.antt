@@ -15,7 +15,7 @@ use Rattle.turn_model.specs.Points.{Point, Ready, Return, Change, Count, Arrive,
 use Rattle.turn_model.specs.Points.{Shut, Back, Leave, Ask, Sweep, Pay, Fetch, rest_of, point_by}
 use Rattle.turn_model.specs.Driven.{size_by, held_by, GivesUp, MayCall, MayExchange, AreDriven}
 use Rattle.turn_model.specs.Keeping.{is_number}
-use Rattle.turn_model.specs.Examples.{Done, Plays}
+use Rattle.turn_model.specs.ExampleTurns.{Example, Plays}
 use Rattle.turn_model.proofs.Keeping.{is-number}
 
 both : (a b : Bool) → a && b ≡ true → (a ≡ true) × (b ≡ true)
@@ -139,7 +139,8 @@ are-driven D (Exchanged ∷ ms) e =
     let two = both (may_exchange D ms (point_by D ms)) (are_driven D ms) e in (exchange-is D ms (point_by D ms) two.0, are-driven D ms two.1)
 
 -- so worked examples compute
-pub plays : {done : Done} (D : Desk Workload) (ms : List Move) → are_driven D ms ≡ true → point_by D ms ≡ Ready Over → times_of ms ≡ done.times
-    → (strides_by D ms).largest ≡ done.largest → (strides_by D ms).widest ≡ done.widest → priority_in D 0 ms ≡ done.priority → Plays D ms done
-plays D ms driven over times largest widest priority =
-    record { driven = are-driven D ms driven; over = over; times = times; largest = largest; widest = widest; priority = priority }
+pub plays : (example : Example) → are_driven example.desk example.moves ≡ true → point_by example.desk example.moves ≡ Ready Over
+    → times_of example.moves ≡ example.times → (strides_by example.desk example.moves).largest ≡ example.largest
+    → (strides_by example.desk example.moves).widest ≡ example.widest → priority_in example.desk 0 example.moves ≡ example.priority → Plays example
+plays example driven over times largest widest priority =
+    record { driven = are-driven example.desk example.moves driven; over = over; times = times; largest = largest; widest = widest; priority = priority }

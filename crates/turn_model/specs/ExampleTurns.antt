@@ -1,14 +1,19 @@
--- Parts of turns, and plain work, for worked examples. Lists of moves have the newest first, so
--- each part is followed by what came before it.
-use Rattle.std.specs.Prelude.{ℕ, List, [], ◌∷◌, ◌++◌, replicate, Option, None}
+-- What a worked example is, with parts of turns and plain work for it. Lists of moves have the
+-- newest first, so each part is followed by what came before it.
+use Rattle.std.specs.Prelude.{◌≡◌, ℕ, List, [], ◌∷◌, ◌++◌, replicate, Option, None}
+use Rattle.slot_history.specs.declared.shape.Shape.{Shape}
 use Rattle.slot_history.specs.declared.act.Act.TheVariants.{Enter, LookOpen, ClaimRange, ClaimUsed}
 use Rattle.slot_history.specs.declared.act.Act.TheVariants.{ShutWon, LeaveLeft, ReserveGot}
 use Rattle.slot_history.specs.declared.act.Act.TheVariants.{AdmitGot, Arrivals, Finished, NoteDone}
 use Rattle.slot_history.specs.declared.act.Act.TheVariants.{SetTotal, Install, Announce}
 use Rattle.slot_history.specs.declared.act.Act.TheVariants.{TakeReturn, TakeChange}
 use Rattle.slot_station.specs.Desks.{Desk}
+use Rattle.turn_model.specs.declared.turn.Turn.TheVariants.{Over}
 use Rattle.turn_model.specs.Workloads.{Workload}
-use Rattle.turn_model.specs.Moves.{Move, Made, Exchanged}
+use Rattle.turn_model.specs.Moves.{Move, Made, Exchanged, times_of}
+use Rattle.turn_model.specs.Learned.{strides_by, priority_in}
+use Rattle.turn_model.specs.Points.{Ready, point_by}
+use Rattle.turn_model.specs.Driven.{AreDriven}
 
 -- queries of weight 10 that arrive at once, with these stages and totals; a tuple costs 100
 abbrev pub plain_load : (ℕ → ℕ) → (ℕ → Option ℕ) → Workload
@@ -21,21 +26,32 @@ plain_load stages total = record {
   answer = λ q. None;
 }
 
--- one of so many workers
-abbrev pub desk_of : ℕ → ℕ → Workload → Desk Workload
-desk_of worker workers load = record {
-  worker = worker;
-  shape = record { workers = workers; slots = 1; queries = 1 };
-  subject = load;
+-- an object with so many workers, slots and queries
+abbrev pub object_of : ℕ → ℕ → ℕ → Shape
+object_of workers slots queries = record {
+  workers = workers;
+  slots = slots;
+  queries = queries;
 }
 
--- a lone worker over so many slots, for so many queries
-abbrev pub lone_desk : ℕ → ℕ → Workload → Desk Workload
-lone_desk slots queries load = record {
-  worker = 0;
-  shape = record { workers = 1; slots = slots; queries = queries };
-  subject = load;
-}
+-- A worker with its moves, the newest first. They give these elapsed times, this largest advance
+-- and this widest gap of its passes, and query 0 has this priority then.
+pub record Example : Type 0 where
+  pub desk : Desk Workload
+  pub moves : List Move
+  pub times : List ℕ
+  pub largest : ℕ
+  pub widest : ℕ
+  pub priority : ℕ
+
+-- the moves are whole turns, of which the last ended with Over, and give what the example says
+pub record Plays (example : Example) : Type 0 where
+  pub driven : AreDriven example.desk example.moves
+  pub over : point_by example.desk example.moves ≡ Ready Over
+  pub times : times_of example.moves ≡ example.times
+  pub largest : (strides_by example.desk example.moves).largest ≡ example.largest
+  pub widest : (strides_by example.desk example.moves).widest ≡ example.widest
+  pub priority : priority_in example.desk 0 example.moves ≡ example.priority
 
 -- a turn begins: the bits of the slots below 64 that return and change notices have, and how many
 -- task sets are done and how many queries were admitted

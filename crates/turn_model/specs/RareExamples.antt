@@ -1,109 +1,119 @@
 -- Worked examples of what is rare: workers that meet in a task set, and queries that are given up.
-use Rattle.std.specs.Prelude.{cond, eqb, ltb, List, [], ◌∷◌, ◌++◌, Some, None}
-use Rattle.slot_history.specs.declared.act.Act.TheVariants.{ClaimUsed, ShutLost, LeaveLeft}
-use Rattle.slot_history.specs.declared.act.Act.TheVariants.{LeaveOwe, PayLast, PayDone, MarkMarked}
-use Rattle.slot_history.specs.declared.act.Act.TheVariants.{MarkMissed, SweepLast, SweepOthers}
-use Rattle.slot_history.specs.declared.act.Act.TheVariants.{ReserveGot, AdmitLost}
-use Rattle.slot_history.specs.declared.act.Act.TheVariants.{NoteDone, Release}
-use Rattle.slot_station.specs.Desks.{Desk}
+use Rattle.std.specs.Prelude.{cond, eqb, ltb, [], ◌∷◌, ◌++◌, Some, None}
+use Rattle.slot_history.specs.declared.act.Act.TheVariants.{Enter, LookVacant, ClaimUsed, ShutLost}
+use Rattle.slot_history.specs.declared.act.Act.TheVariants.{LeaveLeft, LeaveOwe, PayLast, PayDone}
+use Rattle.slot_history.specs.declared.act.Act.TheVariants.{MarkMarked, MarkMissed, SweepLast}
+use Rattle.slot_history.specs.declared.act.Act.TheVariants.{SweepOthers, ReserveGot, ReserveTaken}
+use Rattle.slot_history.specs.declared.act.Act.TheVariants.{AdmitLost, NoteDone, Release}
 use Rattle.turn_model.specs.Workloads.{Workload}
-use Rattle.turn_model.specs.Moves.{Move, Made, Exchanged}
-use Rattle.turn_model.specs.Examples.{Plays, gave}
-use Rattle.turn_model.specs.ExampleTurns.{plain_load, desk_of, begins, admits, opens, enters}
-use Rattle.turn_model.specs.ExampleTurns.{works, shuts, notes}
+use Rattle.turn_model.specs.Moves.{Made, Exchanged}
+use Rattle.turn_model.specs.Runs.{desk_at}
+use Rattle.turn_model.specs.ExampleTurns.{Example, object_of, plain_load, begins, admits, opens}
+use Rattle.turn_model.specs.ExampleTurns.{enters, works, shuts, notes}
 
--- One query over 8 rows, two workers. Worker 0 shuts the task set while worker 1 is inside. It
--- marks worker 1, and its sweep finds a debt. Its next turn is idle: the task set is not done, and
--- no slot is active.
+-- one query over 8 rows
 abbrev counting : Workload
 counting = plain_load (λ q. cond (ltb q 1) 1 0) (λ id. cond (eqb id 0) (Some 8) None)
 
-abbrev pub marks_desk : Desk Workload
-marks_desk = desk_of 0 2 counting
-
-abbrev pub marks_moves : List Move
-marks_moves =
-    begins 0 0 1 1 ++
-    begins 0 0 0 1 ++
-    Made (SweepOthers 1) 0 ∷ Made MarkMarked 0 ∷ shuts 32 ++ enters 0 0 ++ begins 0 0 0 1 ++
-    works 16 0 8 800 ++ enters 0 0 ++ begins 0 1 0 1 ++
-    opens 2 0 8 ++ admits 0 0 ++ begins 0 0 0 0
-
-abbrev pub MarksPlays : Type 0
-MarksPlays = Plays marks_desk marks_moves (gave (800 ∷ []) 83886 0 10000)
+-- Of two workers, worker 0 shuts the task set while worker 1 is inside. It marks worker 1, and its
+-- sweep finds a debt. Its next turn is idle: the task set is not done, and no slot is active.
+abbrev pub marks : Example
+marks = record {
+  desk = desk_at (object_of 2 1 1) counting 0;
+  moves =
+      begins 0 0 1 1 ++
+      begins 0 0 0 1 ++
+      Made (SweepOthers 1) 0 ∷ Made MarkMarked 0 ∷ shuts 32 ++ enters 0 0 ++ begins 0 0 0 1 ++
+      works 16 0 8 800 ++ enters 0 0 ++ begins 0 1 0 1 ++
+      opens 2 0 8 ++ admits 0 0 ++ begins 0 0 0 0;
+  times = 800 ∷ [];
+  largest = 83886;
+  widest = 0;
+  priority = 10000;
+}
 
 -- Worker 1 was marked: it owes when it leaves, pays last, and so finishes the task set.
-abbrev pub pays_desk : Desk Workload
-pays_desk = desk_of 1 2 counting
+abbrev pub pays : Example
+pays = record {
+  desk = desk_at (object_of 2 1 1) counting 1;
+  moves =
+      begins 0 0 1 1 ++
+      Made Release 0 ∷ notes 2 ++ Made PayLast 0 ∷ Made (LeaveOwe 0) 0 ∷ Exchanged ∷
+      Made ShutLost 0 ∷ Made (ClaimUsed 16) 0 ∷ Exchanged ∷ enters 0 0 ++ begins 0 1 0 1;
+  times = [];
+  largest = 0;
+  widest = 0;
+  priority = 10000;
+}
 
-abbrev pub pays_moves : List Move
-pays_moves =
-    begins 0 0 1 1 ++
-    Made Release 0 ∷ notes 2 ++ Made PayLast 0 ∷ Made (LeaveOwe 0) 0 ∷ Exchanged ∷
-    Made ShutLost 0 ∷ Made (ClaimUsed 16) 0 ∷ Exchanged ∷ enters 0 0 ++ begins 0 1 0 1
+-- Worker 2 of three pays before worker 1 does. First it was too late to admit the query: worker 0
+-- had reserved slot 0 for it, and worker 2 held slot 1 in vain.
+abbrev pub pays_early : Example
+pays_early = record {
+  desk = desk_at (object_of 3 2 1) counting 2;
+  moves =
+      begins 0 0 1 1 ++
+      Made PayDone 0 ∷ Made (LeaveOwe 0) 0 ∷ Exchanged ∷ Made ShutLost 0 ∷
+      Made (ClaimUsed 16) 0 ∷ Exchanged ∷ enters 0 0 ++ begins 0 1 0 1 ++
+      Made Release 0 ∷ Made (AdmitLost 0 1) 0 ∷ Made (ReserveGot 1) 0 ∷ Made (ReserveTaken 0 1) 0 ∷
+      begins 0 0 0 0;
+  times = [];
+  largest = 0;
+  widest = 0;
+  priority = 10000;
+}
 
-abbrev pub PaysPlays : Type 0
-PaysPlays = Plays pays_desk pays_moves (gave [] 0 0 10000)
-
--- Worker 2 of three pays before another does. It was first too late to admit the query.
-abbrev pub pays_early_desk : Desk Workload
-pays_early_desk = desk_of 2 3 counting
-
-abbrev pub pays_early_moves : List Move
-pays_early_moves =
-    begins 0 0 1 1 ++
-    Made PayDone 0 ∷ Made (LeaveOwe 0) 0 ∷ Exchanged ∷ Made ShutLost 0 ∷
-    Made (ClaimUsed 16) 0 ∷ Exchanged ∷ enters 0 0 ++ begins 0 1 0 1 ++
-    Made Release 0 ∷ Made (AdmitLost 0 1) 0 ∷ Made (ReserveGot 0) 0 ∷ begins 0 0 0 0
-
-abbrev pub PaysEarlyPlays : Type 0
-PaysEarlyPlays = Plays pays_early_desk pays_early_moves (gave [] 0 0 10000)
-
--- Two queries, one slot. Worker 1 worked on query 0, finds query 1 in the slot before it knows of
--- it, and leaves early.
+-- two queries over 64 rows
 abbrev in_turn : Workload
 in_turn = plain_load (λ q. cond (ltb q 2) 1 0)
     (λ id. cond (eqb id 0) (Some 64) (cond (eqb id 8) (Some 64) None))
 
-abbrev pub stranger_desk : Desk Workload
-stranger_desk = desk_of 1 2 in_turn
+-- There is one slot. Worker 1 of two worked on query 0. It finds query 1 in the slot before it
+-- knows of it, and leaves early. When it learns of query 1 by a notice, that query is done.
+abbrev pub stranger : Example
+stranger = record {
+  desk = desk_at (object_of 2 1 2) in_turn 1;
+  moves =
+      begins 0 0 2 2 ++
+      Made LeaveLeft 0 ∷ Made LookVacant 0 ∷ Made (Enter 0) 0 ∷ begins 0 1 2 2 ++
+      Made LeaveLeft 0 ∷ enters 0 8 ++ Made (ReserveTaken 0 6) 0 ∷ begins 0 0 0 1 ++
+      works 16 0 16 1600 ++ enters 0 0 ++ Made (ReserveTaken 0 6) 0 ∷ begins 0 1 0 1;
+  times = 1600 ∷ [];
+  largest = 167772;
+  widest = 0;
+  priority = 10000;
+}
 
-abbrev pub stranger_moves : List Move
-stranger_moves =
-    begins 0 0 2 1 ++
-    Made LeaveLeft 0 ∷ enters 0 8 ++ begins 0 0 0 1 ++
-    works 16 0 16 1600 ++ enters 0 0 ++ begins 0 1 0 1
-
-abbrev pub StrangerPlays : Type 0
-StrangerPlays = Plays stranger_desk stranger_moves (gave (1600 ∷ []) 167772 0 10000)
-
--- one query of two stages, which is given up when it was admitted
+-- one query of two stages
 abbrev staged : Workload
 staged = plain_load (λ q. cond (ltb q 1) 2 0)
     (λ id. cond (eqb id 0) (Some 8) (cond (eqb id 1) (Some 16) None))
 
-abbrev pub gives_up_desk : Desk Workload
-gives_up_desk = desk_of 0 1 staged
+-- the query is given up when it was admitted
+abbrev pub gives_up : Example
+gives_up = record {
+  desk = desk_at (object_of 1 1 1) staged 0;
+  moves =
+      begins 0 0 2 1 ++
+      Made Release 0 ∷ Made (NoteDone 2) 0 ∷ admits 0 0 ++ begins 0 0 0 0;
+  times = [];
+  largest = 0;
+  widest = 0;
+  priority = 10000;
+}
 
-abbrev pub gives_up_moves : List Move
-gives_up_moves =
-    begins 0 0 2 1 ++
-    Made Release 0 ∷ Made (NoteDone 2) 0 ∷ admits 0 0 ++ begins 0 0 0 0
-
-abbrev pub GivesUpPlays : Type 0
-GivesUpPlays = Plays gives_up_desk gives_up_moves (gave [] 0 0 10000)
-
--- the same query, given up after its first stage by the one worker of two that finished it
-abbrev pub gives_up_late_desk : Desk Workload
-gives_up_late_desk = desk_of 0 2 staged
-
-abbrev pub gives_up_late_moves : List Move
-gives_up_late_moves =
-    begins 0 0 2 1 ++
-    Made Release 0 ∷ Made (NoteDone 2) 0 ∷ Exchanged ∷ Exchanged ∷ Made SweepLast 0 ∷
-    Made MarkMissed 0 ∷ shuts 32 ++ enters 0 0 ++ begins 0 0 0 1 ++
-    works 16 0 8 800 ++ enters 0 0 ++ begins 0 1 0 1 ++
-    opens 2 0 8 ++ admits 0 0 ++ begins 0 0 0 0
-
-abbrev pub GivesUpLatePlays : Type 0
-GivesUpLatePlays = Plays gives_up_late_desk gives_up_late_moves (gave (800 ∷ []) 83886 0 10000)
+-- it is given up after its first stage, by the one worker of two that finished it
+abbrev pub gives_up_late : Example
+gives_up_late = record {
+  desk = desk_at (object_of 2 1 1) staged 0;
+  moves =
+      begins 0 0 2 1 ++
+      Made Release 0 ∷ Made (NoteDone 2) 0 ∷ Exchanged ∷ Exchanged ∷ Made SweepLast 0 ∷
+      Made MarkMissed 0 ∷ shuts 32 ++ enters 0 0 ++ begins 0 0 0 1 ++
+      works 16 0 8 800 ++ enters 0 0 ++ begins 0 1 0 1 ++
+      opens 2 0 8 ++ admits 0 0 ++ begins 0 0 0 0;
+  times = 800 ∷ [];
+  largest = 83886;
+  widest = 0;
+  priority = 10000;
+}

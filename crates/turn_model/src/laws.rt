@@ -1,9 +1,10 @@
 //! Laws of a worker's moves. A function here does nothing; its contract is the law.
 ghost use Rattle.turn_model.specs.Laws.{MovesTell};
-ghost use Rattle.turn_model.specs.Examples.{OnePlays, Pair0Plays, Pair1Plays, NonePlays};
-ghost use Rattle.turn_model.specs.Examples.{EmptyPlays, TwoPlays, ThreePlays, LongPlays};
-ghost use Rattle.turn_model.specs.RareExamples.{MarksPlays, PaysPlays, PaysEarlyPlays};
-ghost use Rattle.turn_model.specs.RareExamples.{StrangerPlays, GivesUpPlays, GivesUpLatePlays};
+ghost use Rattle.turn_model.specs.ExampleTurns.{Plays};
+ghost use Rattle.turn_model.specs.Examples.{one_worker, first_of_two, second_of_two, two_queries};
+ghost use Rattle.turn_model.specs.Examples.{no_rows, no_query, three_queries, many_rows};
+ghost use Rattle.turn_model.specs.RareExamples.{marks, pays, pays_early, stranger};
+ghost use Rattle.turn_model.specs.RareExamples.{gives_up, gives_up_late};
 ghost use Rattle.turn_model.specs.Fitting.{StridesAreCalls, SizeFits, RangeFits};
 ghost use Rattle.turn_model.specs.Activity.{ActiveByRecords};
 ghost use Rattle.turn_model.specs.Keeping.{LooksKeep, RangesKeep};
@@ -54,24 +55,24 @@ pub fn numbers_are_one()
 
 /// Worked examples: moves that the definitions allow, and what they give.
 pub fn examples()
-    ensures one { OnePlays }
-    ensures pair_first { Pair0Plays }
-    ensures pair_second { Pair1Plays }
-    ensures two { TwoPlays }
-    ensures empty { EmptyPlays }
-    ensures none { NonePlays }
-    ensures three { ThreePlays }
-    ensures long { LongPlays }
+    ensures one { Plays one_worker }
+    ensures pair_first { Plays first_of_two }
+    ensures pair_second { Plays second_of_two }
+    ensures two { Plays two_queries }
+    ensures empty { Plays no_rows }
+    ensures none { Plays no_query }
+    ensures three { Plays three_queries }
+    ensures long { Plays many_rows }
 {}
 
 /// Worked examples of what is rare: workers that meet in a task set, mark, owe and pay; an idle
 /// turn; a query that another worker admits first; a query that is found before its notice; and
 /// queries that are given up.
 pub fn rare_examples()
-    ensures marks { MarksPlays }
-    ensures pays { PaysPlays }
-    ensures pays_early { PaysEarlyPlays }
-    ensures stranger { StrangerPlays }
-    ensures gives_up { GivesUpPlays }
-    ensures gives_up_late { GivesUpLatePlays }
+    ensures marks { Plays marks }
+    ensures pays { Plays pays }
+    ensures pays_early { Plays pays_early }
+    ensures stranger { Plays stranger }
+    ensures gives_up { Plays gives_up }
+    ensures gives_up_late { Plays gives_up_late }
 {}

@@ -1,5 +1,6 @@
 pub mod OwnMoves
 pub mod Fitting
+pub mod PointsAfter
 pub mod PointsSay
 pub mod LetIn
 pub mod Activity

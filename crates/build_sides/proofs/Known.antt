@@ -1,8 +1,8 @@
 -- A group side that folds rows of groups that it has, column by column.
-use Rattle.std.proofs.Common.{◌≡◌, ◌≢◌, ℕ, zero, suc, ℤ, ◌+◌, ◌^◌, ◌<◌, ◌≤◌, false, List, [], ◌∷◌, ◌++◌, Some, All, length, map, take, slice_index}
+use Rattle.std.proofs.Common.{◌≡◌, ◌≢◌, ℕ, zero, suc, ℤ, ◌+◌, ◌^◌, ◌<◌, ◌≤◌, false, List, [], ◌∷◌, ◌++◌, Some, All, drop, get_or, length, map, take, slice_index}
 use Rattle.std.proofs.Common.{slice_index_or, refl, sym, ap, ◌∙◌, subst, inl, inr, append_assoc, arith, length-append, w64, FitsSigned}
-use Rattle.std.proofs.Math.Seq.{take-suc}
-use Rattle.std.proofs.lemmas.List.{append-nil, get_or_default, get_or-map, get_or-take, length-map, length-take, take_all}
+use Rattle.std.proofs.Math.Seq.{take-add, take-suc}
+use Rattle.std.proofs.lemmas.List.{append-nil, get_or_default, get_or-map, get_or-take, length-map, length-take, map-append, take_all, take_more}
 use Rattle.std.proofs.lemmas.List.Elements.{All-head, All-tail, All-append}
 use Rattle.col_table.specs.NamedRows.{NamedRows}
 use Rattle.plan_ast.specs.Answer.{aggregate}
@@ -176,3 +176,21 @@ folded_first table by aggs keys columns columns' rows numbers m groups few room 
     let before : k < m = omega (arith, length-take m rows) in
     rw (get_or-take m rows k 0 before, get_or-take m numbers k 0 before) (known k before))
     count each fits
+
+-- ---- rows that are folded, one more, and those behind it
+
+pub count_folded : (of : ℕ → FoldedRow) (before : List FoldedRow) (rows : List ℕ) (i : ℕ) → i ≤ length rows
+    → length (before ++ map of (take i rows)) ≡ length before + i
+count_folded of before rows i few = omega (arith, length-append before (map of (take i rows)), length-map (take i rows) of, length-take i rows)
+
+pub rows_next : (of : ℕ → FoldedRow) (before : List FoldedRow) (rows : List ℕ) (i more : ℕ) → i < length rows
+    → ((before ++ map of (take i rows)) ++ of (get_or rows i 0) ∷ []) ++ map of (take more (drop (i + 1) rows)) ≡ before ++ map of (take (i + 1 + more) rows)
+rows_next of before rows i more short =
+    let row : ℕ = get_or rows i 0 in
+    let first = take i rows in
+    let rest = take more (drop (i + 1) rows) in
+    let parts : map of (take (i + 1 + more) rows) ≡ (map of first ++ of row ∷ []) ++ map of rest =
+    ap (map of) (take-add (i + 1) more rows ∙ ap (λ l. l ++ rest) (take_more rows i 0 short)) ∙ map-append of (first ++ row ∷ []) rest
+    ∙ ap (λ l. l ++ map of rest) (map-append of first (row ∷ [])) in
+    ap (λ l. l ++ map of rest) (append_assoc before (map of first) (of row ∷ [])) ∙ append_assoc before (map of first ++ of row ∷ []) (map of rest)
+    ∙ ap (λ l. before ++ l) (sym parts)

@@ -51,12 +51,14 @@ column_in aggs place = slice_index_or (map (λ agg. agg.column) aggs) place None
 abbrev pub key_by : NamedRows → List ColumnAt → ℕ → Key
 key_by table by number = group_key_of (map (λ at. value_at table number at.column) by)
 
+-- the values of a table's row that the aggregates fold
+abbrev pub values_by : NamedRows → List AggAt → ℕ → List ℤ
+values_by table aggs number = map (λ agg. folded_value table number agg.column) aggs
+
 -- a table's row as a group folds it
 abbrev pub folded_at : NamedRows → List ColumnAt → List AggAt → ℕ → FoldedRow
-folded_at table by aggs number = record {
-  key = key_by table by number;
-  values = map (λ agg. folded_value table number agg.column) aggs;
-}
+folded_at table by aggs number =
+    record { key = key_by table by number; values = values_by table aggs number }
 
 -- the key of a row in one column, or in two if it is a pair
 abbrev pub row_key : List ℤ → List ℤ → Bool → ℕ → Key

@@ -11,6 +11,7 @@ ghost use Rattle.build_sides.specs.Columns.{HasRoomFor, func_of, totals_of, valu
 ghost use Rattle.build_sides.specs.Columns.{values_of};
 ghost use Rattle.build_sides.specs.FoldedRows.{FoldedRow, column_in, folded_at, folded_value};
 ghost use Rattle.build_sides.specs.FoldedRows.{group_key_of, key_by, row_of, rows_with, total_of};
+ghost use Rattle.build_sides.specs.FoldedRows.{values_by};
 ghost use Rattle.build_sides.specs.GroupSides.{Folds, FoldsSomeKeys, column_of, funcs_of, key_part};
 ghost use Rattle.build_sides.specs.GroupSides.{rows_in, total_at};
 ghost use Rattle.build_sides.specs.PartChains.{AreParts};
@@ -69,6 +70,28 @@ fn make_room(columns: &mut Vec<Column>) -> Result<(), AllocError>
     Ok(())
 }
 
+// The number of a new key, with room for its group in each column.
+fn new_number(
+    keys: &mut KeyTable,
+    parts: &mut Links,
+    columns: &mut Vec<Column>,
+    key: Key,
+) -> Result<usize, AllocError>
+    requires absent { IsAbsent keys.old key }
+    requires parts { AreParts parts.old keys.old }
+    ensures numbers { IfOk result (λ n. Numbers keys.old keys.new key n) }
+    ensures parts { AreParts parts.new keys.new }
+    ensures err { OnErr result (keys.new ≡ keys.old) }
+    ensures same { map totals_of columns.new.items ≡ map totals_of columns.old.items }
+    ensures room { OnOk result (All HasRoom columns.new.items) }
+{
+    make_room(columns)?;
+    parts.nexts.reserve(1)?;
+    let number = keys.add(key)?;
+    parts.link(part_of(key));
+    Ok(number as usize)
+}
+
 // The number of a key, with room for its group in each column.
 #[inline(always)]
 fn number_with_room(
@@ -85,14 +108,10 @@ fn number_with_room(
     ensures same { map totals_of columns.new.items ≡ map totals_of columns.old.items }
     ensures room { IfOk result (λ n. All (HasRoomFor n) columns.new.items) }
 {
-    if let Some(number) = keys.find(key) {
-        return Ok(number as usize);
+    match keys.find(key) {
+        Some(number) => Ok(number as usize),
+        None => new_number(keys, parts, columns, key),
     }
-    make_room(columns)?;
-    parts.nexts.reserve(1)?;
-    let number = keys.add(key)?;
-    parts.link(part_of(key));
-    Ok(number as usize)
 }
 
 // Folds a value for each aggregate into the totals of a group, or begins the next group with them.
@@ -152,6 +171,56 @@ fn known_numbers(
         keys.find_each(first, second, true, rows, numbers)
     } else {
         keys.find_each(first, first, false, rows, numbers)
+    }
+}
+
+// The key of a table's row.
+#[inline(always)]
+fn table_key(table: &Table, by: &[ColumnAt], row: u32) -> Key
+    requires width { IsWithin 1 2 (length by.now) }
+    requires by { All (λ at. at.column < length table.now.names) by.now }
+    requires row { row < length table.now.rows }
+    ensures { result ≡ key_by table.now by.now row }
+{
+    Key {
+        first: table.value(row, by[0].column),
+        second: if by.len() > 1 {
+            table.value(row, by[1].column)
+        } else {
+            0
+        },
+    }
+}
+
+// The value of a table's row that an aggregate folds.
+#[inline(always)]
+fn value_at(table: &Table, row: u32, at: Option<ColumnAt>) -> i64
+    requires column { IfSome at (λ at. at.column < length table.now.names) }
+    requires row { row < length table.now.rows }
+    ensures { result ≡ folded_value table.now row at }
+{
+    match at {
+        Some(at) => table.value(row, at.column),
+        None => 0,
+    }
+}
+
+// Folds a table's row into the totals of a group, or begins the next group with it.
+fn fold_table_row(columns: &mut Vec<Column>, number: usize, table: &Table, aggs: &[AggAt], row: u32)
+    requires same { length aggs.now ≡ length columns.old.items }
+    requires columns { All (λ agg. IfSome agg.column
+        (λ at. at.column < length table.now.names)) aggs.now }
+    requires row { row < length table.now.rows }
+    requires room { All (HasRoomFor number) columns.old.items }
+    ensures count { length columns.new.items ≡ length columns.old.items }
+    ensures each { (place : ℕ) (d : Column) → place < length columns.old.items
+        → FoldsValue number (slice_index_or (values_by table.now aggs.now row) place (pos 0))
+        (slice_index_or columns.old.items place d) (slice_index_or columns.new.items place d) }
+    ensures fits { (place : ℕ)
+        → FitsSigned w64 (slice_index_or (values_by table.now aggs.now row) place (pos 0)) }
+{
+    for place in 0..columns.len() {
+        columns[place].fold(number, value_at(table, row, aggs[place].column));
     }
 }
 
@@ -283,39 +352,96 @@ impl GroupSide {
         Ok(())
     }
 
-    /// Folds the first of at most 256 rows of a table, column by column: those before the first row
-    /// whose key the side doesn't have. It answers how many these are, and takes no memory.
+    /// Folds rows of a table, column by column. Each key is looked up once. A new one stops the
+    /// columns: its row is folded by itself.
     ///
     /// `by` are the one or two columns of the key, and `aggs` those of the side's aggregates. A
-    /// column's side is not read.
-    pub fn fold_known(
+    /// column's side is not read. `numbers` has room for a number of each row, and what it holds
+    /// makes no difference. If memory runs out, the side has folded some of the rows: drop it.
+    pub fn fold_rows(
         &mut self,
         table: &Table,
         by: &[ColumnAt],
         aggs: &[AggAt],
         rows: &[u32],
+        numbers: &mut [u32],
+    ) -> Result<(), AllocError>
+        requires width { IsWithin 1 2 (length by.now) }
+        requires by { All (λ at. at.column < length table.now.names) by.now }
+        requires aggs { length aggs.now ≡ length self.old.columns }
+        requires columns { All (λ agg. IfSome agg.column
+            (λ at. at.column < length table.now.names)) aggs.now }
+        requires rows { All (λ row. row < length table.now.rows) rows.now }
+        requires room { length rows.now ≤ length numbers.old }
+        ensures funcs { funcs_of self.new ≡ funcs_of self.old }
+        ensures folds { OnOk result ((done : List FoldedRow)
+            → length done + length rows.now ≤ 2 ^ 62 → Folds done self.old
+            → Folds (done ++ map (folded_at table.now by.now aggs.now) rows.now) self.new) }
+    {
+        let mut done = self.fold_known(table, by, aggs, rows, numbers);
+        while done < rows.len() {
+            self.fold_new(table, by, aggs, rows[done])?;
+            let more = self.fold_known(table, by, aggs, &rows[done + 1..], numbers);
+            done = done + 1 + more;
+        }
+        Ok(())
+    }
+
+    // Folds the first of a table's rows, column by column: those before the first row whose key the
+    // side doesn't have. It answers how many these are, and takes no memory.
+    fn fold_known(
+        &mut self,
+        table: &Table,
+        by: &[ColumnAt],
+        aggs: &[AggAt],
+        rows: &[u32],
+        numbers: &mut [u32],
     ) -> usize
         requires width { IsWithin 1 2 (length by.now) }
         requires by { All (λ at. at.column < length table.now.names) by.now }
         requires aggs { length aggs.now ≡ length self.old.columns }
         requires columns { All (λ agg. IfSome agg.column
             (λ at. at.column < length table.now.names)) aggs.now }
-        requires few { length rows.now ≤ 256 }
         requires rows { All (λ row. row < length table.now.rows) rows.now }
+        requires room { length rows.now ≤ length numbers.old }
         ensures few { result ≤ length rows.now }
         ensures funcs { funcs_of self.new ≡ funcs_of self.old }
-        ensures keys { self.new.keys ≡ self.old.keys }
-        ensures stops { result < length rows.now → IsAbsent self.old.keys
+        ensures stops { result < length rows.now → IsAbsent self.new.keys
             (key_by table.now by.now (slice_index rows.now result)) }
         ensures folds { (done : List FoldedRow) → length done + result ≤ 2 ^ 62
             → Folds done self.old → Folds (done ++ map (folded_at table.now by.now aggs.now)
             (take result rows.now)) self.new }
     {
-        let mut buffer = [0u32; 256];
-        let known = known_numbers(&self.keys, table, by, rows, &mut buffer);
+        let known = known_numbers(&self.keys, table, by, rows, numbers);
         let rows = &rows[..known];
-        fold_columns(&mut self.columns, table, aggs, rows, &buffer[..known]);
+        fold_columns(&mut self.columns, table, aggs, rows, &numbers[..known]);
         known
+    }
+
+    // Folds a table's row whose key the side doesn't have.
+    fn fold_new(
+        &mut self,
+        table: &Table,
+        by: &[ColumnAt],
+        aggs: &[AggAt],
+        row: u32,
+    ) -> Result<(), AllocError>
+        requires width { IsWithin 1 2 (length by.now) }
+        requires by { All (λ at. at.column < length table.now.names) by.now }
+        requires aggs { length aggs.now ≡ length self.old.columns }
+        requires columns { All (λ agg. IfSome agg.column
+            (λ at. at.column < length table.now.names)) aggs.now }
+        requires row { row < length table.now.rows }
+        requires absent { IsAbsent self.old.keys (key_by table.now by.now row) }
+        ensures funcs { funcs_of self.new ≡ funcs_of self.old }
+        ensures folds { OnOk result ((done : List FoldedRow) → length done < 2 ^ 62
+            → Folds done self.old
+            → Folds (done ++ folded_at table.now by.now aggs.now row ∷ []) self.new) }
+    {
+        let key = table_key(table, by, row);
+        let number = new_number(&mut self.keys, &mut self.parts, &mut self.columns, key)?;
+        fold_table_row(&mut self.columns, number, table, aggs, row);
+        Ok(())
     }
 
     // Adds the totals of another side's group to those of the same key.

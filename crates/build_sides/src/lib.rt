@@ -4,7 +4,7 @@
 //! for each key, the totals of the rows with this key. Both number their keys as they come, in a
 //! table of chains by bucket (`key_table`), and keep what belongs to a key by the key's number. So
 //! a row costs one look-up, and an allocation of its own only in a join whose key has other rows.
-//! Many rows at a time cost less: `unique_matches` looks them up, and `fold_known` folds them.
+//! Many rows at a time cost less: `unique_matches` looks them up, and `fold_rows` folds them.
 //!
 //! It stands on `col_table`, tables, and on `plan_ast`: aggregates, and what they make of values.
 //!

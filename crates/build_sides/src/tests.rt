@@ -183,7 +183,7 @@ fn keyed(rt: &(impl Abort + AllocGlobal), rows: &[[i64; 2]]) -> Result<Table, Fa
 }
 
 #[test]
-fn folds_rows_of_known_groups(rt: HostRuntime) -> Result<(), Fail> {
+fn folds_rows_of_old_and_new_groups(rt: HostRuntime) -> Result<(), Fail> {
     let table = keyed(&rt, &[[1, 10], [-1, -5], [1, 20], [3, 0], [1, 40]])?;
     let mut side = groups(&rt)?;
     fold(&rt, &mut side, &[1], 15)?;
@@ -211,10 +211,11 @@ fn folds_rows_of_known_groups(rt: HostRuntime) -> Result<(), Fail> {
     assert!(rt; table.cols() == 2);
     assert!(rt; table.rows() == 5);
     assert!(rt; side.aggregates() == 4);
-    assert!(rt; side.fold_known(&table, &by, &aggs, &[0, 1, 2, 3, 4]) == 3);
-    assert!(rt; side.len() == 2);
-    assert!(rt; has(&rt, &side, 0, (3, 45, 10, 20)));
+    side.fold_rows(&table, &by, &aggs, &[0, 1, 2, 3, 4], &mut [0u32; 5])?;
+    assert!(rt; side.len() == 3);
+    assert!(rt; has(&rt, &side, 0, (4, 85, 10, 40)));
     assert!(rt; has(&rt, &side, 1, (2, 10, -5, 15)));
+    assert!(rt; has(&rt, &side, 2, (1, 0, 0, 0)));
     Ok(())
 }
 

@@ -1,23 +1,20 @@
 -- Rows of one table as a group side folds them, each a joined row by itself.
-use Rattle.std.proofs.Common.{◌≡◌, ℕ, ◌+◌, ◌^◌, ◌<◌, ◌≤◌, List, [], ◌∷◌, ◌++◌, All, None, Option, Some, drop, get_or, length, map, take, refl, sym}
+use Rattle.std.proofs.Common.{◌≡◌, ℕ, ◌+◌, ◌^◌, ◌≤◌, List, [], ◌∷◌, ◌++◌, All, None, Option, Some, get_or, length, map, refl, sym}
 use Rattle.std.proofs.Common.{ap, ◌∙◌, subst, arith}
 use Rattle.std.specs.Prelude.{IfSome}
-use Rattle.std.proofs.Math.Seq.{take-add}
-use Rattle.std.proofs.lemmas.List.{length-map, length-take-le, map-append, take_more}
+use Rattle.std.proofs.lemmas.List.{length-map}
 use Rattle.std.proofs.lemmas.List.Elements.{All-head, All-tail}
 use Rattle.col_table.specs.NamedRows.{NamedRows, value_in}
-use Rattle.plan_ast.specs.Answer.{JoinedRow}
 use Rattle.plan_ast.specs.declared.places.AggAt.{AggAt}
 use Rattle.plan_ast.specs.declared.places.ColumnAt.{ColumnAt}
 use Rattle.build_sides.specs.FoldedRows.{FoldedRow, folded_at, folded_value, group_key_of}
 use Rattle.build_sides.specs.GroupSides.{Folds}
 use Rattle.build_sides.specs.GroupTotals.{GroupTotals}
 use Rattle.pipe_ops.specs.Folding.{singles_at, values_at}
-use Rattle.pipe_ops.specs.Placed.{AreRowsOf, IsAggOf, IsColumnOf, folded_value_at, row_at, side_at, value_at}
+use Rattle.pipe_ops.specs.Placed.{IsAggOf, IsColumnOf, folded_value_at, row_at, side_at, value_at}
 use Rattle.pipe_ops.specs.StagePlaces.{FoldsMore, folded_row_at}
 use Rattle.pipe_ops.specs.Taking.{AreGroupColumns}
 use Rattle.pipe_ops.proofs.ChunkLemmas.{one_side}
-use Rattle.pipe_ops.proofs.TakesLemmas.{folds_both}
 
 -- the value of a joined row of one table
 alone : (table : NamedRows) (n : ℕ) (at : ColumnAt) → IsColumnOf (table ∷ []) at → value_in (row_at table n) at.column ≡ value_at at (row_at table n ∷ [])
@@ -69,12 +66,6 @@ count_folded : (table : NamedRows) (by : List ColumnAt) (aggs : List AggAt) (row
 count_folded table by aggs rows =
     length-map (singles_at table rows) (folded_row_at by aggs) ∙ length-map rows (λ number. row_at table number ∷ [])
 
-rows_folded-append : (table : NamedRows) (by : List ColumnAt) (aggs : List AggAt) (xs ys : List ℕ)
-    → rows_folded table by aggs (xs ++ ys) ≡ rows_folded table by aggs xs ++ rows_folded table by aggs ys
-rows_folded-append table by aggs xs ys =
-    let one : ℕ → JoinedRow = λ number. row_at table number ∷ [] in
-    ap (map (folded_row_at by aggs)) (map-append one xs ys) ∙ map-append (folded_row_at by aggs) (singles_at table xs) (singles_at table ys)
-
 -- the columns of groups, where the one side is this table
 pub groups_alone : (sides : List NamedRows) (table : NamedRows) (by : List ColumnAt) (aggs : List AggAt) → length sides ≡ 1 → table ≡ side_at sides 0
     → AreGroupColumns sides by aggs → AreGroupColumns (table ∷ []) by aggs
@@ -82,39 +73,11 @@ groups_alone sides table by aggs one is are =
     subst (λ (t : NamedRows). AreGroupColumns (t ∷ []) by aggs) (sym is)
     (subst (λ (s : List NamedRows). AreGroupColumns s by aggs) (one_side sides one) are)
 
--- a row of the only side
-pub row_alone : (sides : List NamedRows) → length sides ≡ 1 → (row : ℕ) → row < length (side_at sides 0).rows → AreRowsOf sides (row ∷ [])
-row_alone sides one row within = record {
-  count = sym one;
-  within = λ side inside.
-      let first : 0 ≡ side = omega (arith, inside, one) in
-      subst (λ k. get_or (row ∷ []) k 0 < length (side_at sides k).rows) first within;
-}
-
 -- a side that folds rows by their numbers folds their joined rows
-pub known_folds : (table scanned : NamedRows) (by : List ColumnAt) (aggs : List AggAt) (rows : List ℕ) (n : ℕ) (old new : GroupTotals) → table ≡ scanned
-    → AreGroupColumns (table ∷ []) by aggs → n ≤ length rows
-    → ((done : List FoldedRow) → length done + n ≤ 2 ^ 62 → Folds done old → Folds (done ++ map (folded_at table by aggs) (take n rows)) new)
-    → FoldsMore (rows_folded scanned by aggs (take n rows)) old new
-known_folds table scanned by aggs rows n old new is are within known =
-    subst (λ (t : NamedRows). FoldsMore (rows_folded t by aggs (take n rows)) old new) is (λ done few holds.
-    let chosen = take n rows in
-    let count = count_folded table by aggs chosen in
-    subst (λ l. Folds (done ++ l) new) (folded_singles table by aggs chosen are.by_columns are.aggs)
-    (known done (omega (arith, few, count, length-take-le n rows within)) holds))
-
--- rows, one more, and those behind it
-pub folds_next : (scanned : NamedRows) (by : List ColumnAt) (aggs : List AggAt) (rows : List ℕ) (i more : ℕ) (a b c d : GroupTotals) → i < length rows
-    → FoldsMore (rows_folded scanned by aggs (take i rows)) a b → FoldsMore (rows_folded scanned by aggs (get_or rows i 0 ∷ [])) b c
-    → FoldsMore (rows_folded scanned by aggs (take more (drop (i + 1) rows))) c d
-    → FoldsMore (rows_folded scanned by aggs (take (i + 1 + more) rows)) a d
-folds_next scanned by aggs rows i more a b c d short before one behind =
-    let folded = rows_folded scanned by aggs in
-    let first = take i rows in
-    let row : ℕ = get_or rows i 0 in
-    let rest = take more (drop (i + 1) rows) in
-    let is : folded (take (i + 1 + more) rows) ≡ (folded first ++ folded (row ∷ [])) ++ folded rest =
-    ap folded (take-add (i + 1) more rows) ∙ rows_folded-append scanned by aggs (take (i + 1) rows) rest
-    ∙ ap (λ l. folded l ++ folded rest) (take_more rows i 0 short) ∙ ap (λ l. l ++ folded rest) (rows_folded-append scanned by aggs first (row ∷ [])) in
-    subst (λ l. FoldsMore l a d) (sym is)
-    (folds_both (folded first ++ folded (row ∷ [])) (folded rest) a c d (folds_both (folded first) (folded (row ∷ [])) a b c before one) behind)
+pub table_folds : (table : NamedRows) (by : List ColumnAt) (aggs : List AggAt) (rows : List ℕ) (old new : GroupTotals)
+    → AreGroupColumns (table ∷ []) by aggs
+    → ((done : List FoldedRow) → length done + length rows ≤ 2 ^ 62 → Folds done old → Folds (done ++ map (folded_at table by aggs) rows) new)
+    → FoldsMore (rows_folded table by aggs rows) old new
+table_folds table by aggs rows old new are folds = λ done few holds.
+    subst (λ l. Folds (done ++ l) new) (folded_singles table by aggs rows are.by_columns are.aggs)
+    (folds done (omega (arith, few, count_folded table by aggs rows)) holds)

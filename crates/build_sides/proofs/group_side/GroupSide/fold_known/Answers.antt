@@ -1,4 +1,4 @@
-use Rattle.std.proofs.Common.{◌≡◌, ◌<◌, length, slice_index, slice_index_or, take, ◌∙◌, refl, arith}
+use Rattle.std.proofs.Common.{◌≡◌, ◌<◌, length, slice_index, slice_index_or, take, ◌∙◌, arith}
 use Rattle.std.proofs.lemmas.List.{get_or_default, get_or-take, length-map, length-take}
 use Rattle.build_sides.specs.FoldedRows.{folded_at}
 use Rattle.build_sides.proofs.Known.{folded_first}
@@ -34,8 +34,7 @@ returns c =
     record {
       few = c.known_numbers-known.ensures.few;
       funcs = rw (← c.self.view_is) folded.funcs;
-      keys = rw (← c.self.view_is) refl;
-      stops = rw (← c.self.view_is) c.known_numbers-known.ensures.stops;
+      stops = c.known_numbers-known.ensures.stops;
       folds = rw (← c.self.view_is)
           (λ done few folds. folded.folds done (omega (arith, count, length-take c.known_numbers-known.result c.args.rows.now)) folds);
     }

@@ -1,6 +1,6 @@
 use Rattle.std.proofs.Common.{sym, ◌∙◌, arith}
 use Rattle.build_sides.specs.GroupSides.{key_part}
-use Rattle.build_sides.proofs.group_side.number_with_room.Goals as goal
+use Rattle.build_sides.proofs.group_side.new_number.Goals as goal
 
 pub returns-clause-parts : goal.returns-clause-parts
 returns-clause-parts c =

@@ -7,7 +7,7 @@ ghost use Rattle.plan_ast.specs.Folds.{no_tuples, range_of, union};
 ghost use Rattle.pipe_ops.specs.Inputs.{AreInputs, IsAccOf, total_in};
 ghost use Rattle.pipe_ops.specs.StageResults.{IsWholeResult};
 
-use crate::tests::{agg, column, join, joined_agg, joined_column, name, table};
+use crate::tests::{agg, column, join, joined_agg, joined_column, name, query_of_t, table};
 use crate::{Acc, Inputs, StageResult, merge, plain_answer, run_range};
 use col_table::ListOf;
 use plan_ast::{
@@ -111,24 +111,6 @@ fn by_stages(
         Some(answer) => Ok(answer),
         None => Err("an answer".into()),
     }
-}
-
-// A query of `t`.
-fn query_of_t(
-    rt: &(impl Abort + AllocGlobal),
-    filters: Vec<Filter>,
-    joins: Vec<Join>,
-    output: Output,
-) -> Result<Query, Fail> {
-    Ok(Query {
-        after: 0,
-        weight: 10,
-        cost: 100,
-        scan: name(rt, "t")?,
-        filters: ListOf::of(filters),
-        joins: ListOf::of(joins),
-        output,
-    })
 }
 
 // The tables `t` of three rows and `u` of two.

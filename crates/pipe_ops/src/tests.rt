@@ -79,6 +79,24 @@ pub(crate) fn join(rt: &(impl Abort + AllocGlobal)) -> Result<Join, Fail> {
     })
 }
 
+// A query of `t`.
+pub(crate) fn query_of_t(
+    rt: &(impl Abort + AllocGlobal),
+    filters: Vec<Filter>,
+    joins: Vec<Join>,
+    output: Output,
+) -> Result<Query, Fail> {
+    Ok(Query {
+        after: 0,
+        weight: 10,
+        cost: 100,
+        scan: name(rt, "t")?,
+        filters: ListOf::of(filters),
+        joins: ListOf::of(joins),
+        output,
+    })
+}
+
 // The answer to a query of `t`.
 fn answer_over(
     rt: &(impl Abort + AllocGlobal),
@@ -87,15 +105,7 @@ fn answer_over(
     joins: Vec<Join>,
     output: Output,
 ) -> Result<Answer, Fail> {
-    let query = Query {
-        after: 0,
-        weight: 10,
-        cost: 100,
-        scan: name(rt, "t")?,
-        filters: ListOf::of(filters),
-        joins: ListOf::of(joins),
-        output,
-    };
+    let query = query_of_t(rt, filters, joins, output)?;
     assert!(rt; query.in_bounds());
     let checked = check(rt.alloc(), &query, tables).expect(rt, "all names are there");
     Ok(plain_answer(rt.alloc(), &checked, tables)?)

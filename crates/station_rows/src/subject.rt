@@ -5,7 +5,7 @@ ghost use Rattle.station_rows.specs.Totals.{listed_total};
 use slot_station::station::Fits;
 
 /// A cell's value: whose it is, and of which task set.
-#[derive(Drop)]
+#[derive(Debug, PartialEq, Eq, Drop)]
 pub struct Piece {
     pub worker: u32,
     pub id: u32,

@@ -118,14 +118,14 @@ impl<'s, S: Station<Piece>> Worker<'s, S> {
         act
     }
 
-    /// Leaves the slot. The worker's own cell has a piece of the task set before, where it is
+    /// Leaves the slot. The worker's own cell has its piece of the task set before, where it is
     /// inside.
     fn leave<L: Ledger>(&mut self, rt: &impl Abort, steps: &mut Steps<L>) -> Act
         requires { HasToken S.seen self.old }
         ensures { KeepsOrigin S.seen self.old self.new }
     {
         assert!(rt; may_leave(&self.place));
-        keep_own(self.station, &self.place, steps);
+        keep_own(rt, self.station, &self.place, steps);
         let leave = self.station.leave(steps);
         let act = leave.act();
         if let Leave::Owe(debt) = leave {
@@ -260,7 +260,8 @@ impl<'s, S: Station<Piece>> Worker<'s, S> {
             assert!(rt; held.noted == 1);
             assert!(rt; held.stage < STAGES - 1);
         }
-        put_all(self.station, &mut holder, Some(id), steps);
+        let finalised = finalised_of(rt, &held);
+        put_all(rt, self.station, &mut holder, finalised, Some(id), steps);
         let announcer = self.station.install(holder, id, steps);
         self.hand = Hand::Announcer(announcer);
         Act::Install(id)
@@ -273,7 +274,8 @@ impl<'s, S: Station<Piece>> Worker<'s, S> {
     {
         let (held, mut holder) = self.holding(rt);
         assert!(rt; held.query.is_none() || 0 < held.noted);
-        put_all(self.station, &mut holder, None, steps);
+        let finalised = finalised_of(rt, &held);
+        put_all(rt, self.station, &mut holder, finalised, None, steps);
         self.station.release(holder, steps);
         Act::Release
     }
@@ -353,19 +355,24 @@ fn may_leave(place: &Place) -> bool
     )
 }
 
-/// Where the worker is inside, puts a piece of the task set into its own cell.
-fn keep_own<S: Station<Piece>, L: Ledger>(station: &mut S, place: &Place, steps: &mut Steps<L>)
+/// Where the worker is inside, puts its piece of the task set into its own cell, and asserts that
+/// this is what the cell had.
+fn keep_own<S: Station<Piece>, L: Ledger>(
+    rt: &impl Abort,
+    station: &mut S,
+    place: &Place,
+    steps: &mut Steps<L>,
+)
     requires { place.now ≡ own_place (S.seen station.old) }
     ensures stays { KeepsTrail (S.seen station.old) (S.seen station.new) }
     ensures note { has_cell place.now ≡ true
         → (S.seen station.new).notes (S.seen station.old).desk.worker ≡ Kept }
 {
     if is_inside(place) {
-        let piece = Piece {
-            worker: station.worker(),
-            id: id_at(place),
-        };
-        station.own_cell(Some(piece), steps);
+        let worker = station.worker();
+        let id = id_at(place);
+        let taken = station.own_cell(Some(Piece { worker, id }), steps);
+        assert_eq!(rt; taken, Some(Piece { worker, id }));
     }
 }
 
@@ -386,10 +393,27 @@ fn next_of(rt: &impl Abort, held: &Held) -> u32
     }
 }
 
-/// Puts a piece of this task set, or of none nothing, into every cell of the slot that is held.
+/// The task set that a holder finalises, or none after a reservation.
+fn finalised_of(rt: &impl Abort, held: &Held) -> Option<u32> {
+    if !held.again {
+        return None;
+    }
+    let Some(q) = held.query else {
+        panic!(rt; "a task set of no query is finalised");
+    };
+    assert!(rt; q < MOST_QUERIES);
+    assert!(rt; held.stage < STAGES);
+    Some(STAGES * q + held.stage)
+}
+
+/// Puts a piece of this task set, or of none nothing, into every cell of the slot that is held, and
+/// asserts that each had the piece of its worker of the task set that is finalised, or nothing
+/// after a reservation.
 fn put_all<S: Station<Piece>, L: Ledger>(
+    rt: &impl Abort,
     station: &mut S,
     holder: &mut Holder,
+    finalised: Option<u32>,
     id: Option<u32>,
     steps: &mut Steps<L>,
 )
@@ -404,6 +428,7 @@ fn put_all<S: Station<Piece>, L: Ledger>(
     let workers = station.workers();
     for worker in 0..workers {
         let piece = id.map(|id| Piece { worker, id });
-        station.cell(holder, worker, piece, steps);
+        let taken = station.cell(holder, worker, piece, steps);
+        assert_eq!(rt; taken, finalised.map(|id| Piece { worker, id }));
     }
 }

@@ -10,7 +10,7 @@ use Rattle.worker_machine.specs.declared.kept.Core.{Core}
 use Rattle.worker_machine.specs.declared.phase.Phase.{Phase}
 use Rattle.worker_machine.specs.declared.phase.Phase.TheVariants.{Ready, Return, Change, Count}
 use Rattle.worker_machine.specs.declared.phase.Phase.TheVariants.{Arrive, Scan, Admit, Put, Size}
-use Rattle.worker_machine.specs.declared.phase.Phase.TheVariants.{Fill, Tell, Give, FreeIt, Enter}
+use Rattle.worker_machine.specs.declared.phase.Phase.TheVariants.{Install, Tell, Give, FreeIt, Enter}
 use Rattle.worker_machine.specs.declared.phase.Phase.TheVariants.{Look, Early, Take, Claim, Shut}
 use Rattle.worker_machine.specs.declared.phase.Phase.TheVariants.{Back, Leave, Ask, Sweep, Pay}
 use Rattle.worker_machine.specs.declared.phase.Phase.TheVariants.{Fetch, Note}
@@ -51,7 +51,7 @@ module _ {O P : Type 0} (seen : Seen O Plan) (origin : P) where
     fresh = h.fresh;
   }
   in_hand benches (Size x) h = (h.0, holds h.1, h.2, h.3)
-  in_hand benches (Fill x) h = (h.0, holds h.1, h.2, h.3)
+  in_hand benches (Install x) h = (h.0, holds h.1, h.2, h.3)
   in_hand benches (Tell x) h = h
   in_hand benches (Give x) h = (holds h.0, h.1, h.2)
   in_hand benches (FreeIt x) h = (h.0, h.1, holds h.2, h.3, h.4)

@@ -18,7 +18,7 @@ use Rattle.bench_cell.specs.declared.plan.Plan.{Plan}
 use Rattle.bench_cell.specs.declared.bench.Bench.{Bench}
 use Rattle.bench_cell.specs.Plans.{total_of}
 use Rattle.bench_cell.specs.Benches.{BenchFits}
-use Rattle.worker_machine.specs.declared.phase.Phase.TheVariants.{Admit, Put, Size, Fill, Give}
+use Rattle.worker_machine.specs.declared.phase.Phase.TheVariants.{Admit, Put, Size, Install, Give}
 use Rattle.worker_machine.specs.Benches.{AreFresh}
 use Rattle.worker_machine.specs.Plans.{stages_at}
 use Rattle.worker_machine.specs.Hands.{HoldsAs, IsTaskHeld, MayInstall, AreNoted, IsHistoryOf, IsNextMade, InHand, Puts, Fetches, next_by}
@@ -69,7 +69,7 @@ module _ {O : Type 0} {old new : Seen O Plan} {total : Plan → ℕ → Option �
 
   -- the total of the next task set was set
   pub size-fills : {k : ℕ} → Makes total (SetTotal k) old new → InHand old bs (Size h) → h' ≡ h → total_of old.desk.subject (next_by h) ≡ Some k
-      → InHand new bs' (Fill h')
+      → InHand new bs' (Install h')
   size-fills {k} m hand e is =
       let may : MayInstall old.desk.subject h' hand.0 = subst (λ x. MayInstall old.desk.subject x hand.0) (sym e) hand.2 in
       let tot : Some k ≡ total_of new.desk.subject (next_by h') =

@@ -25,10 +25,10 @@ use Rattle.worker_machine.specs.Benches.{AreFresh}
 use Rattle.worker_machine.specs.declared.phase.Phase.{Phase}
 use Rattle.worker_machine.specs.declared.phase.Phase.TheVariants.{Ready, Return, Change, Count}
 use Rattle.worker_machine.specs.declared.phase.Phase.TheVariants.{Arrive, Scan, Admit, Put, Size}
-use Rattle.worker_machine.specs.declared.phase.Phase.TheVariants.{Fill, Tell, Give, FreeIt, Enter}
+use Rattle.worker_machine.specs.declared.phase.Phase.TheVariants.{Install, Tell, Give, FreeIt}
 use Rattle.worker_machine.specs.declared.phase.Phase.TheVariants.{Look, Early, Take, Claim, Shut}
 use Rattle.worker_machine.specs.declared.phase.Phase.TheVariants.{Back, Leave, Ask, Sweep, Pay}
-use Rattle.worker_machine.specs.declared.phase.Phase.TheVariants.{Fetch, Note as Noting}
+use Rattle.worker_machine.specs.declared.phase.Phase.TheVariants.{Enter, Fetch, Note as Noting}
 
 -- the task set that the holder installs next, and the one that it finalises
 abbrev pub next_by : Holder → ℕ
@@ -135,7 +135,7 @@ module _ {O : Type 0} (seen : Seen O Plan) (benches : List Bench) where
   InHand (Put h v) = Puts h v
   InHand (Size h) = (n : ℕ) × HoldsAs seen h n None × MayInstall seen.desk.subject h n
       × HasNoted note.Fresh (caller_of seen)
-  InHand (Fill h) = (n : ℕ) × HoldsAs seen h n (total_of seen.desk.subject (next_by h))
+  InHand (Install h) = (n : ℕ) × HoldsAs seen h n (total_of seen.desk.subject (next_by h))
       × MayInstall seen.desk.subject h n × HasNoted note.Fresh (caller_of seen)
   InHand (Tell x) = Owns IsAnnouncer seen x × (x.told < seen.desk.shape.workers)
   InHand (Give h) = HoldsAs seen h 0 None × IsTaskHeld seen.desk.subject h

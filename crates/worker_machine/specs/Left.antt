@@ -6,15 +6,15 @@ use Rattle.bench_cell.specs.declared.plan.Plan.{Plan}
 use Rattle.worker_machine.specs.declared.phase.Phase.{Phase}
 use Rattle.worker_machine.specs.declared.phase.Phase.TheVariants.{Ready, Return, Change, Count}
 use Rattle.worker_machine.specs.declared.phase.Phase.TheVariants.{Arrive, Scan, Admit, Put, Size}
-use Rattle.worker_machine.specs.declared.phase.Phase.TheVariants.{Fill, Tell, Give, FreeIt, Enter}
+use Rattle.worker_machine.specs.declared.phase.Phase.TheVariants.{Install, Tell, Give, FreeIt}
 use Rattle.worker_machine.specs.declared.phase.Phase.TheVariants.{Look, Early, Take, Claim, Shut}
 use Rattle.worker_machine.specs.declared.phase.Phase.TheVariants.{Back, Leave, Ask, Sweep, Pay}
-use Rattle.worker_machine.specs.declared.phase.Phase.TheVariants.{Fetch, Note}
+use Rattle.worker_machine.specs.declared.phase.Phase.TheVariants.{Enter, Fetch, Note}
 
--- At most four times a turn makes a step for each worker: it asks, fetches, puts and tells. It scans
--- each slot once, takes 2 * PARTS words of notices, and all else takes 16 steps. So a line adds up
--- the slots that are left to be scanned, the workers that are left in the round under way, those of
--- the rounds that may follow, and the single steps between them.
+-- At most four times a turn makes a step for each worker: it asks, fetches, puts and tells. It
+-- scans each slot once, takes 2 * PARTS words of notices, and all else takes 16 steps. So a line
+-- adds up the slots that are left to be scanned, the workers that are left in the round under way,
+-- those of the rounds that may follow, and the single steps between them.
 abbrev pub left : Desk Plan → Phase → ℕ
 left D (Ready e) = D.shape.slots + 4 * D.shape.workers + 2 * PARTS + 16
 left D (Return k) = D.shape.slots + 4 * D.shape.workers + 15 + PARTS + (PARTS - k)
@@ -25,7 +25,7 @@ left D (Scan s) = (D.shape.slots - s) + 4 * D.shape.workers + 13
 left D (Admit h) = 2 * D.shape.workers + 4
 left D (Put h v) = (D.shape.workers - v) + D.shape.workers + 3
 left D (Size h) = D.shape.workers + 3
-left D (Fill h) = D.shape.workers + 2
+left D (Install h) = D.shape.workers + 2
 left D (Tell x) = D.shape.workers - x.told
 left D (Give h) = 2
 left D (FreeIt h) = 1

@@ -5,10 +5,10 @@ use Rattle.turn_model.specs.Points.{Point}
 use Rattle.worker_machine.specs.declared.phase.Phase.{Phase}
 use Rattle.worker_machine.specs.declared.phase.Phase.TheVariants.{Ready, Return, Change, Count}
 use Rattle.worker_machine.specs.declared.phase.Phase.TheVariants.{Arrive, Scan, Admit, Put, Size}
-use Rattle.worker_machine.specs.declared.phase.Phase.TheVariants.{Fill, Tell, Give, FreeIt, Enter}
+use Rattle.worker_machine.specs.declared.phase.Phase.TheVariants.{Install, Tell, Give, FreeIt}
 use Rattle.worker_machine.specs.declared.phase.Phase.TheVariants.{Look, Early, Take, Claim, Shut}
 use Rattle.worker_machine.specs.declared.phase.Phase.TheVariants.{Back, Leave, Ask, Sweep, Pay}
-use Rattle.worker_machine.specs.declared.phase.Phase.TheVariants.{Fetch, Note}
+use Rattle.worker_machine.specs.declared.phase.Phase.TheVariants.{Enter, Fetch, Note}
 
 -- of one of so many workers
 abbrev pub point_of : ℕ → Phase → Point
@@ -21,7 +21,7 @@ point_of workers (Scan s) = point.Scan s
 point_of workers (Admit holder) = point.Admit
 point_of workers (Put holder v) = point.Fill v
 point_of workers (Size holder) = point.Fill workers
-point_of workers (Fill holder) = point.Opens
+point_of workers (Install holder) = point.Opens
 point_of workers (Tell announcer) = point.Tells
 point_of workers (Give holder) = cond holder.again (point.Fetch workers) (point.Fill 0)
 point_of workers (FreeIt holder) = point.FreeIt

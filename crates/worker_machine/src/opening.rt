@@ -185,7 +185,7 @@ impl Core {
     {
         let total = task_total(&self.plan, next_of(&holder));
         station.set_total(&mut holder, total, steps);
-        Phase::Fill(holder)
+        Phase::Install(holder)
     }
 
     pub(crate) fn install<S: Station<Bench>, L: Ledger>(
@@ -194,14 +194,14 @@ impl Core {
         steps: &mut Steps<L>,
         holder: Holder,
     ) -> Phase
-        requires follows { FollowsAt self.old (S.seen station.old) (Phase.Fill holder) }
+        requires follows { FollowsAt self.old (S.seen station.old) (Phase.Install holder) }
         ensures hand { InHand (S.seen station.new) self.new.benches.items result }
         ensures fits { CoreFits self.new result }
-        ensures nearer { IsNearer (S.seen station.old).desk (Phase.Fill holder) result }
+        ensures nearer { IsNearer (S.seen station.old).desk (Phase.Install holder) result }
         ensures same { desk_of self.new ≡ desk_of self.old }
         ensures stays { Stays (S.seen station.old) (S.seen station.new) }
         ensures moves { Moves takes_none
-            (standing self.old (Phase.Fill holder) (S.seen station.old))
+            (standing self.old (Phase.Install holder) (S.seen station.old))
             (standing self.new result (S.seen station.new)) }
         ensures ticks { steps.new ≡ steps.old + 1 }
     {

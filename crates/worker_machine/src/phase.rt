@@ -35,7 +35,7 @@ pub enum Phase {
     /// Sets the total of the next task set.
     Size(Holder),
     /// Installs it.
-    Fill(Holder),
+    Install(Holder),
     /// Tells the next worker of it.
     Tell(Announcer),
     /// Notes the rest of the query's task sets as done: memory ran out.

@@ -45,7 +45,7 @@ impl Core {
             Phase::Admit(holder) => self.admit(alloc, station, steps, holder),
             Phase::Put(holder, v) => self.put(station, steps, holder, v),
             Phase::Size(holder) => self.size(station, steps, holder),
-            Phase::Fill(holder) => self.install(station, steps, holder),
+            Phase::Install(holder) => self.install(station, steps, holder),
             Phase::Tell(announcer) => self.tell(station, steps, announcer),
             Phase::Give(holder) => self.give(station, steps, holder),
             Phase::FreeIt(holder) => self.free_it(station, steps, holder),

@@ -29,8 +29,8 @@ returns-in-Put-clause-moves g c = rw c.in-Put.is (moves-any c.put.ensures.moves)
 pub returns-in-Size-clause-moves : goal.returns-in-Size-clause-moves
 returns-in-Size-clause-moves g c = rw c.in-Size.is (moves-any c.size.ensures.moves)
 
-pub returns-in-Fill-clause-moves : goal.returns-in-Fill-clause-moves
-returns-in-Fill-clause-moves g c = rw c.in-Fill.is (moves-any c.install.ensures.moves)
+pub returns-in-Install-clause-moves : goal.returns-in-Install-clause-moves
+returns-in-Install-clause-moves g c = rw c.in-Install.is (moves-any c.install.ensures.moves)
 
 pub returns-in-Tell-clause-moves : goal.returns-in-Tell-clause-moves
 returns-in-Tell-clause-moves g c = rw c.in-Tell.is (moves-any c.tell.ensures.moves)

@@ -1,5 +1,5 @@
 -- The record of a task set that was gathered, by the holder's trail.
-use Rattle.std.proofs.Common.{◌≡◌, ℕ, ◌+◌, ◌-◌, ◌%◌, ◌<◌, Bool, true, cond, List, [], ◌∷◌}
+use Rattle.std.proofs.Common.{◌≡◌, ℕ, ◌-◌, ◌%◌, ◌<◌, Bool, true, cond, List, [], ◌∷◌}
 use Rattle.std.proofs.Common.{◌++◌, map, Some, None, unwrap_or, refl, sym, ap, ap₂, ◌∙◌, subst, arith}
 use Rattle.std.specs.Prelude.{reverse}
 use Rattle.std.specs.Arc.{arc_value}

@@ -1,7 +1,6 @@
 -- The replies of a holder.
-use Rattle.std.proofs.Common.{◌≡◌, ◌⊎◌, inl, inr, ℕ, ◌+◌, ◌<◌, ◌≤◌, Bool, true, false, cond, List}
-use Rattle.std.proofs.Common.{[], ◌∷◌, ◌++◌, Option, Some, None, IsSome, length, unwrap_or, refl, sym, ap, ◌∙◌, subst}
-use Rattle.std.specs.Vec.{vec_capacity}
+use Rattle.std.proofs.Common.{◌≡◌, inl, inr, ℕ, Bool, true, false, cond}
+use Rattle.std.proofs.Common.{Option, Some, None, IsSome, unwrap_or, refl, sym, ap, subst}
 use Rattle.slot_history.specs.declared.place.Held.{Held}
 use Rattle.slot_station.specs.declared.token.Holder.{Holder}
 use Rattle.plan_ast.specs.declared.answers.Answer.{Answer}

@@ -32,7 +32,7 @@ use Rattle.turn_model.specs.Told.{Told, Kept, Sized, KeepsSlot, told_by, past_by
 use Rattle.turn_model.specs.Learned.{allows, params_of, place_by, slot_by, query_by, lets_in, record_by, strides_by, let_in_by, priority_in, time_in}
 use Rattle.turn_model.specs.Points as point
 use Rattle.turn_model.specs.Points.{asked}
-use Rattle.turn_model.specs.Driven.{size_by}
+use Rattle.turn_model.specs.Driven.{MayCall, size_by}
 use Rattle.turn_model.specs.Runs.{IsTimedCall}
 use Rattle.turn_model.specs.Fitting.{Range}
 use Rattle.turn_model.specs.OneSlot.{AreMovesIn}
@@ -50,16 +50,13 @@ use Rattle.worker_machine.specs.Outcomes.{IsAsked}
 use Rattle.worker_machine.specs.Plans.{cost_at, weight_at}
 use Rattle.worker_machine.specs.Loads.{model_desk}
 use Rattle.worker_machine.specs.PointsOf.{point_of}
-use Rattle.worker_machine.specs.Replies.{AreAnswers}
-use Rattle.slot_history.specs.declared.act.Entry.{Entry}
-use Rattle.worker_machine.specs.Telling.{HasBook, book_of, work_by}
 use Rattle.worker_machine.specs.Keeps.{HasMade, Knows, KeepsRest, chosen, kept_of, standing}
 use Rattle.worker_machine.specs.Knowing.{AreSpentOn, IsPriorityOf, SharesCount, WorkedOn}
 use Rattle.run_laws.specs.Shares.{Worked}
 use Rattle.run_laws.specs.Shares.{AscendWithin, counted, range_done, shares_by}
 use Rattle.worker_machine.specs.Counting.{HasShares}
 use Rattle.run_laws.proofs.Counting.{counted-ascends}
-use Rattle.worker_machine.proofs.Moving.{CallMoves, group-on, keeps-on, place-made}
+use Rattle.worker_machine.proofs.Moving.{IsQuiet, group-on, keeps-on, place-made}
 
 -- ---- the asking of a coordinator
 
@@ -89,33 +86,27 @@ first-asked D ms at c p ok first same some =
     ∙ sym (ap (λ (x : Place). asked D.shape.workers (moved D.shape act.LeaveLeft x)) (sym same ∙ first.place))
 
 -- one more worker was asked
-pub mark-moves : {may_take : ℕ → ℕ → ℕ → Type 0} {trail : List Entry} (D : Desk Plan)
-    (ms : List Move) (reply : Mark) (core : Core) (c : Coordinator) (p : Phase)
-    → place_by (model_desk D) ms ≡ place.Asking c.slot c.id c.asked c.marked → c.workers ≡ D.shape.workers → c.asked + 1 < D.shape.workers
-    → IsAsked (marked_coordinator reply c) p → Knows (model_desk D) (told_by (model_desk D) ms) core (phase.Ask c)
-    → HasShares D.shape.queries (shares_by (model_desk D) ms) core.shares → AreAnswers D.subject core.replies.items
-    → HasBook (model_desk D) trail (work_by (model_desk D) ms) (book_of core p)
-    → CallMoves may_take D trail (mark_act reply) 0 ms core (phase.Ask c) p
-mark-moves D ms mark.Marked core c p at same low ok k has right told = record {
-  may = tt;
-  timed = refl;
-  shares = has;
-  answers = right;
-  told = told;
-  knows = keeps-on k (sym (asked-chosen (marked_coordinator mark.Marked c) p ok (strides_by (model_desk D) ms)));
-  point = asked-point D.shape.workers (c.marked + 1) c.slot c.id (marked_coordinator mark.Marked c) p ok same low
-      ∙ sym (ap (λ (x : Place). asked D.shape.workers (moved D.shape act.MarkMarked x)) at);
-}
-mark-moves D ms mark.Missed core c p at same low ok k has right told = record {
-  may = tt;
-  timed = refl;
-  shares = has;
-  answers = right;
-  told = told;
-  knows = keeps-on k (sym (asked-chosen (marked_coordinator mark.Missed c) p ok (strides_by (model_desk D) ms)));
-  point = asked-point D.shape.workers (c.marked + 0) c.slot c.id (marked_coordinator mark.Missed c) p ok same low
-      ∙ sym (ap (λ (x : Place). asked D.shape.workers (moved D.shape act.MarkMissed x)) at);
-}
+pub mark-quiet : (may_take : ℕ → ℕ → ℕ → Type 0) (D : Desk Workload) (reply : Mark) (ms : List Move) → IsQuiet may_take D (mark_act reply) ms
+mark-quiet may_take D mark.Marked ms = (refl, refl, refl)
+mark-quiet may_take D mark.Missed ms = (refl, refl, refl)
+
+pub mark-moves : (D : Desk Workload) (ms : List Move) (reply : Mark) {core : Core} (c : Coordinator) (p : Phase)
+    → place_by D ms ≡ place.Asking c.slot c.id c.asked c.marked → c.workers ≡ D.shape.workers → c.asked + 1 < D.shape.workers
+    → IsAsked (marked_coordinator reply c) p → Knows D (told_by D ms) core (phase.Ask c)
+    → MayCall D ms point.Ask (mark_act reply) × Knows D (told_by D (Made (mark_act reply) 0 ∷ ms)) core p
+    × (point_of D.shape.workers p ≡ point.after D ms point.Ask (mark_act reply))
+mark-moves D ms mark.Marked c p at same low ok k = (
+  tt,
+  keeps-on k (sym (asked-chosen (marked_coordinator mark.Marked c) p ok (strides_by D ms))),
+  asked-point D.shape.workers (c.marked + 1) c.slot c.id (marked_coordinator mark.Marked c) p ok same low
+      ∙ sym (ap (λ (x : Place). asked D.shape.workers (moved D.shape act.MarkMarked x)) at),
+)
+mark-moves D ms mark.Missed c p at same low ok k = (
+  tt,
+  keeps-on k (sym (asked-chosen (marked_coordinator mark.Missed c) p ok (strides_by D ms))),
+  asked-point D.shape.workers (c.marked + 0) c.slot c.id (marked_coordinator mark.Missed c) p ok same low
+      ∙ sym (ap (λ (x : Place). asked D.shape.workers (moved D.shape act.MarkMissed x)) at),
+)
 
 -- ---- a slot that is dropped
 

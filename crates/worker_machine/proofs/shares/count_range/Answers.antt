@@ -1,4 +1,4 @@
-use Rattle.std.proofs.Common.{◌≡◌, ◌≢◌, ◌<◌, ◌≤◌, ℕ, Some, true, false, if◌then◌else◌, length, ltb, slice_get, slice_set, refl, sym, ap, ◌∙◌, subst}
+use Rattle.std.proofs.Common.{◌≡◌, ◌≢◌, ◌<◌, ◌≤◌, ℕ, Some, if◌then◌else◌, length, ltb, slice_get, slice_set, refl, sym, ap, ◌∙◌, subst}
 use Rattle.std.proofs.Common.{arith, rules, of_calls}
 use Rattle.std.specs.Prelude.{insert}
 use Rattle.std.proofs.lemmas.Option.{slice_get_read, slice_get_within}

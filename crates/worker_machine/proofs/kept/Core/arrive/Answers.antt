@@ -47,7 +47,8 @@ pub returns-else-is_due-clause-moves : goal.returns-else-is_due-clause-moves
 returns-else-is_due-clause-moves g c =
     let f = c.requires.follows in
     let old = g.S.Station.seen c.args.station.now in
-    quiet-by c.arrivals-self.ensures.made (λ ms. (refl, refl, refl)) (c.pick.ensures.picks.rest.shares, c.pick.ensures.replies, c.pick.ensures.records) (picked-gives _ c.pick.result c.pick.ensures.picked) (λ ms h. (
+    quiet-by c.arrivals-self.ensures.made (λ ms. (refl, refl, refl))
+    (c.pick.ensures.picks.rest.shares, c.pick.ensures.replies, c.pick.ensures.records) (picked-gives _ c.pick.result c.pick.ensures.picked) (λ ms h. (
       tt,
       pick-knows c.pick.ensures.picks {phase = Phase.Arrive}
           (record { strides = h.knows.strides; finished = h.knows.finished; arrived = refl; times = h.knows.times; slots = h.knows.slots }) refl,

@@ -7,11 +7,12 @@ use Rattle.slot_station.specs.declared.token.Coordinator.{Coordinator}
 use Rattle.worker_machine.specs.Plans.{IsTask}
 use Rattle.std.proofs.Common.{◌∙◌}
 use Rattle.worker_machine.specs.Outcomes.{IsAsked}
-use Rattle.worker_machine.proofs.Moving.{moves-by, place-made}
-use Rattle.worker_machine.proofs.VisitMoves.{mark-moves}
+use Rattle.worker_machine.proofs.Moving.{quiet-by, place-made}
+use Rattle.worker_machine.proofs.VisitMoves.{mark-moves, mark-quiet}
 use Rattle.std.proofs.Common.{refl}
-use Rattle.worker_machine.specs.declared.phase.Phase.TheVariants as phase
-use Rattle.worker_machine.proofs.Telling.{asked-gives, told-kept}
+use Rattle.worker_machine.specs.Keeps.{takes_none}
+use Rattle.worker_machine.specs.Loads.{model_desk}
+use Rattle.worker_machine.proofs.Telling.{asked-gives}
 use Rattle.worker_machine.proofs.kept.Core.ask.Goals as goal
 
 pub returns-clause-hand : goal.returns-clause-hand
@@ -41,8 +42,8 @@ pub returns-clause-moves : goal.returns-clause-moves
 returns-clause-moves g c =
     let old = g.S.Station.seen c.args.station.now in
     let f = c.requires.follows in
-    moves-by c.mark_next.ensures.made 0 (λ ms h. mark-moves old.desk ms c.mark_next.result c.args.self.now c.args.coordinator c.asked.result
-    (sym (place-made old ms h) ∙ f.hand.0.place) f.hand.0.workers f.hand.1
-    (subst (λ (x : Coordinator). IsAsked x c.asked.result) c.mark_next.ensures.counts c.asked.ensures.asked) h.knows h.shares h.answers
-    (told-kept c.args.self.now c.args.self.now (phase.Ask c.args.coordinator) c.asked.result refl refl
-    (asked-gives c.mark_next.new.coordinator c.asked.result c.asked.ensures.asked) h.told))
+    let asks = subst (λ (x : Coordinator). IsAsked x c.asked.result) c.mark_next.ensures.counts c.asked.ensures.asked in
+    quiet-by c.mark_next.ensures.made (mark-quiet takes_none (model_desk old.desk) c.mark_next.result) (refl, refl, refl)
+    (asked-gives c.mark_next.new.coordinator c.asked.result c.asked.ensures.asked)
+    (λ ms h. mark-moves (model_desk old.desk) ms c.mark_next.result c.args.coordinator c.asked.result
+    (sym (place-made old ms h) ∙ f.hand.0.place) f.hand.0.workers f.hand.1 asks h.knows)

@@ -41,9 +41,8 @@ work-requires-clause-some g c =
 
 pub work-requires-clause-within : goal.work-requires-clause-within
 work-requires-clause-within g c =
-    let old = g.S.Station.seen c.args.station.now in
-    let f = c.requires.follows in
-    work-within old c.args.bench f.hand.3 c.next-n.result c.in-Range.from c.in-Range.to c.in-Range.ensures.range
+    work-within (g.S.Station.seen c.args.station.now) c.args.bench c.requires.follows.hand.3
+    c.next-n.result c.in-Range.from c.in-Range.to c.in-Range.ensures.range
 
 pub work-requires-clause-apart : goal.work-requires-clause-apart
 work-requires-clause-apart g c =

@@ -31,8 +31,8 @@ unreachable-requires-in-Err g c =
 
 pub returns-then-v-self-clause-hand : goal.returns-then-v-self-clause-hand
 returns-then-v-self-clause-hand g c =
-    fetches-on (fetch-on c.args.v c.args.self.now.benches.items c.push.new.self.items c.in-Some.bench c.requires.follows.hand c.cell.ensures.put c.cell.ensures.same
-    c.in-Some.ensures.says c.in-Ok.ensures.items)
+    fetches-on (fetch-on c.args.v c.args.self.now.benches.items c.push.new.self.items c.in-Some.bench c.requires.follows.hand c.cell.ensures.put
+    c.cell.ensures.same c.in-Some.ensures.says c.in-Ok.ensures.items)
     (subst (λ (D : Desk Plan). c.args.v + 1 < D.shape.workers) (c.requires.follows.desk ∙ sym c.cell.ensures.put.stays.desk) c.if-v-self.true)
 
 pub returns-else-v-self-clause-hand : goal.returns-else-v-self-clause-hand
@@ -61,8 +61,8 @@ gathered-requires-clause-again g c =
 
 pub gathered-requires-clause-some : goal.gathered-requires-clause-some
 gathered-requires-clause-some g c =
-    let n = (fetch-on c.args.v c.args.self.now.benches.items c.push.new.self.items c.in-Some.bench c.requires.follows.hand c.cell.ensures.put c.cell.ensures.same
-    c.in-Some.ensures.says c.in-Ok.ensures.items).count in omega (arith, n)
+    let n = (fetch-on c.args.v c.args.self.now.benches.items c.push.new.self.items c.in-Some.bench c.requires.follows.hand c.cell.ensures.put
+    c.cell.ensures.same c.in-Some.ensures.says c.in-Ok.ensures.items).count in omega (arith, n)
 
 pub gathered-requires-clause-benches : goal.gathered-requires-clause-benches
 gathered-requires-clause-benches g c =
@@ -107,7 +107,8 @@ returns-else-v-self-clause-moves g c =
     let one = is-one c.args.self.now has in
     exchanges-by {core = c.args.self.now} x.stays f.hand.low
     (λ ms k. mind-on k
-    (record { strides = m.strides; rest = rest-kept m.rest.known m.rest.finished m.rest.arrived m.rest.times m.rest.shares }) (sym (finishing-chosen c.gathered.new.self c.cell.new.holder c.gathered.result c.gathered.ensures.finishes _)))
+    (record { strides = m.strides; rest = rest-kept m.rest.known m.rest.finished m.rest.arrived m.rest.times m.rest.shares })
+    (sym (finishing-chosen c.gathered.new.self c.cell.new.holder c.gathered.result c.gathered.ensures.finishes _)))
     (finishing-point _ c.gathered.new.self c.cell.new.holder c.gathered.result c.gathered.ensures.finishes p.again ∙ ap point.Fetch (sym all))
     m.rest.shares c.gathered.ensures.replies
     (λ ms h. fetch-told old new x.stays c.cell.new.holder p.holds p.again p.known one p.task plan owner c.gathered.ensures.record fit

@@ -29,7 +29,8 @@ whole-requires-clause-inputs c =
     let id : ℕ = finalised_by c.args.holder in
     let bs = c.args.self.now.benches.items in
     let first : slice_get bs 0 ≡ Some c.index.result.now = slice_get_read bs (length bs) 0 c.index.result.now refl c.requires.some c.index.ensures in
-    subst (λ p. IfOk c.try_clone-inputs.result (λ x. HasResult p id c.in-Whole.result (arc_value x))) (sym (plan-after c.args.self.now c.keep-in-Whole.new.self c.keep-in-Whole.ensures.same))
+    subst (λ p. IfOk c.try_clone-inputs.result (λ x. HasResult p id c.in-Whole.result (arc_value x)))
+    (sym (plan-after c.args.self.now c.keep-in-Whole.new.self c.keep-in-Whole.ensures.same))
     (result-for (arc_value c.args.self.now.plan) id bs c.index.result.now c.in-Whole.result _ c.requires.benches first
     (c.in-Whole.ensures.gives id (ids-of c.requires.benches)).1 c.inputs.result.now c.inputs.ensures c.try_clone-inputs.result c.try_clone-inputs.ensures)
 

@@ -14,7 +14,6 @@ use Rattle.turn_model.specs.Points.{asked}
 use Rattle.worker_machine.proofs.Moving.{quiet-by, keeps-on, place-made}
 use Rattle.worker_machine.proofs.VisitMoves.{asked-chosen, first-asked}
 use Rattle.worker_machine.specs.Loads.{model_desk}
-use Rattle.worker_machine.specs.declared.phase.Phase.TheVariants as phase
 use Rattle.worker_machine.proofs.Telling.{asked-gives}
 use Rattle.worker_machine.proofs.kept.Core.leave.Goals as goal
 

@@ -101,22 +101,20 @@ returns-else-allows-clause-moves g c =
 
 pub returns-in-Invalid-clause-moves : goal.returns-in-Invalid-clause-moves
 returns-in-Invalid-clause-moves g c =
-    let old = g.S.Station.seen c.args.station.now in
     quiet-by c.in-Invalid.ensures.made (λ ms. (refl, refl, refl)) (refl, refl, refl) refl
     (λ ms h. (
       tt,
-      shut-knows old ms h (ap slot_of c.requires.follows.hand.0) h.knows.strides refl (rest-kept refl refl refl refl refl)
-          c.drop_slot-in-Invalid.ensures,
+      shut-knows (g.S.Station.seen c.args.station.now) ms h (ap slot_of c.requires.follows.hand.0) h.knows.strides refl
+          (rest-kept refl refl refl refl refl) c.drop_slot-in-Invalid.ensures,
       refl,
     ))
 
 pub returns-in-Vacant-clause-moves : goal.returns-in-Vacant-clause-moves
 returns-in-Vacant-clause-moves g c =
-    let old = g.S.Station.seen c.args.station.now in
     quiet-by c.in-Vacant.ensures.made (λ ms. (refl, refl, refl)) (refl, refl, refl) refl
     (λ ms h. (
       tt,
-      shut-knows old ms h (ap slot_of c.requires.follows.hand.0) h.knows.strides refl (rest-kept refl refl refl refl refl)
-          c.drop_slot-in-Vacant.ensures,
+      shut-knows (g.S.Station.seen c.args.station.now) ms h (ap slot_of c.requires.follows.hand.0) h.knows.strides refl
+          (rest-kept refl refl refl refl refl) c.drop_slot-in-Vacant.ensures,
       refl,
     ))

@@ -37,18 +37,17 @@ returns-in-None-clause-hand g c =
 pub returns-in-None-clause-moves : goal.returns-in-None-clause-moves
 returns-in-None-clause-moves g c =
     let old = g.S.Station.seen c.args.station.now in
-    let f = c.requires.follows in
-    let made = subst (IsMade old c.args.self.now.benches.items c.args.holder) c.in-None.is f.hand.3 in
-    moves-by c.note_done.ensures.made 0 (λ ms h. record {
+    let made = subst (IsMade old c.args.self.now.benches.items c.args.holder) c.in-None.is c.requires.follows.hand.3 in
+    moves-by c.note_done.ensures.made 0 (λ ms h.
+    let goes = note-goes old c.args.holder ms c.requires.follows.hand.0 (place-made old ms h) c.args.self.now.benches.items made in
+    record {
       may = (refl, inl refl);
       timed = refl;
       shares = h.shares;
       answers = h.answers;
-      told = told-noted (model_desk old.desk) ms 1
-          (note-goes old c.args.holder ms f.hand.0 (place-made old ms h) c.args.self.now.benches.items made
-          ∙ ap (λ (x : Point). after (model_desk old.desk) ms x (NoteDone 1)) h.point) h.told;
+      told = told-noted (model_desk old.desk) ms 1 (goes ∙ ap (λ (x : Point). after (model_desk old.desk) ms x (NoteDone 1)) h.point) h.told;
       knows = keeps-on h.knows refl;
-      point = note-goes old c.args.holder ms f.hand.0 (place-made old ms h) c.args.self.now.benches.items made;
+      point = goes;
     })
 
 pub returns-in-Some-clause-moves : goal.returns-in-Some-clause-moves

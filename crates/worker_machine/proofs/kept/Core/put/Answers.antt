@@ -19,15 +19,15 @@ cell-requires-clause-fits g c =
 pub returns-then-v-self-clause-hand : goal.returns-then-v-self-clause-hand
 returns-then-v-self-clause-hand g c =
     let was = c.args.self.now.benches in
-    puts-on (put-on c.args.v was.len was.items c.pop-bench.new.self.items c.pop-bench.result c.requires.follows.hand c.cell.ensures.put c.cell.ensures.same was.ok.0
-    c.pop-bench.ensures.value (λ lt. search rules) c.pop-bench.ensures.rest)
+    puts-on (put-on c.args.v was.len was.items c.pop-bench.new.self.items c.pop-bench.result c.requires.follows.hand c.cell.ensures.put
+    c.cell.ensures.same was.ok.0 c.pop-bench.ensures.value (λ lt. search rules) c.pop-bench.ensures.rest)
     (subst (λ (D : Desk Plan). c.args.v + 1 < D.shape.workers) (c.requires.follows.desk ∙ sym c.cell.ensures.put.stays.desk) c.if-v-self.true)
 
 pub returns-else-v-self-clause-hand : goal.returns-else-v-self-clause-hand
 returns-else-v-self-clause-hand g c =
     let was = c.args.self.now.benches in
-    let p = put-on c.args.v was.len was.items c.pop-bench.new.self.items c.pop-bench.result c.requires.follows.hand c.cell.ensures.put c.cell.ensures.same was.ok.0
-    c.pop-bench.ensures.value (λ lt. search rules) c.pop-bench.ensures.rest in
+    let p = put-on c.args.v was.len was.items c.pop-bench.new.self.items c.pop-bench.result c.requires.follows.hand c.cell.ensures.put
+    c.cell.ensures.same was.ok.0 c.pop-bench.ensures.value (λ lt. search rules) c.pop-bench.ensures.rest in
     let has = c.requires.follows.desk ∙ sym c.cell.ensures.put.stays.desk in
     let most = subst (λ (D : Desk Plan). D.shape.workers ≤ c.args.v + 1) has c.if-v-self.false in
     (p.noted, p.holds, p.may, λ u lt. p.done u (omega arith) (omega (arith, lt, most)))

@@ -7,7 +7,6 @@ use Rattle.slot_station.specs.Desks.{Desk}
 use Rattle.bench_cell.specs.declared.plan.Plan.{Plan}
 use Rattle.worker_machine.proofs.Calls.{place-by}
 use Rattle.worker_machine.proofs.Outcomes.{picked-hand}
-use Rattle.worker_machine.specs.declared.phase.Phase.TheVariants as phase
 use Rattle.worker_machine.proofs.Telling.{picked-gives}
 use Rattle.worker_machine.proofs.kept.Core.scan.Goals as goal
 
@@ -37,7 +36,8 @@ returns-else-s-self-clause-moves g c =
     let f = c.requires.follows in
     let old = g.S.Station.seen c.args.station.now in
     let last = subst (λ (D : Desk Plan). D.shape.slots ≤ c.args.s + 1) f.desk c.if-s-self.false in
-    quiet-by c.in-Taken.ensures.made (λ ms. (refl, refl, refl)) (c.pick.ensures.picks.rest.shares, c.pick.ensures.replies, c.pick.ensures.records) (picked-gives _ c.pick.result c.pick.ensures.picked)
+    quiet-by c.in-Taken.ensures.made (λ ms. (refl, refl, refl))
+    (c.pick.ensures.picks.rest.shares, c.pick.ensures.replies, c.pick.ensures.records) (picked-gives _ c.pick.result c.pick.ensures.picked)
     (λ ms h. (
       refl,
       pick-knows c.pick.ensures.picks h.knows refl,

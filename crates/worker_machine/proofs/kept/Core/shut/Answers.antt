@@ -19,22 +19,20 @@ returns-in-Lost-clause-hand g c =
 
 pub returns-in-Won-clause-moves : goal.returns-in-Won-clause-moves
 returns-in-Won-clause-moves g c =
-    let old = g.S.Station.seen c.args.station.now in
     quiet-by c.in-Won.ensures.made (λ ms. (refl, refl, refl)) (refl, refl, refl) refl
     (λ ms h. (
       tt,
-      shut-knows old ms h (ap slot_of c.requires.follows.hand.0.place) h.knows.strides refl (rest-kept refl refl refl refl refl)
-          c.drop_slot.ensures,
+      shut-knows (g.S.Station.seen c.args.station.now) ms h (ap slot_of c.requires.follows.hand.0.place) h.knows.strides refl
+          (rest-kept refl refl refl refl refl) c.drop_slot.ensures,
       refl,
     ))
 
 pub returns-in-Lost-clause-moves : goal.returns-in-Lost-clause-moves
 returns-in-Lost-clause-moves g c =
-    let old = g.S.Station.seen c.args.station.now in
     quiet-by c.in-Lost.ensures.made (λ ms. (refl, refl, refl)) (refl, refl, refl) refl
     (λ ms h. (
       tt,
-      shut-knows old ms h (ap slot_of c.requires.follows.hand.0.place) h.knows.strides refl (rest-kept refl refl refl refl refl)
-          c.drop_slot.ensures,
+      shut-knows (g.S.Station.seen c.args.station.now) ms h (ap slot_of c.requires.follows.hand.0.place) h.knows.strides refl
+          (rest-kept refl refl refl refl refl) c.drop_slot.ensures,
       refl,
     ))

@@ -29,6 +29,14 @@ use Rattle.pool_run.proofs.Totals.{IsMadeBy, of-load}
 pub item-at : {A : Type 0} (xs : List A) (n k : ℕ) → length xs ≡ n → k < n → (x : A) × (slice_get xs k ≡ Some x)
 item-at xs n k count low = elim (slice_get_cases xs k).1 [ inl p ↦ (p.0, p.2) | inr p ↦ absurd (omega arith) ]
 
+-- what stands in a list of values stands there for an item of the list that gave them
+pub mapped-at : {A B : Type 0} (f : A → B) (xs : List A) (k : ℕ) (y : B) → slice_get (map f xs) k ≡ Some y
+    → (x : A) × (slice_get xs k ≡ Some x) × (f x ≡ y)
+mapped-at f xs k y here =
+    let low : k < length xs = subst (λ n. k < n) (length-map xs f) (slice_get_within (map f xs) k y here) in
+    let x = item-at xs (length xs) k refl low in
+    (x.0, x.1, some-same (f x.0) y (sym (slice_get-map f xs k ∙ ap (option_map f) x.1) ∙ here))
+
 chosen-ready : (p : Phase) (s : Strides) → is_ready p ≡ true → chosen p s ≡ s
 chosen-ready (Ready t) s ready = refl
 chosen-ready p s ready = absurd (cc)
@@ -71,16 +79,11 @@ module _ {may_take : ℕ → ℕ → ℕ → Type 0} {at : Scene} {run : Run} (p
 
   pub gaps-are : NoneTurns at.team → (gaps : List Gap) → gaps ≡ map gap_of at.team → AreGaps at.table.shape (load_of at.table.subject) run.team gaps
   gaps-are none gaps are = record {
-    count = count;
+    count = ap length are ∙ length-map at.team gap_of ∙ follows.count;
     each = λ w gap here.
-        let below : w < at.table.shape.workers = subst (λ n. w < n) count (slice_get_within gaps w gap here) in
-        let x = item-at at.team at.table.shape.workers w follows.count below in
-        let is : gap_of x.0 ≡ gap =
-        some-same (gap_of x.0) gap (sym (ap (λ l. slice_get l w) are ∙ slice_get-map gap_of at.team w ∙ ap (option_map gap_of) x.1) ∙ here) in
-        subst (IsGapOf (desk_at at.table.shape (load_of at.table.subject) w) (run.team w)) is (gap-at w x.0 x.1 (none w x.0 x.1));
-  } where
-    count : length gaps ≡ at.table.shape.workers
-    count = ap length are ∙ length-map at.team gap_of ∙ follows.count
+        let x = mapped-at gap_of at.team w gap (ap (λ l. slice_get l w) (sym are) ∙ here) in
+        subst (IsGapOf (desk_at at.table.shape (load_of at.table.subject) w) (run.team w)) x.2 (gap-at w x.0 x.1 (none w x.0 x.1));
+  }
 
   -- the times of the workers, and none of others
   pub times-are : (times : List (List ℕ)) → times ≡ map (λ (w : Worker). w.core.times) at.team → (w : ℕ)

@@ -6,7 +6,7 @@ use Rattle.turn_model.specs.Runs.{Run}
 use Rattle.turn_model.specs.Orders.{PlayInOrder, none, passes, plays}
 use Rattle.worker_machine.specs.Loads.{load_of}
 use Rattle.pool_run.specs.declared.stint.Stint.{Stint}
-use Rattle.pool_run.specs.Scenes.{Scene}
+use Rattle.pool_run.specs.Scenes.{Scene, HasPlayed}
 use Rattle.pool_run.specs.Plays.{Play, Leads, stints_by}
 
 -- a stretch keeps shape and work: what holds by those at its end holds by those at its start, and the other way round
@@ -29,19 +29,23 @@ pub stints-append : (stint : Stint) (xs ys : List ℕ) (d : Shape) (load : Workl
     → stints_by stint ys d load y z → stints_by stint (xs ++ ys) d load x z
 stints-append stint xs ys d load x y z p q = play-append d load _ _ xs ys x y z p q
 
--- two stretches of a run, if what they do together is a play
-pub leads-on : {may_take : ℕ → ℕ → ℕ → Type 0} {p q r : Play} {a b c : Scene}
-    → ((d : Shape) (load : Workload) (x y z : Run) → p d load x y → q d load y z → r d load x z)
+-- two stretches of a run, if what they do together is a play of the run that led to the first, by way of one that led to the second
+pub leads-by : {may_take : ℕ → ℕ → ℕ → Type 0} {p q r : Play} {a b c : Scene}
+    → ((x y z : Run) → HasPlayed may_take b y → p a.table.shape (load_of a.table.subject) x y
+    → q b.table.shape (load_of b.table.subject) y z → r a.table.shape (load_of a.table.subject) x z)
     → Leads may_take p a b → Leads may_take q b c → Leads may_take r a c
-leads-on {may_take} {p} {q} {r} {a} {b} {c} joins first second = record {
+leads-by joins first second = record {
   shape = second.shape ∙ first.shape;
   subject = second.subject ∙ first.subject;
   leads = λ run played.
       let x = first.leads run played in
       let y = second.leads x.next x.played in
-      record {
-        next = y.next;
-        plays = joins a.table.shape (load_of a.table.subject) run x.next y.next x.plays (back first (λ d load. q d load x.next y.next) y.plays);
-        played = y.played;
-      };
+      record { next = y.next; plays = joins run x.next y.next x.played x.plays y.plays; played = y.played };
 }
+
+-- the same of plays that join whatever the table
+pub leads-on : {may_take : ℕ → ℕ → ℕ → Type 0} {p q r : Play} {a b c : Scene}
+    → ((d : Shape) (load : Workload) (x y z : Run) → p d load x y → q d load y z → r d load x z)
+    → Leads may_take p a b → Leads may_take q b c → Leads may_take r a c
+leads-on {may_take} {p} {q} {r} {a} {b} {c} joins first second = leads-by {p = p} {q = q} {r = r} (λ x y z _ begins ends.
+    joins a.table.shape (load_of a.table.subject) x y z begins (back first (λ d load. q d load y z) ends)) first second

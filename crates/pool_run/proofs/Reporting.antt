@@ -1,10 +1,8 @@
 -- The report of a complete run, by what its workers have told.
-use Rattle.std.proofs.Common.{◌≡◌, ℕ, ◌<◌, true, List, [], ◌∷◌, ◌++◌, length, map, slice_get, Some, None, refl, sym, ap, ◌∙◌, subst}
+use Rattle.std.proofs.Common.{◌≡◌, ℕ, true, List, [], ◌∷◌, ◌++◌, map, slice_get, Some, None, refl, sym, ap, ◌∙◌, subst}
 use Rattle.std.specs.List.{flat_map}
 use Rattle.std.specs.List.Sorted.{IsPermutation}
-use Rattle.std.specs.Option.{option_map}
 use Rattle.std.proofs.lemmas.List.{length-map}
-use Rattle.std.proofs.lemmas.Option.{slice_get-map, slice_get_within}
 use Rattle.slot_history.specs.Histories.{IsLegal}
 use Rattle.slot_history.specs.declared.act.Entry.{Entry}
 use Rattle.slot_station.specs.Desks.{Desk}
@@ -32,8 +30,7 @@ use Rattle.worker_machine.specs.Loads.{model_desk}
 use Rattle.worker_machine.specs.Told.{telling_of}
 use Rattle.pool_run.specs.Scenes.{Scene, HasPlayed, TeamFollows, NoneTurns, stands_in}
 use Rattle.pool_run.specs.Collected.{IsToldBy}
-use Rattle.pool_run.proofs.Ending.{gaps-are, item-at}
-use Rattle.pool_run.proofs.Teams.{some-same}
+use Rattle.pool_run.proofs.Ending.{gaps-are, mapped-at}
 
 beside-map : {A B : Type 0} {P Q : A → B → Type 0} → ((x : A) (y : B) → P x y → Q x y) → (xs : List A) (ys : List B) → Beside P xs ys → Beside Q xs ys
 beside-map f [] [] b = tt
@@ -80,17 +77,11 @@ module _ {may_take : ℕ → ℕ → ℕ → Type 0} {at : Scene} {run : Run} (p
   have-told none = record {
     count = length-map at.team tells ∙ follows.count;
     each = λ w t here room.
-        let count : length (map tells at.team) ≡ at.table.shape.workers = length-map at.team tells ∙ follows.count in
-        let low : w < at.table.shape.workers = subst (λ n. w < n) count (slice_get_within (map tells at.team) w t here) in
-        let x = item-at at.team at.table.shape.workers w follows.count low in
-        let is : tells x.0 ≡ t = some-same (tells x.0) t (sym (slice_get-map tells at.team w ∙ ap (option_map tells) x.1) ∙ here) in
-        subst (HasTold (desk_at at.table.shape (load_of at.table.subject) w) run.history (run.team w)) is (told-at w x.0 x.1 room);
+        let x = mapped-at tells at.team w t here in
+        subst (HasTold (desk_at at.table.shape (load_of at.table.subject) w) run.history (run.team w)) x.2 (told-at w x.0 x.1 room);
     given_up = λ w t here.
-        let count : length (map tells at.team) ≡ at.table.shape.workers = length-map at.team tells ∙ follows.count in
-        let low : w < at.table.shape.workers = subst (λ n. w < n) count (slice_get_within (map tells at.team) w t here) in
-        let x = item-at at.team at.table.shape.workers w follows.count low in
-        let is : tells x.0 ≡ t = some-same (tells x.0) t (sym (slice_get-map tells at.team w ∙ ap (option_map tells) x.1) ∙ here) in
-        subst (λ (k : Telling). k.gives_up ≡ None) is (given-none x.0.phase (none w x.0 x.1));
+        let x = mapped-at tells at.team w t here in
+        subst (λ (k : Telling). k.gives_up ≡ None) x.2 (given-none x.0.phase (none w x.0 x.1));
   }
 
   pub report-of : {ran : Ran} → NoneTurns at.team → IsToldBy at.team ran → IsWhole at.table.shape (load_of at.table.subject) run

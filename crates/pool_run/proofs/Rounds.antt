@@ -12,7 +12,7 @@ use Rattle.pool_run.specs.declared.stint.Stint.TheVariants.{WholeTurn}
 use Rattle.pool_run.specs.Plays.{Leads, stints_by, rounds, some_rounds}
 use Rattle.pool_run.specs.Scenes.{Scene, HasPlayed, TeamFollows, AreOver, HasGoing}
 use Rattle.pool_run.proofs.Ending.{item-at}
-use Rattle.pool_run.proofs.Orders.{back, forth, leads-on, stints-append}
+use Rattle.pool_run.proofs.Orders.{back, forth, leads-by, leads-on, stints-append}
 use Rattle.pool_run.proofs.Stints.{stands-still}
 use Rattle.pool_run.proofs.Points.{over-in, over-of}
 
@@ -70,20 +70,10 @@ module _ {may_take : ℕ → ℕ → ℕ → Type 0} {a b : Scene} (p : Leads ma
   -- one round more
   pub rounds-more : {c : Scene} → (AreOver b.team → ⊥) → Leads may_take (stints_by WholeTurn (range_with_len 0 b.table.shape.workers)) b c
       → Leads may_take some_rounds a c
-  rounds-more {c} not q = record {
-    shape = q.shape ∙ p.shape;
-    subject = q.subject ∙ p.subject;
-    leads = λ run played.
-        let x = p.leads run played in
-        let y = q.leads x.next x.played in
-        record {
-          next = y.next;
-          plays = λ end rest. x.plays end
-              (round x.next y.next end (λ done. not (are-over x.played follows (forth p (λ d load. AllOver d load x.next) done)))
-              (back p (λ d load. stints_by WholeTurn (range_with_len 0 d.workers) d load x.next y.next) y.plays) rest);
-          played = y.played;
-        };
-  }
+  rounds-more {c} not q = leads-by {p = some_rounds} {q = stints_by WholeTurn (range_with_len 0 b.table.shape.workers)} {r = some_rounds}
+      (λ x y z played before plays end rest. before end
+      (round y z end (λ done. not (are-over played follows (forth p (λ d load. AllOver d load y) done)))
+      (back p (λ d load. stints_by WholeTurn (range_with_len 0 d.workers) d load y z) plays) rest)) p q
 
 pub not-all : {team : List Worker} → HasGoing team → AreOver team → ⊥
 not-all going all = going.not_over (all going.worker going.item going.here)

@@ -1,10 +1,10 @@
 -- A team after the steps of one of its workers.
 use Rattle.std.proofs.Common.{◌≡◌, ◌≢◌, ◌⊎◌, inl, inr, ℕ, ◌+◌, ◌<◌, List, [], ◌∷◌, ◌++◌}
-use Rattle.std.proofs.Common.{length, slice_get, slice_set, Some, unwrap_or, true, refl, sym, ap, ◌∙◌, subst, arith}
+use Rattle.std.proofs.Common.{length, get_or, slice_get, slice_set, Some, unwrap_or, true, refl, sym, ap, ◌∙◌, subst, arith}
 use native.Mathlib.Decide.{ℕ_discrete}
 use Rattle.std.proofs.lemmas.List.{length-set, length-append, get_or_push, get_or_append_left}
 use Rattle.std.proofs.Math.Seq.{get_or-append_seam}
-use Rattle.std.proofs.lemmas.Option.{slice_get-get_or, slice_get_within}
+use Rattle.std.proofs.lemmas.Option.{slice_get-get_or, slice_get_read, slice_get_within}
 use Rattle.slot_station.proofs.Lists.{get-set_same, get-set_other}
 use Rattle.slot_history.specs.declared.shape.Shape.{Shape}
 use Rattle.one_thread.specs.Tables.{TableStory}
@@ -13,7 +13,7 @@ use Rattle.bench_cell.specs.declared.plan.Plan.{Plan}
 use Rattle.worker_machine.specs.declared.state.Worker.{Worker}
 use Rattle.worker_machine.specs.Following.{Follows, IsNewFor}
 use Rattle.worker_machine.specs.Left.{is_ready}
-use Rattle.pool_run.specs.Scenes.{scene, AreNew, FollowsIn, IsBetween, NoneTurnsBelow, Since, StaysBetween, TeamFollows}
+use Rattle.pool_run.specs.Scenes.{Scene, scene, AreNew, FollowsIn, IsBetween, NoneTurnsBelow, Since, StaysBetween, TeamFollows}
 use Rattle.pool_run.proofs.SeatViews.{shown-since}
 
 pub some-same : {A : Type 0} (x y : A) → Some x ≡ Some y → x ≡ y
@@ -37,6 +37,16 @@ module _ {old new : TableStory Plan} {w : ℕ} (s : Since old new w) (team : Lis
     each = each-set team w x (FollowsIn new) (subst (λ n. w < n) (sym was.count) low) own
         (λ v y other got. subst (Follows y) (sym (shown-since s v other)) (was.each v y got));
   }
+
+-- the worker that is read at a number of the table
+pub read-at : {at : Scene} → TeamFollows at → {w : ℕ} → w < at.table.shape.workers → (x : Worker) → x ≡ get_or at.team w x
+    → slice_get at.team w ≡ Some x
+read-at {at} follows {w} low x is = slice_get_read at.team at.table.shape.workers w x (sym follows.count) low is
+
+-- and read again
+pub read-same : {at : Scene} → TeamFollows at → {w : ℕ} → w < at.table.shape.workers → (P : Worker → Type 0) (x y : Worker)
+    → x ≡ get_or at.team w x → y ≡ get_or at.team w y → P x → P y
+read-same follows low P x y first again p = subst P (some-same x y (sym (read-at follows low x first) ∙ read-at follows low y again)) p
 
 -- whoever had no turn under way has none after steps of a worker that ended its turn
 pub stays-between : (team : List Worker) (w : ℕ) (x : Worker) → w < length team → is_ready x.phase ≡ true → StaysBetween w team (slice_set team w x)

@@ -1,97 +1,40 @@
 -- The history of moves that workers may make is of their work: each task set has its total.
-use Rattle.std.proofs.Common.{◌≡◌, ℕ, ◌+◌, ◌/◌, ◌<◌, Bool, true, false, cond, ltb, List, [], ◌∷◌, Option, Some, None, refl, sym, ap, ◌∙◌, subst, eqb-true}
+use Rattle.std.proofs.Common.{◌≡◌, ℕ, ◌<◌, Bool, true, false, cond, List, [], ◌∷◌, Option, Some, refl, sym, ap, ◌∙◌, subst, eqb-true}
 use native.Mathlib.Decide.{ℕ_discrete}
-use Rattle.slot_history.specs.declared.shape.TheConstants.{STAGES, PARTS}
 use Rattle.slot_history.specs.declared.shape.Shape.{Shape}
 use Rattle.slot_history.specs.declared.act.Act.{Act}
 use Rattle.slot_history.specs.declared.act.Entry.{Entry}
-use Rattle.slot_history.specs.declared.act.Act.TheVariants.{Enter, LookOpen, LookInvalid, LookVacant, ClaimRange, ClaimUsed, ShutWon, ShutLost, LeaveLeft}
-use Rattle.slot_history.specs.declared.act.Act.TheVariants.{LeaveOwe, PayLast, PayDone, MarkMarked, MarkMissed, SweepLast, SweepOthers, ReserveGot}
-use Rattle.slot_history.specs.declared.act.Act.TheVariants.{ReserveTaken, AdmitGot, AdmitLost, Arrivals, Finished, NoteDone, SetTotal, Install, Release}
-use Rattle.slot_history.specs.declared.act.Act.TheVariants.{Announce, TakeReturn, TakeChange}
+use Rattle.slot_history.specs.declared.act.Act.TheVariants.{SetTotal, Install}
 use Rattle.slot_history.specs.declared.place.Place.{Place}
-use Rattle.slot_history.specs.declared.place.Place.TheVariants.{Holding, Asking, Announcing}
+use Rattle.slot_history.specs.declared.place.Place.TheVariants.{Holding}
 use Rattle.slot_history.specs.States.{held_at, next_id}
-use Rattle.slot_history.specs.Steps.{moved, holding_after}
+use Rattle.slot_history.specs.Steps.{holding_after}
 use Rattle.slot_history.specs.Histories.{IsLegal, IsOfTotals, entry, is_install, own_calls, place_of, total_of}
 use Rattle.slot_history.proofs.Own.{own-mine, own-other}
-use Rattle.stride_set.specs.Strides.{choice_of}
 use Rattle.slot_station.specs.Desks.{Desk}
-use Rattle.turn_model.specs.declared.turn.Turn.{Turn}
-use Rattle.turn_model.specs.Workloads.{Workload, sets_of}
+use Rattle.turn_model.specs.Workloads.{Workload}
 use Rattle.turn_model.specs.Moves.{Move, Made, Exchanged, entries}
-use Rattle.turn_model.specs.Learned.{place_by, lets_in, strides_by, finished_by}
-use Rattle.turn_model.specs.Points.{Point, Ready, Return, Change, Count, Arrive, Scan, Admit, Fill, Opens, Tells, FreeIt, Enters, Look, Early, Take, Claim}
-use Rattle.turn_model.specs.Points.{Shut, Back, Leave, Ask, Sweep, Pay, Fetch, ended_as, picked, pick, asked, told, is_due, goes_on, after, exchanged, point_by}
+use Rattle.turn_model.specs.Learned.{place_by}
+use Rattle.turn_model.specs.Points.{Point, Fill, Opens, Take, Claim, Back, Fetch, after, exchanged, point_by}
 use Rattle.turn_model.specs.Driven.{MayCall, MayExchange, AreDriven}
 use Rattle.turn_model.specs.Runs.{desk_at}
 use Rattle.turn_model.proofs.OwnMoves.{moves-tell}
+use Rattle.turn_model.proofs.PointsAfter.{CallSays, after-says}
 
 -- before an install the total that was set is that of the task set which comes next
 abbrev OpensSays : Desk Workload → List Move → Point → Type 0
 OpensSays D ms Opens = (n : ℕ) → (held_at (place_by D ms)).total ≡ Some n → D.subject.total (next_id (held_at (place_by D ms))) ≡ Some n
 OpensSays D ms x = Unit {0}
 
-says-cond : (D : Desk Workload) (ms : List Move) (b : Bool) (x y : Point) → OpensSays D ms x → OpensSays D ms y → OpensSays D ms (cond b x y)
-says-cond D ms true x y p q = p
-says-cond D ms false x y p q = q
-
-says-picked : (D : Desk Workload) (ms : List Move) (o : Option ℕ) (turn : Turn) → OpensSays D ms (picked o turn)
-says-picked D ms None turn = tt
-says-picked D ms (Some s) turn = tt
-
-says-asked : (D : Desk Workload) (ms : List Move) (n : ℕ) (p : Place) → OpensSays D ms (asked n p)
-says-asked D ms n (Asking s id k m) = says-cond D ms (ltb (k + 1) n) Ask Sweep tt tt
-says-asked D ms n p = tt
-
-says-told : (D : Desk Workload) (ms : List Move) (p : Place) → OpensSays D ms (told p)
-says-told D ms (Announcing s again k) = tt
-says-told D ms p = tt
-
 set-says : (totals : ℕ → Option ℕ) (p : Place) (n : ℕ) → totals (next_id (held_at p)) ≡ Some n → (k : ℕ)
     → (held_at (holding_after (SetTotal n) p)).total ≡ Some k → totals (next_id (held_at (holding_after (SetTotal n) p))) ≡ Some k
 set-says totals (Holding s held) n is k set = is ∙ set
 set-says totals p n is k set = absurd (cc)
 
-call-says : (D : Desk Workload) (ms : List Move) (x : Point) (a : Act) (t : ℕ) → MayCall D ms x a → OpensSays D (Made a t ∷ ms) (after D ms x a)
-call-says D ms (Ready e) (TakeReturn part bits) t m = tt
-call-says D ms (Return k) (TakeReturn part bits) t m = says-cond D (Made (TakeReturn part bits) t ∷ ms) (ltb (k + 1) PARTS) (Return (k + 1)) (Change 0) tt tt
-call-says D ms (Change k) (TakeChange part bits) t m = says-cond D (Made (TakeChange part bits) t ∷ ms) (ltb (k + 1) PARTS) (Change (k + 1)) Count tt tt
-call-says D ms Count (Finished n) t m = tt
-call-says D ms Arrive (Arrivals n) t m =
-    says-cond D (Made (Arrivals n) t ∷ ms) (is_due D n (finished_by D ms)) (Scan 0) (pick D ms) tt
-    (says-picked D (Made (Arrivals n) t ∷ ms) (choice_of (strides_by D ms)) (ended_as (finished_by D ms) (sets_of D.shape D.subject)))
-call-says D ms (Scan s) (ReserveGot k) t m = tt
-call-says D ms (Scan s) (ReserveTaken k word) t m =
-    says-cond D (Made (ReserveTaken k word) t ∷ ms) (ltb (s + 1) D.shape.slots) (Scan (s + 1)) (pick D ms) tt
-    (says-picked D (Made (ReserveTaken k word) t ∷ ms) (choice_of (strides_by D ms)) (ended_as (finished_by D ms) (sets_of D.shape D.subject)))
-call-says D ms Admit (AdmitGot q) t m = tt
-call-says D ms Admit (AdmitLost q now) t m = tt
-call-says D ms (Fill v) (SetTotal n) t m = set-says D.subject.total (place_by D ms) n m.1
-call-says D ms (Fill v) (NoteDone n) t m = tt
-call-says D ms Opens (Install id) t m = tt
-call-says D ms Tells Announce t m = says-told D (Made Announce t ∷ ms) (moved D.shape Announce (place_by D ms))
-call-says D ms FreeIt Release t m = tt
-call-says D ms (Enters s) (Enter k) t m = tt
-call-says D ms Look (LookOpen id) t m = says-cond D (Made (LookOpen id) t ∷ ms) (lets_in D ms (id / STAGES)) Take Early tt tt
-call-says D ms Look LookInvalid t m = tt
-call-says D ms Look LookVacant t m = tt
-call-says D ms Early LeaveLeft t m = tt
-call-says D ms Early (LeaveOwe id) t m = tt
-call-says D ms Claim (ClaimRange n from to) t m = tt
-call-says D ms Claim (ClaimUsed n) t m = tt
-call-says D ms Shut ShutWon t m = tt
-call-says D ms Shut ShutLost t m = tt
-call-says D ms Leave LeaveLeft t m = says-asked D (Made LeaveLeft t ∷ ms) D.shape.workers (moved D.shape LeaveLeft (place_by D ms))
-call-says D ms Leave (LeaveOwe id) t m = tt
-call-says D ms Ask MarkMarked t m = says-asked D (Made MarkMarked t ∷ ms) D.shape.workers (moved D.shape MarkMarked (place_by D ms))
-call-says D ms Ask MarkMissed t m = says-asked D (Made MarkMissed t ∷ ms) D.shape.workers (moved D.shape MarkMissed (place_by D ms))
-call-says D ms Sweep SweepLast t m = tt
-call-says D ms Sweep (SweepOthers n) t m = tt
-call-says D ms Pay PayLast t m = tt
-call-says D ms Pay PayDone t m = tt
-call-says D ms (Fetch v) (NoteDone n) t m = says-cond D (Made (NoteDone n) t ∷ ms) (goes_on D.subject (held_at (place_by D ms)) n) (Fill 0) FreeIt tt tt
-call-says D ms x a t m = absurd m
+call-says : (D : Desk Workload) (ms : List Move) (a : Act) (t : ℕ) (x : Point) → CallSays D ms a x → OpensSays D (Made a t ∷ ms) x
+call-says D ms a t Opens says = subst (λ b. OpensSays D (Made b t ∷ ms) Opens) (sym says.1) (set-says D.subject.total (place_by D ms) says.0 says.2)
+call-says D ms a t Claim says = absurd says
+call-says D ms a t x says = tt
 
 exchange-says : (D : Desk Workload) (ms : List Move) (x : Point) → MayExchange D x → OpensSays D (Exchanged ∷ ms) (exchanged x)
 exchange-says D ms (Fill v) m = tt
@@ -102,7 +45,7 @@ exchange-says D ms x m = absurd m
 
 opens-says : (D : Desk Workload) (ms : List Move) → AreDriven D ms → OpensSays D ms (point_by D ms)
 opens-says D [] driven = tt
-opens-says D (Made a t ∷ ms) driven = call-says D ms (point_by D ms) a t driven.0
+opens-says D (Made a t ∷ ms) driven = call-says D ms a t (after D ms (point_by D ms) a) (after-says D ms (point_by D ms) a driven.0)
 opens-says D (Exchanged ∷ ms) driven = exchange-says D ms (point_by D ms) driven.0
 
 install-at : (D : Desk Workload) (ms : List Move) (x : Point) (id n : ℕ) → MayCall D ms x (Install id) → OpensSays D ms x

@@ -32,3 +32,4 @@ pub mod CompleteRuns
 mod NoneUp
 pub mod OneText
 pub mod FairTurns
+mod Tuples

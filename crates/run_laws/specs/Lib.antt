@@ -6,3 +6,4 @@ pub mod Endings
 pub mod Merging
 pub mod Scheduled
 pub mod Agreeing
+pub mod Tuples

@@ -7,6 +7,7 @@ ghost use Rattle.run_laws.specs.Shares.{SharesAreOfRanges, CountsAreSmall, Share
 ghost use Rattle.run_laws.specs.Endings.{RecordsStay};
 ghost use Rattle.run_laws.specs.Merging.{RoomIsLeft, MergedIsReport};
 ghost use Rattle.run_laws.specs.Scheduled.{WorkersAreFair, RunsAreScheduled};
+ghost use Rattle.run_laws.specs.Tuples.{TilesHoldEach};
 ghost use Rattle.run_laws.specs.Agreeing.{RunsByTurnsAgree, RunsByMovesAgree, OneReport};
 ghost use Rattle.run_laws.specs.Agreeing.{AnsweredServesAll, OneTextByTurns, OneTextByMoves};
 
@@ -71,6 +72,12 @@ pub fn merged_is_report()
 /// the same time ever differ by more than the worker's largest advance.
 pub fn workers_are_fair()
     ensures { WorkersAreFair }
+{}
+
+/// Of claims that tile a total, as those of a finalised task set do, each tuple below the total
+/// lies in exactly one, and no other number lies in any.
+pub fn tiles_hold_each()
+    ensures { TilesHoldEach }
 {}
 
 /// The scheduling theorem. In a run that ended with all workers over, the calls of all workers

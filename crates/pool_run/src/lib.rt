@@ -21,6 +21,8 @@ mod report;
 mod runs;
 mod seats;
 mod stint;
+#[cfg(test)]
+mod tests;
 
 pub use runs::{run_steps, run_turns};
 pub use worker_machine::Ran;

@@ -1,5 +1,5 @@
 -- A command ends as it promises.
-use Rattle.std.proofs.Common.{ℕ, List, refl}
+use Rattle.std.proofs.Common.{ℕ, List}
 use Rattle.sched_tool.proofs.BehaviourLemmas.{AreConsistent, consistent, IsSound, sound}
 use Rattle.sched_tool.proofs.CommandLemmas.{at_answered, at_cannot_read, at_cannot_write, at_memory, at_quiet, at_refused, at_status, at_written}
 use Rattle.sched_tool.proofs.CommandLemmas.{Ends, faults_at_any, refused}
@@ -7,13 +7,10 @@ use Rattle.sched_tool.proofs.CompletenessLemmas.{accepted_ends, refused_ends}
 use Rattle.sched_tool.proofs.OutsideLemmas.{Agree, Agree-swap, known-possible}
 use Rattle.sched_tool.specs.Behaviours.{Behaviour, behaviour_of}
 use Rattle.sched_tool.specs.Promises.{EndsRightly}
-use Rattle.sched_tool.specs.ErrorLines.{error_bytes}
 use Rattle.sched_tool.specs.Outsides.{known, possible}
-use Rattle.sched_tool.specs.Statuses.{memory_status}
 use Rattle.sched_tool.specs.Words.{Meaning}
-use Rattle.sched_tool.specs.Writing.{IsWritten, SinkState}
-use Rattle.sched_tool.specs.declared.program.refusal.Refusal.TheVariants.{OutOfMemory}
-use Rattle.std.specs.Prelude.{Option, None}
+use Rattle.sched_tool.specs.Writing.{SinkState}
+use Rattle.std.specs.Prelude.{Option}
 
 module _ (content : List ℕ → Option (List ℕ)) (times : ℕ → ℕ → ℕ → Type 0) (before after : List (List ℕ)) (old new : SinkState) (result : ℕ) where
   -- how a command ended says all that it promises
@@ -39,10 +36,3 @@ module _ (content : List ℕ → Option (List ℕ)) (times : ℕ → ℕ → ℕ
         accepted = accepted_ends sure may laws same back before after old new result ended;
         found = refused_ends sure may laws same back before after old new result ended;
       }
-
--- the line that memory ran out ends a program that was given no words, and no read met a fault
-pub ends_without_words : (content : List ℕ → Option (List ℕ)) (times : ℕ → ℕ → ℕ → Type 0) (failed : List (List ℕ)) (old new : SinkState) (result : ℕ)
-    → IsWritten old new (error_bytes OutOfMemory) memory_status result
-    → EndsRightly (behaviour_of (possible content times) None) (behaviour_of (known content times) None) failed failed old new result
-ends_without_words content times failed old new result written =
-    ends_rightly content times failed failed old new result None (refused OutOfMemory tt refl written)

@@ -3,14 +3,13 @@ use Rattle.std.proofs.Common.{◌≡◌, ◌≤◌, ◌<◌, ◌+◌, ◌/◌, �
 use Rattle.std.proofs.Common.{arith, ◌∙◌}
 use Rattle.std.proofs.lemmas.Bool.Decides.{nat_tests}
 use Rattle.std.proofs.lemmas.List.{length-map}
-use Rattle.std.proofs.lemmas.List.Folds.{fold-map}
 use Rattle.std.proofs.Math.ListN.{get_or-map}
 use Rattle.std.proofs.lemmas.Option.{slice_get-map}
 use Rattle.std.specs.Option.{option_and_then, option_map, option_map_or}
 use Rattle.std.specs.Arc.{arc_value}
 use Rattle.std.specs.Global.{Global}
 use Rattle.std.specs.declared.sync.Arc.{Arc}
-use Rattle.std.specs.Prelude.{All, if◌then◌else◌, length, map, nat_lt, slice_get, sum_by}
+use Rattle.std.specs.Prelude.{All, if◌then◌else◌, length, map, nat_lt, slice_get}
 use Rattle.plan_ast.specs.Answer.{answer_of}
 use Rattle.plan_ast.specs.Checks.{IsCheckedFor, query_of}
 use Rattle.plan_ast.specs.Stages.{stages_of}
@@ -23,7 +22,7 @@ use Rattle.slot_history.specs.Sets.{sum_below}
 use Rattle.slot_history.specs.declared.shape.Shape.{Shape}
 use Rattle.slot_history.specs.declared.shape.TheConstants.{STAGES}
 use Rattle.turn_model.specs.Measure.{ArriveInTime}
-use Rattle.bench_cell.specs.Plans.{checked_of, sets_of, stages_in, tables_of, total_in_query}
+use Rattle.bench_cell.specs.Plans.{checked_of, tables_of, total_in_query}
 use Rattle.bench_cell.specs.declared.plan.Plan.{Plan}
 use Rattle.pool_run.specs.Runs as runs
 use Rattle.pool_run.specs.Runs.{MayRun}
@@ -158,11 +157,3 @@ pub queries_are : (plan : Plan) (subject : Subject) → subject_of_plan plan ≡
 queries_are plan subject is =
     sym (length-map (checked_of plan) query_of ∙ length-map plan.queries.items arc_value)
     ∙ ap (λ (s : Subject). length s.queries) is
-
-sum_by-map : {X Y : Type 0} (number : Y → ℕ) (f : X → Y) (xs : List X) → sum_by number (map f xs) ≡ sum_by (λ x. number (f x)) xs
-sum_by-map number f xs = fold-map (λ sum y. sum + number y) f 0 xs
-
-pub sets_are : (plan : Plan) (subject : Subject) → subject_of_plan plan ≡ subject → sets_of plan ≡ sum_by stages_of subject.queries
-sets_are plan subject is =
-    sym (sum_by-map stages_of query_of (checked_of plan) ∙ sum_by-map stages_in arc_value plan.queries.items)
-    ∙ ap (λ (s : Subject). sum_by stages_of s.queries) is

@@ -304,6 +304,13 @@ fn answers_joins(rt: HostRuntime) -> Result<(), Fail> {
             TABLE,
             "query 0 lines 1\ntotal 5\nend\n",
         ),
+        // Each row joins all rows, since all keys are equal.
+        (
+            r#"{"scan":"t","joins":[{"table":"t","left":"k","right":"k"}],
+                "output":{"totals":[{"fn":"count"}]}}"#,
+            "k\n1\n1\n1\n",
+            "query 0 lines 1\ntotal 9\nend\n",
+        ),
         // A filter on the joined table.
         (
             r#"{"scan":"t","joins":[{"table":"u","left":"k","right":"k",

@@ -1,9 +1,10 @@
-use Rattle.std.proofs.Common.{◌≡◌, ℕ, ◌+◌, ◌<◌, ◌≤◌, ◌&&◌, Bool, true, false, Option, Some, None, MatchOption, suc, zero, List, length, cond, nat_lt, refl}
-use Rattle.std.proofs.Common.{sym, ap}
-use Rattle.std.proofs.Common.{subst, ◌∙◌, ⊎_elim, add-one, below_more, ltb-true, ltb-false, arith}
+use Rattle.std.proofs.Common.{◌≡◌, ℕ, ◌+◌, ◌<◌, ◌≤◌, ◌&&◌, ◌||◌, Bool, true, false, Option, Some, None, MatchOption, suc, zero, List, length, cond, nat_lt}
+use Rattle.std.proofs.Common.{refl, sym, ap, subst, ◌∙◌, ⊎_elim, add-one, below_more, ltb-true, ltb-false, arith}
 use Rattle.std.proofs.lemmas.Bool.{cases_lt, false≢true}
+use Rattle.std.proofs.lemmas.Option.{none-some, same_Some}
+use Rattle.std.specs.Option.{is_none}
 use Rattle.stride_set.specs.declared.Slot.{Slot}
-use Rattle.stride_set.specs.Slots.{comes_before, choice_among, choice_from, active_in, pass_in, IsLeastActive}
+use Rattle.stride_set.specs.Slots.{comes_before, choice_among, choice_from, active_in, pass_in, IsLeastActive, IsReach}
 
 -- what the choice of n slots says
 abbrev pub IsChoiceOf : ℕ → (ℕ → Bool) → (ℕ → ℕ) → Option ℕ → Type 0
@@ -60,7 +61,7 @@ choice_from-is zero active pass = λ s below. absurd (omega arith)
 choice_from-is (suc n) active pass = choice_from-more n active pass (choice_from n active pass) (choice_from-is n active pass)
 
 -- among no slot there is none to choose
-pub choice_from-none : (active : ℕ → Bool) (pass : ℕ → ℕ) → None ≡ choice_from 0 active pass
+choice_from-none : (active : ℕ → Bool) (pass : ℕ → ℕ) → None ≡ choice_from 0 active pass
 unfolding choice_from
 choice_from-none active pass = refl
 
@@ -70,13 +71,61 @@ choice_from-next : (n : ℕ) (active : ℕ → Bool) (pass : ℕ → ℕ) (befor
 unfolding choice_from
 choice_from-next n active pass before is = rw (add-one, is) refl
 
-pub choice_from-takes : (n : ℕ) (active : ℕ → Bool) (pass : ℕ → ℕ) (before : Option ℕ) → before ≡ choice_from n active pass → active n ≡ true →
+choice_from-takes : (n : ℕ) (active : ℕ → Bool) (pass : ℕ → ℕ) (before : Option ℕ) → before ≡ choice_from n active pass → active n ≡ true →
     comes_before pass n before ≡ true → Some n ≡ choice_from (n + 1) active pass
 choice_from-takes n active pass before is on less = rw (choice_from-next n active pass before is, on, less) refl
 
-pub choice_from-keeps : (n : ℕ) (active : ℕ → Bool) (pass : ℕ → ℕ) (before : Option ℕ) → before ≡ choice_from n active pass →
+choice_from-keeps : (n : ℕ) (active : ℕ → Bool) (pass : ℕ → ℕ) (before : Option ℕ) → before ≡ choice_from n active pass →
     (active n && comes_before pass n before) ≡ false → before ≡ choice_from (n + 1) active pass
 choice_from-keeps n active pass before is stays = rw (choice_from-next n active pass before is, stays) refl
+
+-- slots that are not active change no choice
+choice_from-reach : (n : ℕ) (active : ℕ → Bool) (pass : ℕ → ℕ) (reach : ℕ) → reach ≤ n → ((s : ℕ) → reach ≤ s → active s ≡ false)
+    → choice_from reach active pass ≡ choice_from n active pass
+unfolding choice_from
+choice_from-reach zero active pass reach within idle = ap (λ k. choice_from k active pass) none
+  where
+    none : reach ≡ 0
+    none = omega arith
+choice_from-reach (suc n) active pass reach within idle = ⊎_elim (λ all. ap (λ k. choice_from k active pass) (same all))
+    (λ past. rw (idle n past) (choice_from-reach n active pass reach past idle)) (cases_lt n reach)
+  where
+    same : n < reach → reach ≡ suc n
+    same all = omega arith
+
+-- and so of the slots of a list
+pub choice_among-reach : (slots : List Slot) (reach : ℕ) → IsReach slots reach → choice_from reach (active_in slots) (pass_in slots) ≡ choice_among slots
+choice_among-reach slots reach h = choice_from-reach (length slots) (active_in slots) (pass_in slots) reach h.within h.idle_beyond
+
+-- `choice` is the choice of the first n slots, and `low` its pass, if there is one
+pub record HasChoice (n : ℕ) (active : ℕ → Bool) (pass : ℕ → ℕ) (choice : Option ℕ) (low : ℕ) : Type 0 where
+  pub chosen : choice ≡ choice_from n active pass
+  pub pass_is : (s : ℕ) → choice ≡ Some s → low ≡ pass s
+
+-- so a slot comes before it exactly where there is none yet or its pass is less
+comes_before-is : (pass : ℕ → ℕ) (n : ℕ) (choice : Option ℕ) (low : ℕ) → ((s : ℕ) → choice ≡ Some s → low ≡ pass s)
+    → comes_before pass n choice ≡ (is_none choice || nat_lt (pass n) low)
+comes_before-is pass n None low is = refl
+comes_before-is pass n (Some s) low is = ap (nat_lt (pass n)) (sym (is s refl))
+
+-- among no slot there is none to choose
+pub HasChoice-none : (active : ℕ → Bool) (pass : ℕ → ℕ) (low : ℕ) → HasChoice 0 active pass None low
+HasChoice-none active pass low = record { chosen = choice_from-none active pass; pass_is = λ s is. absurd (none-some s is) }
+
+-- and one more slot is chosen, or the choice before stays
+pub HasChoice-take : (n : ℕ) (active : ℕ → Bool) (pass : ℕ → ℕ) (choice : Option ℕ) (low : ℕ) → HasChoice n active pass choice low → active n ≡ true
+    → (is_none choice || nat_lt (pass n) low) ≡ true → HasChoice (n + 1) active pass (Some n) (pass n)
+HasChoice-take n active pass choice low h on less = record {
+  chosen = choice_from-takes n active pass choice h.chosen on (comes_before-is pass n choice low h.pass_is ∙ less);
+  pass_is = λ s is. ap pass (same_Some n s is);
+}
+
+pub HasChoice-keep : (n : ℕ) (active : ℕ → Bool) (pass : ℕ → ℕ) (choice : Option ℕ) (low : ℕ) → HasChoice n active pass choice low
+    → (active n && (is_none choice || nat_lt (pass n) low)) ≡ false → HasChoice (n + 1) active pass choice low
+HasChoice-keep n active pass choice low h stays = record {
+  chosen = choice_from-keeps n active pass choice h.chosen (ap (λ b. active n && b) (comes_before-is pass n choice low h.pass_is) ∙ stays);
+  pass_is = h.pass_is;
+}
 
 -- so what was chosen is the active slot of least pass
 pub choice_from-chosen : (n : ℕ) (active : ℕ → Bool) (pass : ℕ → ℕ) (choice : Option ℕ) (s : ℕ) → choice ≡ choice_from n active pass → choice ≡ Some s

@@ -1,6 +1,5 @@
 -- What is kept of a set after a slot joins it, and how the widest gap counts the join.
-use Rattle.std.proofs.Common.{◌≡◌, ℕ, ◌^◌, ◌<◌, List, length, set, max, true, subst, sym, ap, ◌∙◌}
-use Rattle.std.proofs.lemmas.List.{length-set}
+use Rattle.std.proofs.Common.{◌≡◌, ℕ, List, set, max, true, subst, sym, ap, ◌∙◌}
 use Rattle.stride_set.specs.declared.Slot.{Slot}
 use Rattle.stride_set.specs.Slots.{spread_among}
 use Rattle.stride_set.specs.Strides.{StrideState, Call, IsBounded, IsLawful, strides_of, stride_after}
@@ -18,8 +17,8 @@ module _ (v : StrideState) (s p : ℕ) where
   widest-joined read spread widest reads spreads w = w ∙ ap (max v.widest) (spreads ∙ ap spread_among reads)
 
   -- the set then is bounded, where the join is this call of the set, which contracts see as `old`
-  pub kept-joined : (call : Call) (widest : ℕ) {old : StrideState} → IsBounded (strides_of v) × (length v.slots < 2 ^ 32) → v ≡ old
+  pub bounded-joined : (call : Call) (widest : ℕ) {old : StrideState} → IsBounded (strides_of v) → v ≡ old
       → IsLawful (strides_of old) call → strides_of (record v { slots = slots_joined; widest = widest }) ≡ stride_after (strides_of old) call
-      → IsBounded (strides_of (record v { slots = slots_joined; widest = widest })) × (length slots_joined < 2 ^ 32)
-  kept-joined call widest {old = old} kept seen lawful is =
-      (subst IsBounded (sym is) (stride_after-bounded (strides_of old) call (subst (λ x. IsBounded (strides_of x)) seen kept.0) lawful), rw length-set kept.1)
+      → IsBounded (strides_of (record v { slots = slots_joined; widest = widest }))
+  bounded-joined call widest {old = old} bounded seen lawful is =
+      subst IsBounded (sym is) (stride_after-bounded (strides_of old) call (subst (λ x. IsBounded (strides_of x)) seen bounded) lawful)

@@ -3,3 +3,4 @@ pub mod Choices
 pub mod Bounds
 pub mod Writes
 pub mod Joins
+pub mod Reaches

@@ -1,7 +1,8 @@
-use Rattle.std.proofs.Common.{◌≡◌, ℕ, ◌+◌, ◌-◌, ◌^◌, ◌<◌, ◌≤◌, ◌⊎◌, ◌&&◌, Bool, true, false, suc, zero, min, max, cond, refl, sym, ap, ◌∙◌, ⊎_elim}
-use Rattle.std.proofs.Common.{inl, inr, below_more, arith}
+use Rattle.std.proofs.Common.{◌≡◌, ℕ, ◌+◌, ◌-◌, ◌^◌, ◌<◌, ◌≤◌, ◌⊎◌, ◌&&◌, Bool, true, false, suc, zero, min, max, cond, List, length, refl, sym, ap}
+use Rattle.std.proofs.Common.{◌∙◌, ⊎_elim, inl, inr, below_more, arith}
 use Rattle.std.proofs.lemmas.Bool.{cases_lt, false≢true}
-use Rattle.stride_set.specs.Slots.{greatest, lead_of, spread_from}
+use Rattle.stride_set.specs.declared.Slot.{Slot}
+use Rattle.stride_set.specs.Slots.{greatest, lead_of, spread_from, spread_among, active_in, pass_in, IsReach}
 
 -- the greatest of f bounds each
 pub greatest-bound : (n : ℕ) (f : ℕ → ℕ) (k : ℕ) → k < n → f k ≤ greatest n f
@@ -40,6 +41,24 @@ pub spread_from-least : (n : ℕ) (active : ℕ → Bool) (pass : ℕ → ℕ) (
     ((s t : ℕ) → s < n → t < n → active s ≡ true → active t ≡ true → pass s - pass t ≤ m) → spread_from n active pass ≤ m
 spread_from-least n active pass m h =
     greatest-least n _ m (λ s hs. greatest-least n _ m (λ t ht. lead_of-least active pass s t m (h s t hs ht)))
+
+-- slots that are not active change no spread
+spread_from-reach : (n : ℕ) (active : ℕ → Bool) (pass : ℕ → ℕ) (reach : ℕ) → reach ≤ n → ((s : ℕ) → reach ≤ s → active s ≡ false)
+    → spread_from reach active pass ≡ spread_from n active pass
+spread_from-reach n active pass reach within idle = omega (arith, fewer, more)
+  where
+    below : (s : ℕ) → active s ≡ true → s < reach
+    below s on = ⊎_elim (λ lt. lt) (λ past. absurd (false≢true (sym (idle s past) ∙ on))) (cases_lt s reach)
+
+    fewer : spread_from reach active pass ≤ spread_from n active pass
+    fewer = spread_from-least reach active pass _ (λ s t hs ht. spread_from-bound n active pass s t (omega arith) (omega arith))
+
+    more : spread_from n active pass ≤ spread_from reach active pass
+    more = spread_from-least n active pass _ (λ s t hs ht on_s on_t. spread_from-bound reach active pass s t (below s on_s) (below t on_t) on_s on_t)
+
+-- and so of the slots of a list
+pub spread_among-reach : (slots : List Slot) (reach : ℕ) → IsReach slots reach → spread_from reach (active_in slots) (pass_in slots) ≡ spread_among slots
+spread_among-reach slots reach h = spread_from-reach (length slots) (active_in slots) (pass_in slots) reach h.within h.idle_beyond
 
 -- among the first n slots `low` is the least active pass and `high` the greatest, if any slot is active
 pub record HasEnds (n : ℕ) (active : ℕ → Bool) (pass : ℕ → ℕ) (low high : ℕ) : Type 0 where

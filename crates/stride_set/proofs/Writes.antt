@@ -8,8 +8,8 @@ use Rattle.stride_set.specs.declared.Slot.{Slot}
 use Rattle.stride_set.specs.declared.TheConstants.{STRIDE_UNIT}
 use Rattle.stride_set.specs.Slots.{idle, active_in, pass_in, spread_from, spread_among}
 use Rattle.stride_set.proofs.Spreads.{spread_from-bound, spread_from-least}
-use Rattle.stride_set.specs.Strides.{StrideState, Strides, IsBounded, MayAdvance, moved_by, spread_of, JoinChange, JoinReturn, DropSlot, Choose, Advance, strides_of, stride_after, advance_of}
-use Rattle.stride_set.specs.Strides.{new_strides, with_one}
+use Rattle.stride_set.specs.Strides.{StrideState, Strides, IsBounded, MayAdvance, moved_by, spread_of, JoinChange}
+use Rattle.stride_set.specs.Strides.{JoinReturn, DropSlot, Choose, Advance, strides_of, stride_after, advance_of, new_strides, with_one}
 
 -- the changed function at its place, and elsewhere
 pub with_one-same : {A : Type 0} (f : ℕ → A) (k j : ℕ) (x : A) → j ≡ k → with_one f k x j ≡ x

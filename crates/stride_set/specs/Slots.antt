@@ -11,6 +11,11 @@ idle = record { active = false; pass = 0 }
 abbrev pub active_in : List Slot → ℕ → Bool
 active_in slots s = (slice_index_or slots s idle).active
 
+-- each active slot of a list is among the first `reach`
+pub record IsReach (slots : List Slot) (reach : ℕ) : Type 0 where
+  pub within : reach ≤ length slots
+  pub idle_beyond : (s : ℕ) → reach ≤ s → active_in slots s ≡ false
+
 -- the passes of the slots of a list
 abbrev pub pass_in : List Slot → ℕ → ℕ
 pass_in slots s = (slice_index_or slots s idle).pass

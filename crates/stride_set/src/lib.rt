@@ -29,8 +29,7 @@
 
 ghost use Rattle.std.specs.Prelude.{◌≡◌, ◌↔◌, ℕ, List, ◌+◌, ◌*◌, ◌^◌, ◌<◌, ◌≤◌, length, fold, true};
 ghost use Rattle.std.specs.Prelude.{false, max, IfOk, IfSome, IfNone, IsTrue};
-ghost use Rattle.std.specs.Option.{ForSome};
-ghost use Rattle.stride_set.specs.Slots.{pass_in, spread_among, choice_among, comes_before};
+ghost use Rattle.stride_set.specs.Slots.{IsReach, spread_among, choice_among};
 ghost use Rattle.stride_set.specs.Strides.{StrideState, Strides, Call, JoinChange, JoinReturn};
 ghost use Rattle.stride_set.specs.Strides.{DropSlot, Choose, Advance, IsChoice, MayAdvance};
 ghost use Rattle.stride_set.specs.Strides.{IsBounded, AreLawful, strides_of, new_strides};
@@ -61,23 +60,23 @@ pub struct Slot {
 #[derive(Debug, Drop)]
 pub struct StrideSet {
     slots: Vec<Slot>,
+    // No slot from this number on was ever active.
+    reach: usize,
     floor: u128,
     largest: u64,
     widest: u128,
 }
 
 impl Model for StrideSet {
-    ghost use Rattle.std.specs.Prelude.{◌<◌, ◌^◌, length};
-    ghost use Rattle.stride_set.specs.Strides.{StrideState, IsBounded, strides_of};
+    ghost use Rattle.stride_set.specs.Strides.{StrideState};
 
     ghost Value = { StrideState };
 
-    ghost use Rattle.stride_set.specs.Fields.{state_of};
+    ghost use Rattle.stride_set.specs.Fields.{state_of, IsStrideSet};
 
     ghost view = { state_of };
 
-    ghost invariant = { λ a. IsBounded (strides_of (state_of a))
-        × (length a.slots.items < 2 ^ 32) };
+    ghost invariant = { IsStrideSet };
 }
 
 impl StrideSet {
@@ -92,6 +91,7 @@ impl StrideSet {
         };
         Ok(StrideSet {
             slots: vec![in alloc; idle; slots as usize]?,
+            reach: 0,
             floor: 0,
             largest: 0,
             widest: 0,
@@ -105,7 +105,8 @@ impl StrideSet {
         self.slots.len() as u32
     }
 
-    /// Slot `s` joins at the floor, as with new work. Takes one pass over the slots.
+    /// Slot `s` joins at the floor, as with new work. Takes one pass over the slots up to the last
+    /// one that was ever active.
     pub fn join_change(&mut self, s: u32)
         requires { s < (strides_of self.old).slots }
         ensures { strides_of self.new ≡ stride_after (strides_of self.old) (JoinChange s) }
@@ -114,18 +115,21 @@ impl StrideSet {
             active: true,
             pass: self.floor,
         };
-        self.widest = self.widest.max(spread(&self.slots));
+        self.reach = self.reach.max(s as usize + 1);
+        self.widest = self.widest.max(spread(&self.slots, self.reach));
     }
 
     /// Slot `s` joins again with its old work: at its old pass, but not below the floor, whether it
-    /// was active or not. Takes one pass over the slots.
+    /// was active or not. Takes one pass over the slots up to the last one that was ever active.
     pub fn join_return(&mut self, s: u32)
         requires { s < (strides_of self.old).slots }
         ensures { strides_of self.new ≡ stride_after (strides_of self.old) (JoinReturn s) }
     {
-        let pass = self.slots[s as usize].pass.max(self.floor);
-        self.slots[s as usize] = Slot { active: true, pass };
-        self.widest = self.widest.max(spread(&self.slots));
+        let index = s as usize;
+        let pass = self.slots[index].pass.max(self.floor);
+        self.slots[index] = Slot { active: true, pass };
+        self.reach = self.reach.max(index + 1);
+        self.widest = self.widest.max(spread(&self.slots, self.reach));
     }
 
     /// Slot `s` is active no longer; its pass is kept. Takes constant time.
@@ -137,7 +141,8 @@ impl StrideSet {
     }
 
     /// The active slot of least pass, the least slot among ties, whose pass becomes the floor; none
-    /// exactly where no slot is active, and then nothing changes. Takes one pass over the slots.
+    /// exactly where no slot is active, and then nothing changes. Takes one pass over the slots up
+    /// to the last one that was ever active.
     pub fn choose(&mut self) -> Option<u32>
         ensures choice { result ≡ choice_of (strides_of self.old) }
         ensures least { IfSome result (λ s. IsChoice (strides_of self.old) s) }
@@ -148,7 +153,7 @@ impl StrideSet {
             strides_of self.new ≡ stride_after (strides_of self.old) (Choose s)) }
         ensures unchanged { IfNone result (self.new ≡ self.old) }
     {
-        let s = choice(&self.slots)?;
+        let s = choice(&self.slots, self.reach)?;
         self.floor = self.slots[s as usize].pass;
         Some(s)
     }
@@ -156,7 +161,8 @@ impl StrideSet {
     /// The pass of slot `s` grows by its stride for `ns` nanoseconds at this priority (100 to
     /// 10,000 in use), and stays at 2^128 - 1 where it would pass it. The slot is active and at the
     /// floor, as after the `choose` that answered it, with no advance since. Takes one pass over
-    /// the slots if the advance is greater than the widest gap so far, else constant time.
+    /// the slots up to the last one that was ever active if the advance is greater than the widest
+    /// gap so far, else constant time.
     pub fn advance(&mut self, s: u32, ns: u64, priority: u32)
         requires chosen { MayAdvance (strides_of self.old) s }
         requires time { ns ≤ 2 ^ 36 }
@@ -167,7 +173,7 @@ impl StrideSet {
         let slot = &mut self.slots[s as usize];
         slot.pass = slot.pass.saturating_add(u128::from(advance));
         self.largest = self.largest.max(advance);
-        self.widest = widened(self.widest, advance, &self.slots);
+        self.widest = widened(self.widest, advance, &self.slots, self.reach);
     }
 
     /// Whether slot `s` may advance, for a caller who did not keep what `choose` answered. Takes
@@ -222,13 +228,15 @@ impl StrideSet {
     }
 }
 
-// The greatest difference of the passes of two active slots.
-fn spread(slots: &[Slot]) -> u128
+// The greatest difference of the passes of two active slots; no slot from `reach` on is active.
+fn spread(slots: &[Slot], reach: usize) -> u128
+    requires { IsReach slots.now reach }
     ensures { result ≡ spread_among slots.now }
 {
     let mut least = u128::MAX;
     let mut greatest = 0u128;
-    for slot in slots {
+    for s in 0..reach {
+        let slot = &slots[s];
         if slot.active {
             least = least.min(slot.pass);
             greatest = greatest.max(slot.pass);
@@ -239,41 +247,35 @@ fn spread(slots: &[Slot]) -> u128
 
 // The widest gap after an advance of the slot that was behind all others: it leads none of them by
 // more than the advance, so that a small one needs no pass over the slots.
-fn widened(widest: u128, advance: u64, slots: &[Slot]) -> u128
-    requires { spread_among slots.now ≤ max widest advance }
+fn widened(widest: u128, advance: u64, slots: &[Slot], reach: usize) -> u128
+    requires small { spread_among slots.now ≤ max widest advance }
+    requires reach { IsReach slots.now reach }
     ensures { result ≡ max widest (spread_among slots.now) }
 {
     if u128::from(advance) <= widest {
         widest
     } else {
-        widest.max(spread(slots))
+        widest.max(spread(slots, reach))
     }
 }
 
-// The first active slot of least pass.
-fn choice(slots: &[Slot]) -> Option<u32>
-    requires { length slots.now < 2 ^ 32 }
+// The first active slot of least pass; no slot from `reach` on is active.
+fn choice(slots: &[Slot], reach: usize) -> Option<u32>
+    requires few { length slots.now < 2 ^ 32 }
+    requires reach { IsReach slots.now reach }
     ensures { result ≡ choice_among slots.now }
 {
     let mut choice = None;
-    for (s, slot) in slots.iter().enumerate() {
-        if slot.active && comes_before(slots, s, choice) {
+    // The pass of the choice so far, if there is one.
+    let mut least = 0;
+    for s in 0..reach {
+        let slot = &slots[s];
+        if slot.active && (choice.is_none() || slot.pass < least) {
             choice = Some(s as u32);
+            least = slot.pass;
         }
     }
     choice
-}
-
-// Whether the pass of slot `s` is less than that of the choice so far, or there is none yet.
-fn comes_before(slots: &[Slot], s: usize, choice: Option<u32>) -> bool
-    requires in_range { s < length slots.now }
-    requires choice_in_range { ForSome choice (λ t. t < length slots.now) }
-    ensures { result ≡ comes_before (pass_in slots.now) s choice }
-{
-    match choice {
-        None => true,
-        Some(t) => slots[s].pass < slots[t as usize].pass,
-    }
 }
 
 /// The law of the bounds: after any lawful calls of a new set each active pass lies within the

@@ -24,8 +24,12 @@ invariant_of-self c =
     let v = state_of c.self.inside in
     let least = chosen-least v.slots c.choice.result c.in_ok-s.s (c.choice.ensures ∙ ap choice_among c.deref.ensures.value) c.in_ok-s.was in
     let pass = pass_in-read v.slots c.in_ok-s.s c.index.result.now least.in_range c.index.ensures in
-    let e = strides_of-choose v c.in_ok-s.s c.index.result.now.pass pass c.self.invariant.0.counted in
-    (subst IsBounded (sym e) (stride_after-bounded (strides_of v) (Choose c.in_ok-s.s) c.self.invariant.0 least), c.self.invariant.1)
+    let e = strides_of-choose v c.in_ok-s.s c.index.result.now.pass pass c.self.invariant.bounded.counted in
+    record {
+      bounded = subst IsBounded (sym e) (stride_after-bounded (strides_of v) (Choose c.in_ok-s.s) c.self.invariant.bounded least);
+      few = c.self.invariant.few;
+      reach = c.self.invariant.reach;
+    }
 
 pub returns-clause-least : goal.returns-clause-least
 returns-clause-least c =
@@ -38,7 +42,7 @@ returns-clause-floor c =
     let v = state_of c.self.inside in
     let least = chosen-least v.slots c.choice.result c.in_ok-s.s (c.choice.ensures ∙ ap choice_among c.deref.ensures.value) c.in_ok-s.was in
     let pass = pass_in-read v.slots c.in_ok-s.s c.index.result.now least.in_range c.index.ensures in
-    rw (← c.self.view_is) (strides_of-choose v c.in_ok-s.s c.index.result.now.pass pass c.self.invariant.0.counted)
+    rw (← c.self.view_is) (strides_of-choose v c.in_ok-s.s c.index.result.now.pass pass c.self.invariant.bounded.counted)
 
 pub returns-clause-may_advance : goal.returns-clause-may_advance
 returns-clause-may_advance c =

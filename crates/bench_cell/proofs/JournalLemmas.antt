@@ -1,5 +1,6 @@
 -- The claims of benches that fit claims: just these, the oldest first.
-use Rattle.std.proofs.Common.{◌≡◌, ◌≢◌, ◌⊎◌, ◌&&◌, ◌++◌, ◌+◌, ◌<◌, ◌≤◌, ℕ, suc, Bool, true, false, All, List, [], ◌∷◌, Some, arith, cond, refl, ap, eqb, subst, sym, ◌∙◌, inl, inr, length, map, reverse, slice_get, get_or, ⊎_elim}
+use Rattle.std.proofs.Common.{◌≡◌, ◌≢◌, ◌⊎◌, ◌&&◌, ◌++◌, ◌+◌, ◌<◌, ◌≤◌, ℕ, suc, Bool, true, false, All, List, [], ◌∷◌, Some, arith, cond, refl, ap}
+use Rattle.std.proofs.Common.{eqb, subst, sym, ◌∙◌, inl, inr, length, map, reverse, slice_get, get_or, ⊎_elim}
 use Rattle.std.specs.List.{flat_map, sum_by}
 use Rattle.std.specs.List.Sorted.{IsSortedByKey}
 use Rattle.std.specs.Ordering.{is_lt, nat_cmp}
@@ -11,6 +12,7 @@ use Rattle.std.proofs.lemmas.List.Elements.{All-head, All-tail}
 use Rattle.std.proofs.lemmas.List.Sorted.{IsPermutation-map, IsPermutation-reverse, ranks_by, sorted_far, sum_by-IsPermutation}
 use Rattle.std.proofs.lemmas.Map.Keys.{ge_from_not_lt}
 use Rattle.std.proofs.lemmas.List.Sums.{sum_by-append, sum_by-cons}
+use Rattle.plan_ast.proofs.CountedLemmas.{has_first, same_lists}
 use Rattle.report_text.specs.declared.report.ClaimOf.{ClaimOf}
 use Rattle.slot_history.specs.Histories.{Morsel, Tiles, ranges_by}
 use Rattle.bench_cell.specs.Benches.{ranges_in}
@@ -70,10 +72,7 @@ worker_same c d is =
     eqb-true c.worker d.worker (both_true (eqb c.to d.to) (eqb c.worker d.worker) rest.1).1
 
 times_first : (c : ClaimOf) (claims : List ClaimOf) → 1 ≤ times c (c ∷ claims)
-times_first c claims =
-    let this = weight_itself c in
-    let all = sum_by-cons (weight c) c claims in
-    omega (arith, this, all)
+times_first c claims = has_first weight c claims (weight_itself c)
 
 -- ---- lists of claims that ascend
 
@@ -136,24 +135,7 @@ first_same c d claims others up above same =
 
 -- lists with the same claims that ascend are equal
 one_order : (claims others : List ClaimOf) → AscendsApart claims → Ascends others → ((e : ClaimOf) → times e claims ≡ times e others) → claims ≡ others
-one_order [] [] up above same = refl
-one_order [] (d ∷ others) up above same =
-    let some = times_first d others in
-    let both = same d in
-    absurd (omega (arith, some, both))
-one_order (c ∷ claims) [] up above same =
-    let some = times_first c claims in
-    let both = same c in
-    absurd (omega (arith, some, both))
-one_order (c ∷ claims) (d ∷ others) up above same =
-    let first : c ≡ d = first_same c d claims others up above same in
-    let rest : claims ≡ others = one_order claims others up.1 above.1 (λ e.
-    let one = sum_by-cons (weight e) c claims in
-    let other = sum_by-cons (weight e) d others in
-    let alike : weight e c ≡ weight e d = ap (weight e) first in
-    let both = same e in
-    omega (arith, one, other, alike, both)) in
-    cc
+one_order = same_lists weight AscendsApart Ascends weight_itself (λ c claims up. up.1) (λ d others above. above.1) first_same
 
 -- ---- what a sort gives
 
@@ -287,7 +269,8 @@ note_all plan id claims benches fit whole = λ i bench at c.
     let own : List (ℕ × ℕ) = ranges_by i claims in
     ap (λ n. times c (map (claim_by n) (ranges_in bench))) (fit.each i bench at).worker_is
     ∙ ap (λ (l : List (ℕ × ℕ)). times c (map (claim_by i) l)) (fitted_ranges plan id claims benches fit whole i bench at)
-    ∙ sum_by-IsPermutation (weight c) (map (claim_by i) own) (map (claim_by i) (reverse own)) (IsPermutation-map (claim_by i) own (reverse own) (IsPermutation-reverse own))
+    ∙ sum_by-IsPermutation (weight c) (map (claim_by i) own) (map (claim_by i) (reverse own))
+        (IsPermutation-map (claim_by i) own (reverse own) (IsPermutation-reverse own))
     ∙ ap (λ n. times c (map (claim_by n) (ranges_by n claims))) (omega arith)
 
 times_all : (claims : List Morsel) (benches : List Bench) (c : ClaimOf) → NoteFrom claims 0 benches

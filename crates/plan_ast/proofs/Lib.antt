@@ -1,5 +1,6 @@
 pub mod AggregateLemmas
 pub mod CloneLemmas
+pub mod CountedLemmas
 pub mod FoldLemmas
 pub mod FoundLemmas
 pub mod JoinsLemmas

@@ -1,5 +1,5 @@
 -- Bytes that are no name.
-use Rattle.std.proofs.Common.{◌≡◌, ℕ, ◌<◌, List, Bool, length, true, false, nat_le, arith, refl, sym, true≢false, ◌∙◌, IsUtf8}
+use Rattle.std.proofs.Common.{◌≡◌, ℕ, ◌<◌, List, Bool, length, true, false, nat_le, arith, refl, IsUtf8}
 use Rattle.std.proofs.lemmas.Bool.Decides.{nat_tests}
 use Rattle.col_table.specs.Name.{IsName, is_name}
 use Rattle.col_table.specs.declared.name.TheConstants.{MAX_NAME_BYTES}
@@ -9,9 +9,6 @@ pub is_name-long : (bytes : List ℕ) → MAX_NAME_BYTES < length bytes → is_n
 is_name-long bytes long =
     let beyond : nat_le (length bytes) MAX_NAME_BYTES ≡ false = grind (arith, nat_tests) in
     rw beyond
-
-pub not_IsName-long : (bytes : List ℕ) → MAX_NAME_BYTES < length bytes → ¬ (IsName bytes)
-not_IsName-long bytes long name = absurd (true≢false (sym name.is ∙ is_name-long bytes long))
 
 -- a text is a name, or the test fails
 pub false-from_not : (b : Bool) → (b ≡ true → ⊥) → b ≡ false

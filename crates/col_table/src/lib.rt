@@ -6,6 +6,9 @@
 //! The one fact that they may use: a table is a list of names and a list of rows (`NamedRows`).
 //! There are 1 to 32 names, and no two are equal. Each row has one value for each name, and there
 //! are at most 1,048,576 rows (`IsTable`). `ColumnName::as_str` says that a name is valid.
+//!
+//! It also has what the readers of texts above share: bytes without their byte order mark
+//! (`without_mark`), and what it means that exactly one verdict is right (`HasOneVerdict`).
 #![tactic(auto)]
 
 mod lists;

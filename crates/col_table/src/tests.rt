@@ -134,3 +134,28 @@ fn wraps_lists_and_texts(rt: HostRuntime) -> Result<(), Fail> {
     assert_eq!(rt; text.into_string().as_str(), "t.csv");
     Ok(())
 }
+
+#[test]
+fn drops_a_byte_order_mark(rt: HostRuntime) {
+    for (bytes, rest) in [
+        (b"\xEF\xBB\xBFk".as_slice(), b"k".as_slice()),
+        (b"\xEF\xBB\xBF\xEF\xBB\xBF", b"\xEF\xBB\xBF"),
+        (b"\xEF\xBB", b"\xEF\xBB"),
+        (b"", b""),
+    ] {
+        assert_eq!(rt; without_mark(bytes), rest);
+    }
+}
+
+#[test]
+fn tells_control_characters(rt: HostRuntime) {
+    for (text, plain) in [
+        ("", true),
+        ("a b", true),
+        ("\u{80}", true),
+        ("a\tb", false),
+        ("\u{7f}", false),
+    ] {
+        assert_eq!(rt; is_plain(text), plain);
+    }
+}

@@ -1,5 +1,6 @@
 -- What a bench holds after one more range.
-use Rattle.std.proofs.Common.{◌≡◌, ◌⊎◌, ◌||◌, ◌++◌, ℕ, Bool, true, false, List, [], ◌∷◌, Option, Some, None, MatchOption, IfSome, refl, ap, sym, subst, ◌∙◌, reverse, inl, inr}
+use Rattle.std.proofs.Common.{◌≡◌, ◌⊎◌, ◌||◌, ◌++◌, ℕ, Bool, true, false, List, [], ◌∷◌, Option, Some, None, MatchOption, IfSome, refl, ap, sym}
+use Rattle.std.proofs.Common.{subst, ◌∙◌, option_map, reverse, inl, inr}
 use Rattle.std.proofs.Math.Path.{fun_ext}
 use Rattle.std.proofs.lemmas.List.{reverse-append}
 use Rattle.std.proofs.lemmas.Option.{none-some}
@@ -29,6 +30,15 @@ more_tuples (r ∷ ranges) from to tuple =
 -- the tuples of one range more
 pub tuples_in-more : (ranges : List (ℕ × ℕ)) (from to : ℕ) → tuples_in (ranges ++ (from, to) ∷ []) ≡ union (tuples_in ranges) (range_of from to)
 tuples_in-more ranges from to = fun_ext (more_tuples ranges from to)
+
+-- what holds of a value in a box holds of what is in it
+pub if_held : {A B : Type 0} (f : A → B) (P : B → Type 0) (o : Option A) → IfSome o (λ x. P (f x)) → IfSome (option_map f o) P
+if_held f P (Some x) h = h
+if_held f P None h = h
+
+pub none_held : {A B : Type 0} (f : A → B) (P : Type 0) (o : Option A) → (o ≡ None) ⊎ P → (option_map f o ≡ None) ⊎ P
+none_held f P o (inl none) = inl (ap (option_map f) none)
+none_held f P o (inr h) = inr h
 
 -- an accumulator that took one range more holds the fold over all of them
 pub holds_more : (inputs : Inputs) (ranges more : List (ℕ × ℕ)) (from to : ℕ) (held : Option Acc) (acc : Acc) (next : Option Acc)

@@ -1,5 +1,6 @@
 -- What accumulators of benches make together.
-use Rattle.std.proofs.Common.{◌≡◌, ◌<◌, ◌+◌, ◌/◌, ◌%◌, ◌++◌, ℕ, List, [], ◌∷◌, Option, Some, None, MatchOption, All, arith, length, map, get_or, refl, ap, sym, subst, ◌∙◌, reverse, rules, slice_get}
+use Rattle.std.proofs.Common.{◌≡◌, ◌<◌, ◌+◌, ◌/◌, ◌%◌, ◌++◌, ℕ, List, [], ◌∷◌, Option, Some, None, MatchOption, All, arith, length, map, get_or, refl}
+use Rattle.std.proofs.Common.{ap, sym, subst, ◌∙◌, option_map, reverse, rules, slice_get}
 use Rattle.std.specs.Arc.{arc_value}
 use Rattle.std.specs.List.{AllZip}
 use Rattle.std.specs.Option.{IsSome}
@@ -17,8 +18,8 @@ use Rattle.pipe_ops.specs.StageResults.{Cover, IsResultOf as IsStageResult, IsWh
 use Rattle.pipe_ops.specs.declared.acc.Acc.{Acc}
 use Rattle.pipe_ops.specs.declared.inputs.Inputs.{Inputs}
 use Rattle.pipe_ops.specs.declared.results.StageResult.{StageResult}
-use Rattle.bench_cell.specs.Benches.{AreInputsOf, IsBenchOf, bench_tuples}
-use Rattle.bench_cell.specs.Gathering.{AreAccsOf, CoverTotal, IsResultOf, IsWhole, acc_in}
+use Rattle.bench_cell.specs.Benches.{AreInputsOf, IsBenchOf, acc_in, bench_tuples}
+use Rattle.bench_cell.specs.Gathering.{AreAccsOf, CoverTotal, IsResultOf, IsWhole}
 use Rattle.bench_cell.specs.Plans.{checked_of, stages_in, total_of}
 use Rattle.bench_cell.specs.declared.bench.Bench.{Bench}
 use Rattle.bench_cell.specs.declared.plan.Plan.{Plan}
@@ -40,7 +41,8 @@ same_task plan id i j one other P h =
     let tables : tables_in i ≡ tables_in j = one.tables ∙ sym other.tables in
     let checked : checked_in i ≡ checked_in j = same_some (slice_get (checked_of plan) (id / 8)) (checked_in i) (checked_in j) one.query other.query in
     let number : number_in i ≡ number_in j = one.stage ∙ sym other.stage in
-    subst (λ t. P t (checked_in j) (number_in j)) tables (subst (λ c. P (tables_in i) c (number_in j)) checked (subst (P (tables_in i) (checked_in i)) number h))
+    subst (λ t. P t (checked_in j) (number_in j)) tables
+        (subst (λ c. P (tables_in i) c (number_in j)) checked (subst (P (tables_in i) (checked_in i)) number h))
 
 -- the total of a task set is that of its inputs
 pub total_of-inputs : (plan : Plan) (id : ℕ) (inputs : Inputs) → AreInputsOf plan id inputs → AreInputs inputs → total_of plan id ≡ Some (total_in inputs)
@@ -67,16 +69,16 @@ held_by plan id inputs of (bench ∷ benches) (acc ∷ accs) each same =
           (tails (acc_in bench) (Some acc) (map acc_in benches) (map Some accs) same),
     )
 
-some_whole : (o : Option Acc) (acc : Acc) → o ≡ Some acc → IsSome o
-some_whole (Some acc') acc is = search rules
-some_whole None acc is = cc
+some_whole : {A B : Type 0} (f : A → B) (held : Option A) (y : B) → option_map f held ≡ Some y → IsSome held
+some_whole f (Some x) y is = search rules
+some_whole f None y is = cc
 
 -- benches that all have an accumulator are not short
 pub all_whole : (benches : List Bench) (accs : List Acc) → AreAccsOf benches accs → All IsWhole benches
 all_whole [] accs same = All-nil IsWhole
 all_whole (bench ∷ benches) [] same = cc
 all_whole (bench ∷ benches) (acc ∷ accs) same =
-    All-cons IsWhole bench benches (some_whole (acc_in bench) acc (heads (acc_in bench) (Some acc) (map acc_in benches) (map Some accs) same))
+    All-cons IsWhole bench benches (some_whole _ bench.acc acc (heads (acc_in bench) (Some acc) (map acc_in benches) (map Some accs) same))
     (all_whole benches accs (tails (acc_in bench) (Some acc) (map acc_in benches) (map Some accs) same))
 
 -- what merges the accumulators of benches that cover the total is the task set's whole result
@@ -92,7 +94,8 @@ merged_result (bench ∷ benches) accs inputs result first some are same merges 
     let sets : List Tuples = map bench_tuples (bench ∷ benches) in
     let share : Share inputs sets accs = record { each = held_by plan id inputs of (bench ∷ benches) accs each same; apart = covers.apart } in
     let cover : Cover inputs sets = λ tuple below. covers.cover tuple (subst (λ n. tuple < n) all below) in
-    λ other are_other. same_task plan id inputs other of are_other (λ t c n. IsStageResult t (query_of c) (stage_at (query_of c) n) result) (merges sets share cover)
+    λ other are_other. same_task plan id inputs other of are_other
+        (λ t c n. IsStageResult t (query_of c) (stage_at (query_of c) n) result) (merges sets share cover)
 
 -- the accumulators of benches in the reverse order
 turned : (benches : List Bench) → map acc_in (reverse benches) ≡ reverse (map acc_in benches)

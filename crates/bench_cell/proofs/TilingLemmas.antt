@@ -1,5 +1,6 @@
 -- Benches that fit claims which tile a total: each tuple below it is in just one of them.
-use Rattle.std.proofs.Common.{◌≡◌, ◌⊎◌, ◌||◌, ◌&&◌, ◌+◌, ◌<◌, ◌≤◌, ℕ, zero, suc, Bool, true, false, All, List, [], ◌∷◌, Some, arith, cond, refl, ap, leb, ltb, eqb, subst, sym, ◌∙◌, inl, inr, length, map, reverse, slice_get, ⊎_elim}
+use Rattle.std.proofs.Common.{◌≡◌, ◌⊎◌, ◌||◌, ◌&&◌, ◌+◌, ◌<◌, ◌≤◌, ℕ, zero, suc, Bool, true, false, All, List, [], ◌∷◌, Some, arith, cond, refl, ap}
+use Rattle.std.proofs.Common.{leb, ltb, eqb, subst, sym, ◌∙◌, inl, inr, length, map, reverse, slice_get, ⊎_elim}
 use Rattle.std.specs.Option.{IsSome}
 use Rattle.std.proofs.lemmas.Bool.{cases_lt, eq-eqb, eqb-true, leb-true, le-leb, lt-ltb, ltb-true}
 use Rattle.std.proofs.lemmas.List.Elements.{All-head, All-tail}

@@ -1,10 +1,11 @@
 -- What a bench has to do with the ranges of its worker.
 use Rattle.std.specs.Prelude.{◌≡◌, ◌⊎◌, ◌/◌, ◌%◌, ◌++◌, ℕ, List, [], ◌∷◌, map, reverse, MatchOption}
-use Rattle.std.specs.Prelude.{IsSome, Some, None, slice_get}
+use Rattle.std.specs.Prelude.{IsSome, Option, Some, None, option_map, slice_get}
 use Rattle.std.specs.Arc.{arc_value}
 use Rattle.plan_ast.specs.Folds.{Tuples, range_of}
 use Rattle.pipe_ops.specs.Inputs.{AreInputs, IsAccOf, checked_in, number_in, tables_in}
 use Rattle.pipe_ops.specs.StageResults.{union_of}
+use Rattle.pipe_ops.specs.declared.acc.Acc.{Acc}
 use Rattle.pipe_ops.specs.declared.inputs.Inputs.{Inputs}
 use Rattle.slot_history.specs.declared.shape.TheConstants.{STAGES}
 use Rattle.bench_cell.specs.Plans.{checked_of, tables_of}
@@ -33,6 +34,10 @@ ranges_in bench = bench.ranges.items
 abbrev pub bench_tuples : Bench → Tuples
 bench_tuples bench = tuples_in (ranges_in bench)
 
+-- what a bench holds of its tuples
+abbrev pub acc_in : Bench → Option Acc
+acc_in bench = option_map (λ held. held.value) bench.acc
+
 abbrev pub IsShort : Bench → Type 0
 IsShort bench = bench.acc ≡ None
 
@@ -40,7 +45,7 @@ IsShort bench = bench.acc ≡ None
 -- tuples of its ranges
 pub record IsBench (bench : Bench) : Type 0 where
   pub inputs : AreInputs (arc_value bench.inputs)
-  pub holds : MatchOption bench.acc (Unit {0})
+  pub holds : MatchOption (acc_in bench) (Unit {0})
       (IsAccOf (arc_value bench.inputs) (bench_tuples bench))
 
 -- a bench of this worker, task set and inputs that isn't short and worked on no range

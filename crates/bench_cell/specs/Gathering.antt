@@ -1,6 +1,6 @@
 -- Benches of one task set, and what they make together.
 use Rattle.std.specs.Prelude.{◌≡◌, ◌/◌, ◌%◌, ◌<◌, ℕ, Bool, true, false, List, [], All}
-use Rattle.std.specs.Prelude.{IsPermutation, IsSortedByKey, IsSome, Option, Some, flat_map, map}
+use Rattle.std.specs.Prelude.{IsPermutation, IsSortedByKey, IsSome, Some, flat_map, map}
 use Rattle.std.specs.Ordering.{nat_cmp}
 use Rattle.pipe_ops.specs.StageResults.{AreAllDisjoint, IsWholeResult, union_of}
 use Rattle.pipe_ops.specs.declared.acc.Acc.{Acc}
@@ -9,7 +9,7 @@ use Rattle.pipe_ops.specs.declared.results.StageResult.{StageResult}
 use Rattle.report_text.specs.declared.report.ClaimOf.{ClaimOf}
 use Rattle.report_text.specs.declared.report.Record.{Record}
 use Rattle.slot_history.specs.declared.shape.TheConstants.{STAGES}
-use Rattle.bench_cell.specs.Benches.{AreInputsOf, IsBenchOf, bench_tuples, ranges_in}
+use Rattle.bench_cell.specs.Benches.{AreInputsOf, IsBenchOf, acc_in, bench_tuples, ranges_in}
 use Rattle.bench_cell.specs.Plans.{total_of}
 use Rattle.bench_cell.specs.declared.bench.Bench.{Bench}
 use Rattle.bench_cell.specs.declared.gathered.Gathered.{Gathered}
@@ -19,9 +19,6 @@ use Rattle.bench_cell.specs.declared.plan.Plan.{Plan}
 -- a bench that is not short
 abbrev pub IsWhole : Bench → Type 0
 IsWhole bench = IsSome bench.acc
-
-abbrev pub acc_in : Bench → Option Acc
-acc_in bench = bench.acc
 
 -- the accumulators are those of the benches, of which none is short
 abbrev pub AreAccsOf : List Bench → List Acc → Type 0

@@ -1,7 +1,8 @@
 // The accumulators of benches.
 ghost use Rattle.std.specs.Prelude.{◌≡◌, ◌+◌, ◌++◌, ◌∷◌, [], IfOk, OnOk, Some, length, map};
 ghost use Rattle.std.specs.Vec.{vec_capacity};
-ghost use Rattle.bench_cell.specs.Gathering.{AreAccsOf, acc_in};
+ghost use Rattle.bench_cell.specs.Benches.{acc_in};
+ghost use Rattle.bench_cell.specs.Gathering.{AreAccsOf};
 
 use crate::bench::Bench;
 use pipe_ops::Acc;

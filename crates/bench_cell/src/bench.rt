@@ -6,7 +6,7 @@ ghost use Rattle.plan_ast.specs.Folds.{AreDisjoint, Tuples, range_of, union};
 ghost use Rattle.pipe_ops.specs.Inputs.{AreInputs, IsAccOf, total_in};
 ghost use Rattle.pipe_ops.specs.StageResults.{HasRoomForRange};
 ghost use Rattle.bench_cell.specs.Benches.{AreInputsOf, BenchFits, HasWorked, IsBench, IsFresh};
-ghost use Rattle.bench_cell.specs.Benches.{IsShort, bench_tuples};
+ghost use Rattle.bench_cell.specs.Benches.{IsShort, acc_in, bench_tuples};
 ghost use Rattle.bench_cell.specs.declared.plan.Plan.{Plan};
 
 use crate::plan::Plan;
@@ -24,7 +24,8 @@ pub struct Bench {
     pub(crate) id: u32,
     pub(crate) inputs: Arc<Inputs>,
     pub(crate) ranges: Vec<(u32, u32)>,
-    pub(crate) acc: Option<Acc>,
+    // On the heap, so that a bench is cheap to move.
+    pub(crate) acc: Option<Box<Acc>>,
 }
 
 impl Fits for Bench {
@@ -62,7 +63,7 @@ impl Bench {
             id,
             inputs,
             ranges: Vec::new(alloc),
-            acc: Some(acc),
+            acc: Some(Box::new(alloc, acc)?),
         })
     }
 
@@ -111,10 +112,13 @@ impl Bench {
 
     /// Its accumulator, unless it is short.
     pub(crate) fn into_acc(self) -> Option<Acc>
-        ensures { result ≡ self.acc }
+        ensures { result ≡ acc_in self }
     {
         let Bench { acc, .. } = self;
-        acc
+        match acc {
+            Some(held) => Some(Box::into_inner(held)),
+            None => None,
+        }
     }
 
     /// The inputs of its stage.
@@ -126,16 +130,22 @@ impl Bench {
 }
 
 // An accumulator with the tuples of a range, unless memory ran out.
-fn taken(alloc: Global, inputs: &Inputs, from: u32, to: u32, acc: Acc) -> Option<Acc>
+fn taken(
+    alloc: Global,
+    inputs: &Inputs,
+    from: u32,
+    to: u32,
+    mut acc: Box<Acc>,
+) -> Option<Box<Acc>>
     requires inputs { AreInputs inputs.now }
     requires order { from ≤ to }
     requires within { to ≤ total_in inputs.now }
-    requires room { HasRoomForRange inputs.now from to acc }
+    requires room { HasRoomForRange inputs.now from to acc.value }
     ensures { IfSome result (λ more. (done : Tuples) → AreDisjoint done (range_of from to)
-        → IsAccOf inputs.now done acc → IsAccOf inputs.now (union done (range_of from to)) more) }
+        → IsAccOf inputs.now done acc.value
+        → IsAccOf inputs.now (union done (range_of from to)) more.value) }
 {
-    let mut acc = acc;
-    match run_range(alloc, inputs.stage(), inputs, from, to, &mut acc) {
+    match run_range(alloc, inputs.stage(), inputs, from, to, acc.as_mut()) {
         Ok(()) => Some(acc),
         Err(_) => None,
     }

@@ -1,5 +1,5 @@
-use Rattle.std.proofs.Common.{◌≡◌, ◌+◌, ◌++◌, Some, ap, arith, length, map, reverse, ◌∙◌}
-use Rattle.bench_cell.specs.Gathering.{acc_in}
+use Rattle.std.proofs.Common.{◌≡◌, ◌++◌, Some, ap, arith, length, map, reverse, ◌∙◌}
+use Rattle.bench_cell.specs.Benches.{acc_in}
 use Rattle.bench_cell.proofs.GatheringLemmas.{taken_all, taken_more, taken_none, turned_length}
 use Rattle.bench_cell.proofs.accs.taken_accs.Goals as goal
 

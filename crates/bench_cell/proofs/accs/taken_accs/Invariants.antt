@@ -1,6 +1,6 @@
 use Rattle.std.proofs.Common.{◌≡◌, ◌+◌, ◌++◌, Some, length, map, reverse}
 use Rattle.std.specs.Vec.{vec_capacity}
-use Rattle.bench_cell.specs.Gathering.{acc_in}
+use Rattle.bench_cell.specs.Benches.{acc_in}
 use Rattle.bench_cell.proofs.accs.taken_accs.Given as goal
 
 abbrev pub invariant-loop : goal.invariant-loop

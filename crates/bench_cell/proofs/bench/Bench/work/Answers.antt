@@ -1,21 +1,25 @@
-use Rattle.std.proofs.Common.{◌≡◌, IfSome, Some, subst, List, [], ◌∷◌, ◌++◌, ℕ, ap, cond, sym, refl, ◌∙◌, inr}
+use Rattle.std.proofs.Common.{◌≡◌, IfSome, Some, subst, List, [], ◌∷◌, ◌++◌, ℕ, ap, cond, sym, refl, ◌∙◌, inr, option_map}
 use Rattle.std.proofs.lemmas.Option.{none-some}
 use Rattle.std.specs.Arc.{arc_value}
 use Rattle.plan_ast.specs.Folds.{AreDisjoint, Tuples, range_of, union}
 use Rattle.pipe_ops.specs.Inputs.{IsAccOf}
+use Rattle.pipe_ops.specs.declared.acc.Acc.{Acc}
 use Rattle.pipe_ops.specs.declared.inputs.Inputs.{Inputs}
-use Rattle.bench_cell.specs.Benches.{ranges_in}
-use Rattle.bench_cell.proofs.BenchLemmas.{fits_more, holds_more}
+use Rattle.bench_cell.specs.Benches.{acc_in, bench_tuples, ranges_in}
+use Rattle.bench_cell.proofs.BenchLemmas.{fits_more, holds_more, if_held, none_held}
 use Rattle.bench_cell.proofs.bench.Bench.work.Goals as goal
 
-took : (c : goal.Joined-self-taken) → IfSome c.taken.result (λ a. (done : Tuples) → AreDisjoint done (range_of c.args.from c.args.to)
-    → IsAccOf (arc_value c.args.self.now.inputs) done c.in-Some.acc
-    → IsAccOf (arc_value c.args.self.now.inputs) (union done (range_of c.args.from c.args.to)) a)
+abbrev More : Inputs → ℕ → ℕ → Acc → Acc → Type 0
+More inputs from to acc more = (done : Tuples) → AreDisjoint done (range_of from to) →
+    IsAccOf inputs done acc → IsAccOf inputs (union done (range_of from to)) more
+
+took : (c : goal.Joined-self-taken) → IfSome (option_map (λ held. held.value) c.taken.result)
+    (More (arc_value c.args.self.now.inputs) c.args.from c.args.to c.in-Some.acc.value)
 took c =
     let from = c.args.from in
     let to = c.args.to in
-    subst (λ (i : Inputs). IfSome c.taken.result (λ a. (done : Tuples) → AreDisjoint done (range_of from to)
-    → IsAccOf i done c.in-Some.acc → IsAccOf i (union done (range_of from to)) a)) c.deref.ensures c.taken.ensures
+    if_held (λ held. held.value) (More (arc_value c.args.self.now.inputs) from to c.in-Some.acc.value) c.taken.result
+    (subst (λ (i : Inputs). IfSome c.taken.result (λ held. More i from to c.in-Some.acc.value held.value)) c.deref.ensures c.taken.ensures)
 
 pub returns-then-is_ok-clause-worked : goal.returns-then-is_ok-clause-worked
 returns-then-is_ok-clause-worked c =
@@ -30,8 +34,9 @@ returns-then-is_ok-clause-worked c =
       inputs = refl;
       bench_is = record {
         inputs = c.requires.bench.inputs;
-        holds = holds_more (arc_value old.inputs) (ranges_in old) c.push-noted.new.self.items c.args.from c.args.to old.acc c.in-Some.acc
-            c.taken.result c.requires.bench.holds is c.requires.apart noted (took c);
+        holds = holds_more (arc_value old.inputs) (ranges_in old) c.push-noted.new.self.items c.args.from c.args.to (acc_in old) c.in-Some.acc.value
+            (option_map (λ held. held.value) c.taken.result) c.requires.bench.holds (ap (option_map (λ held. held.value)) is)
+            (none_held (λ held. held.value) (AreDisjoint (bench_tuples old) (range_of c.args.from c.args.to)) old.acc c.requires.apart) noted (took c);
       };
       stays = λ short. absurd (none-some c.in-Some.acc (sym short ∙ is));
       noted = inr noted;

@@ -160,6 +160,7 @@ fn after_holding(act: &Act, place: Place) -> Place
 }
 
 /// The worker's place after its call, by its place before.
+#[inline(always)]
 pub fn place_after(shape: &Shape, act: &Act, place: Place) -> Place
     requires { IsCounted place }
     ensures { result ≡ moved shape.now act.now place }

@@ -7,9 +7,9 @@ use Rattle.col_table.specs.Columns.{row_across, rows_across, values_of}
 use Rattle.col_table.specs.NamedRows.{NamedRows}
 use Rattle.csv_tables.specs.Writing.{line_text, table_text}
 use Rattle.csv_tables.proofs.Lines.{text_more}
-use Rattle.load_gen.specs.Draws.{draw, each_below, state_after}
+use Rattle.load_gen.specs.Draws.{draw, each_below, next_state, state_after}
 use Rattle.load_gen.specs.Tables.{row_of_t, row_of_u}
-use Rattle.load_gen.proofs.DrawsLemmas.{each_below-more, each_below-zero, get_or-each_below, state_after-after}
+use Rattle.load_gen.proofs.DrawsLemmas.{each_below-more, each_below-zero, get_or-each_below, state_after-after, state_after-more}
 
 -- the columns that are made so
 abbrev pub columns_below : ℕ → List (ℕ → ℤ) → List (List ℤ)
@@ -63,14 +63,22 @@ pushed_more count made old new value push fits before here =
 
 -- ---- rows and texts
 
--- the first row that is drawn after the rows before a place is the row at that place
-pub row_of_t-later : (state row : ℕ) → row_of_t (state_after state (3 * row)) 0 ≡ row_of_t state row
-row_of_t-later state row =
+-- The first row that is drawn after the rows before a place is the row at that place. Then the draws stand before the next one.
+pub drawn_of_t : (state row before after : ℕ) (drawn : List ℤ) → before ≡ state_after state (3 * row) → drawn ≡ row_of_t before 0
+    → after ≡ state_after before 3 → (drawn ≡ row_of_t state row) × (after ≡ state_after state (3 * (row + 1)))
+drawn_of_t state row before after drawn is first next =
     let at : (place : ℕ) → state_after (state_after state (3 * row)) place ≡ state_after state (3 * row + place) = state_after-after state (3 * row) in
-    rw (at 1, at 2, at 3) refl
+    let all : 3 * row + 3 ≡ 3 * (row + 1) = omega arith in (
+      first ∙ ap (λ state. row_of_t state 0) is ∙ rw (at 1, at 2, at 3) refl,
+      next ∙ ap (λ state. state_after state 3) is ∙ at 3 ∙ ap (state_after state) all,
+    )
 
-pub row_of_u-later : (state row : ℕ) → pos row ∷ pos (draw (state_after state row) 1 100) ∷ [] ≡ row_of_u state row
-row_of_u-later state row = rw (state_after-after state row 1) refl
+pub drawn_of_u : (state row before after : ℕ) (drawn : List ℤ) → before ≡ state_after state row → drawn ≡ pos row ∷ pos (draw before 1 100) ∷ []
+    → after ≡ next_state before → (drawn ≡ row_of_u state row) × (after ≡ state_after state (row + 1))
+drawn_of_u state row before after drawn is first next = (
+  first ∙ ap (λ state. pos row ∷ pos (draw state 1 100) ∷ []) is ∙ rw (state_after-after state row 1) refl,
+  next ∙ ap next_state is ∙ sym (state_after-more state row),
+)
 
 -- the text of a table of one row more
 pub text_made : (names : List (List ℕ)) (count : ℕ) (made : ℕ → List ℤ) (old new : List ℕ) (row : List ℤ) → new ≡ old ++ line_text row

@@ -6,11 +6,11 @@ use Rattle.col_table.specs.NamedRows.{IsHeading}
 use Rattle.csv_tables.specs.Loading.{LoadsTable}
 use Rattle.csv_tables.specs.Writing.{table_text}
 use Rattle.load_gen.specs.Draws.{draw, each_below, signed_draw, state_after}
-use Rattle.load_gen.specs.Tables.{row_of_t, table_t}
-use Rattle.load_gen.proofs.DrawsLemmas.{each_below-zero, length-each_below, state_after-after, state_after-zero}
+use Rattle.load_gen.specs.Tables.{table_t}
+use Rattle.load_gen.proofs.DrawsLemmas.{each_below-zero, length-each_below, state_after-zero}
 use Rattle.load_gen.proofs.LoadsLemmas.{t-heading, table_t-loads}
 use Rattle.load_gen.proofs.ScriptLemmas.{fits-draw, fits-signed}
-use Rattle.load_gen.proofs.TablesLemmas.{made_of_columns, named_rows, pushed_more, row_of_t-later, same_three}
+use Rattle.load_gen.proofs.TablesLemmas.{made_of_columns, named_rows, pushed_more, drawn_of_t, same_three}
 use Rattle.load_gen.proofs.tables.draw_t.Goals as goal
 
 -- what the columns hold at a row
@@ -35,18 +35,16 @@ pub loop-preserved : goal.loop-preserved
 loop-preserved c =
     let state = c.args.draws.now in
     let row = c.loop.counter in
-    let before : c.loop.draws ≡ state_after state (3 * row) = c.loop.invariant.draws in
-    let all : 3 * row + 3 ≡ 3 * (row + 1) = omega arith in
-    let made : c.next_row_of_t.result ≡ row_of_t state row =
-    c.next_row_of_t.ensures.row ∙ ap (λ state. row_of_t state 0) before ∙ row_of_t-later state row in
+    let drawn = drawn_of_t state row c.loop.draws _ _ c.loop.invariant.draws c.next_row_of_t.ensures.row c.next_row_of_t.ensures.draws in
     record {
-      keys = pushed_more row (key state) c.loop.keys.items _ _ c.in_ok-push.ensures.items (fits-draw (state_after state (3 * row + 1)) 1000 (omega arith) (omega arith))
-          c.loop.invariant.keys (ap (λ values. get_or values 0 (pos 0)) made);
+      keys = pushed_more row (key state) c.loop.keys.items _ _ c.in_ok-push.ensures.items
+          (fits-draw (state_after state (3 * row + 1)) 1000 (omega arith) (omega arith))
+          c.loop.invariant.keys (ap (λ values. get_or values 0 (pos 0)) drawn.0);
       groups = pushed_more row (group state) c.loop.groups.items _ _ c.in_ok-push-2.ensures.items
-          (fits-draw (state_after state (3 * row + 2)) 16 (omega arith) (omega arith)) c.loop.invariant.groups (ap (λ values. get_or values 1 (pos 0)) made);
+          (fits-draw (state_after state (3 * row + 2)) 16 (omega arith) (omega arith)) c.loop.invariant.groups (ap (λ values. get_or values 1 (pos 0)) drawn.0);
       values = pushed_more row (value state) c.loop.values.items _ _ c.in_ok-push-3.ensures.items (fits-signed (state_after state (3 * row + 3)))
-          c.loop.invariant.values (ap (λ values. get_or values 2 (pos 0)) made);
-      draws = c.next_row_of_t.ensures.draws ∙ ap (λ state. state_after state 3) before ∙ state_after-after state (3 * row) 3 ∙ ap (state_after state) all;
+          c.loop.invariant.values (ap (λ values. get_or values 2 (pos 0)) drawn.0);
+      draws = drawn.1;
     }
 
 pub table_of-requires-clause-heights : goal.table_of-requires-clause-heights

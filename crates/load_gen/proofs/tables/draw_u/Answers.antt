@@ -5,12 +5,12 @@ use Rattle.col_table.specs.Columns.{rows_across, values_of}
 use Rattle.col_table.specs.NamedRows.{IsHeading}
 use Rattle.csv_tables.specs.Loading.{LoadsTable}
 use Rattle.csv_tables.specs.Writing.{table_text}
-use Rattle.load_gen.specs.Draws.{draw, each_below, next_state, state_after}
-use Rattle.load_gen.specs.Tables.{row_of_u, table_u}
-use Rattle.load_gen.proofs.DrawsLemmas.{each_below-zero, length-each_below, state_after-more, state_after-zero}
+use Rattle.load_gen.specs.Draws.{draw, each_below, state_after}
+use Rattle.load_gen.specs.Tables.{table_u}
+use Rattle.load_gen.proofs.DrawsLemmas.{each_below-zero, length-each_below, state_after-zero}
 use Rattle.load_gen.proofs.LoadsLemmas.{fits-row, u-heading, table_u-loads}
 use Rattle.load_gen.proofs.ScriptLemmas.{fits-draw}
-use Rattle.load_gen.proofs.TablesLemmas.{made_of_columns, named_rows, pushed_more, row_of_u-later, same_two}
+use Rattle.load_gen.proofs.TablesLemmas.{made_of_columns, named_rows, pushed_more, drawn_of_u, same_two}
 use Rattle.load_gen.proofs.tables.draw_u.Goals as goal
 
 -- what the columns hold at a row
@@ -31,15 +31,14 @@ pub loop-row-preserved : goal.loop-row-preserved
 loop-row-preserved c =
     let state = c.args.draws.now in
     let row = c.loop-row.row in
-    let before : c.loop-row.draws ≡ state_after state row = c.loop-row.invariant.draws in
-    let made : c.next_row_of_u.result ≡ row_of_u state row =
-    c.next_row_of_u.ensures.row ∙ ap (λ state. pos row ∷ pos (draw state 1 100) ∷ []) before ∙ row_of_u-later state row in
+    let drawn = drawn_of_u state row c.loop-row.draws _ _ c.loop-row.invariant.draws c.next_row_of_u.ensures.row c.next_row_of_u.ensures.draws in
     record {
       keys = pushed_more row key c.loop-row.keys.items _ _ c.in_ok-push.ensures.items (fits-row row c.args.rows (omega arith) c.requires)
-          c.loop-row.invariant.keys (ap (λ values. get_or values 0 (pos 0)) made);
+          c.loop-row.invariant.keys (ap (λ values. get_or values 0 (pos 0)) drawn.0);
       weights = pushed_more row (weight state) c.loop-row.weights.items _ _ c.in_ok-push-2.ensures.items
-          (fits-draw (state_after state (row + 1)) 100 (omega arith) (omega arith)) c.loop-row.invariant.weights (ap (λ values. get_or values 1 (pos 0)) made);
-      draws = c.next_row_of_u.ensures.draws ∙ ap next_state before ∙ sym (state_after-more state row);
+          (fits-draw (state_after state (row + 1)) 100 (omega arith) (omega arith))
+              c.loop-row.invariant.weights (ap (λ values. get_or values 1 (pos 0)) drawn.0);
+      draws = drawn.1;
     }
 
 pub table_of-requires-clause-heights : goal.table_of-requires-clause-heights

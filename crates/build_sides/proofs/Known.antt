@@ -1,5 +1,6 @@
 -- A group side that folds rows of groups that it has, column by column.
-use Rattle.std.proofs.Common.{◌≡◌, ◌≢◌, ℕ, zero, suc, ℤ, ◌+◌, ◌^◌, ◌<◌, ◌≤◌, false, List, [], ◌∷◌, ◌++◌, Some, All, drop, get_or, length, map, take, slice_index}
+use Rattle.std.proofs.Common.{◌≡◌, ◌≢◌, ℕ, zero, suc, ℤ, ◌+◌, ◌^◌, ◌<◌, ◌≤◌, false, List, [], ◌∷◌, ◌++◌, Some, All, drop, get_or, length, map, take}
+use Rattle.std.proofs.Common.{slice_index}
 use Rattle.std.proofs.Common.{slice_index_or, refl, sym, ap, ◌∙◌, subst, inl, inr, append_assoc, arith, length-append, w64, FitsSigned}
 use Rattle.std.proofs.Math.Seq.{take-add, take-suc}
 use Rattle.std.proofs.lemmas.List.{append-nil, get_or_default, get_or-map, get_or-take, length-map, length-take, map-append, take_all, take_more}
@@ -162,7 +163,8 @@ module _ (table : NamedRows) (by : List ColumnAt) (aggs : List AggAt) (keys : Li
   folded_rows = folded old_side new_side numbers more value groups refl count_is known_is each_is (λ a k lt. value_is a k _ lt) fit_is
 
 -- the first rows of a table
-pub folded_first : (table : NamedRows) (by : List ColumnAt) (aggs : List AggAt) (keys : List Key) (columns columns' : List Column) (rows numbers : List ℕ) (m : ℕ)
+pub folded_first : (table : NamedRows) (by : List ColumnAt) (aggs : List AggAt) (keys : List Key) (columns columns' : List Column)
+    (rows numbers : List ℕ) (m : ℕ)
     → AreGroups (record { keys = keys; columns = map totals_of columns }) → m ≤ length rows → length rows ≤ length numbers
     → ((k : ℕ) → k < m → NumberIs keys (key_by table by (slice_index rows k)) (Some (slice_index numbers k))) → length columns' ≡ length columns
     → ((a : ℕ) (d : Column) → a < length columns → FoldsValues (take m numbers)

@@ -1,5 +1,6 @@
 -- Claims that tile a total hold each tuple once.
-use Rattle.std.proofs.Common.{◌≡◌, ℕ, ◌+◌, ◌<◌, ◌≤◌, Bool, true, false, cond, leb, ltb, ◌&&◌, List, [], ◌∷◌, refl, sym, ap, ap₂, ◌∙◌, ⊎_elim, lt-ltb, le-ltb, le-leb, arith}
+use Rattle.std.proofs.Common.{◌≡◌, ℕ, ◌+◌, ◌<◌, ◌≤◌, Bool, true, false, cond, leb, ltb, ◌&&◌, List, [], ◌∷◌, refl, sym, ap, ap₂, ◌∙◌, ⊎_elim, lt-ltb}
+use Rattle.std.proofs.Common.{le-ltb, le-leb, arith}
 use Rattle.std.proofs.lemmas.Bool.{cases_lt, lt-leb}
 use Rattle.slot_history.specs.Histories.{Morsel, Tiles}
 use Rattle.run_laws.specs.Tuples.{morsels_with, TilesHoldEach}

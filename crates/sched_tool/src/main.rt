@@ -2,8 +2,8 @@
 //! one text.
 //!
 //! It stands on the outside (`outside_io`), on scripts (`script_json`) and tables (`csv_tables`)
-//! that are read, on queries and their check (`plan_ast`), on their answers (`pipe_ops`), on runs of
-//! them (`pool_run`, over the plans of `bench_cell`), on the text of answers and reports
+//! that are read, on queries and their check (`plan_ast`), on their answers (`pipe_ops`), on runs
+//! of them (`pool_run`, over the plans of `bench_cell`), on the text of answers and reports
 //! (`report_text`), and on the generator of large inputs (`load_gen`).
 //!
 //! The one fact that it promises is the contract of `run_program`: for the words, and for what is

@@ -25,35 +25,38 @@ built_program() {
     [ "$status" -eq 2 ] && ls -t "$here"/../out/sched_tool-* | head -n 1
 }
 
-# Makes the program that times the stages of queries, of the files in query_times, and prints where
-# it is. It is made in a copy of the crates below it, where it is proved and built as they are. Its
-# files are kept with .txt behind their names, since each .rt file of the repository belongs to a
-# crate. EDIT.. are edits of its main file, by sed.
-stages_program() {
-    crates='col_table plan_ast build_sides csv_tables script_json load_gen pipe_ops report_text'
-    for name in $crates; do
+# CRATE..: copies crates of the repository into a repository of their own, in which programs of this
+# folder are proved and built.
+copy_crates() {
+    for name in "$@"; do
         mkdir -p "$work/crates/$name"
-        cp -R "$here/../crates/$name/src" "$here/../crates/$name/specs" \
-            "$here/../crates/$name/proofs" "$work/crates/$name"
+        for part in src specs proofs; do
+            if [ -d "$here/../crates/$name/$part" ]; then
+                cp -R "$here/../crates/$name/$part" "$work/crates/$name"
+            fi
+        done
         grep "^$name:" "$here/../crates.txt" >>"$work/crates.txt"
     done
-    echo 'query_times: build_sides load_gen pipe_ops plan_ast report_text' >>"$work/crates.txt"
-    program=$work/crates/query_times
-    cp -R "$here/query_times" "$program"
-    find "$program" -name '*.txt' | while read -r file; do
+}
+
+# NAME LIBRARY..: adds a crate of this folder. Its files are kept with .txt behind their names, since
+# each .rt file of the repository belongs to a crate.
+add_crate() {
+    cp -R "$here/$1" "$work/crates/$1"
+    find "$work/crates/$1" -name '*.txt' | while read -r file; do
         mv "$file" "${file%.txt}"
     done
-    for edit in "$@"; do
-        sed "$edit" "$program/src/main.rt" >"$work/main.rt"
-        if cmp -s "$work/main.rt" "$program/src/main.rt"; then
-            return 1
-        fi
-        mv "$work/main.rt" "$program/src/main.rt"
-    done
-    echo 'bench: proving and building query_times, which can take minutes' >&2
-    (cd "$program" && rt run) >"$work/build.log" 2>&1 </dev/null || {
+    name=$1
+    shift
+    echo "$name: $*" >>"$work/crates.txt"
+}
+
+# NAME: proves and builds the program of a crate, runs it once, and prints where it is.
+build() {
+    echo "bench: proving and building $1, which can take minutes" >&2
+    (cd "$work/crates/$1" && rt run) >"$work/build.log" 2>&1 </dev/null || {
         tail -n 20 "$work/build.log" >&2
         return 1
     }
-    echo "$program/out/query_times"
+    echo "$work/crates/$1/out/$1"
 }

@@ -1,15 +1,16 @@
 #!/bin/sh
-# Times the run of `sched_tool turns` with 8 workers on the three parts of `make 7`, against its
-# query work alone: the stages of the same 40 queries by `pipe_ops`, each over all of its tuples
-# (an accumulator, `run_range`, `merge`), on one thread. The difference is what scheduling costs.
+# Times the run of the large input of `make 7` by 8 workers, against its query work alone: the
+# stages of the same 40 queries by `pipe_ops`, each over all of its tuples (an accumulator,
+# `run_range`, `merge`), one query after another on one thread. The difference is what scheduling
+# costs. Both are timed 20 times in turn by one program, run_times, over the same tables, so that no
+# reading counts. It is the program itself with another main file.
 #
-# In each round, one after the other: `turns` ten times, `check` of the same tables without a query
-# ten times, `make 7` ten times, and the stages of the queries, each ten times. The time of a run is
-# that of `turns` less that of `check`, in CPU time, user and system; so the reading of the files
-# doesn't count. The time of the work is the sum of the least times of the queries. It prints the
-# medians over the rounds, in milliseconds, the median of the rounds' ratios, how much more memory
-# `turns` needs than `check` does, and the whole times of `turns` and of `make 7`, which makes and
-# runs the same. It is no test. It needs the command rt and /usr/bin/time.
+# In each round, one after the other: run_times once, `turns` with 8 workers on the three parts of
+# `make 7`, `check` of the same tables without a query, and `make 7`, each ten times. It prints the
+# median times of a run and of the work over all rounds, in milliseconds, and the median of their
+# ratios; then the medians of the whole times of `turns` and of `make 7`, which makes and runs the
+# same, in CPU time, user and system; and how much more memory `turns` needs than `check` does. It is
+# no test. It needs the command rt and /usr/bin/time.
 #
 #   bench/turns.sh [ROUNDS]        15 rounds by default
 
@@ -17,8 +18,15 @@ rounds=${1:-15}
 here=$(CDPATH='' cd -- "$(dirname -- "$0")" && pwd)
 . "$here/common.sh"
 program=$(built_program)
-stages=$(stages_program 's/^const QUERIES: usize = 4;$/const QUERIES: usize = 40;/' \
-    's/^const REPEATS: u32 = 20;$/const REPEATS: u32 = 10;/')
+
+copy_crates $(sed -n 's/^\([a-z_]*\):.*/\1/p' "$here/../crates.txt")
+add_crate whole_stages pipe_ops plan_ast report_text
+cp "$here/run_times/main.rt.txt" "$work/crates/sched_tool/src/main.rt"
+sed -i 's/^mod \(pace\|reports\|summary\);/pub mod \1;/' "$work/crates/sched_tool/src/program.rt"
+sed -i 's/^fn generated_plan/pub fn generated_plan/' \
+    "$work/crates/sched_tool/src/program/summary.rt"
+sed -i 's/^sched_tool:.*/& whole_stages/' "$work/crates.txt"
+times=$(build sched_tool)
 
 cd "$work"
 "$program" make 7 script >s.json
@@ -37,15 +45,15 @@ timed() {
 
 round=0
 while [ "$round" -lt "$rounds" ]; do
+    "$times" | awk '{ print $1 / 1000000, $2 / 1000000, $1 / $2 }' >>rows
     timed turns "$program" turns s.json --workers 8
     timed check "$program" check none.json
     timed make "$program" make 7
-    "$stages" | awk '$1 == "time" && $2 ~ /^[0-9]/ { sum += $3 } END { print sum / 1000000 }' >>work
     round=$((round + 1))
 done
 
-paste -d ' ' turns check work | awk '{ print $1 - $3, $5, ($1 - $3) / $5, $2 - $4 }' >rows
-format='%10s %10s %6s %12s %10s %10s\n'
-printf "$format" 'run ms' 'work ms' ratio 'beyond KiB' 'turns ms' 'make ms'
-printf "$format" "$(median rows 1)" "$(median rows 2)" "$(median rows 3)" "$(median rows 4)" \
-    "$(median turns 1)" "$(median make 1)"
+paste -d ' ' turns check | awk '{ print $2 - $4 }' >beyond
+format='%10s %10s %6s %10s %10s %12s\n'
+printf "$format" 'run ms' 'work ms' ratio 'turns ms' 'make ms' 'beyond KiB'
+printf "$format" "$(median rows 1)" "$(median rows 2)" "$(median rows 3)" "$(median turns 1)" \
+    "$(median make 1)" "$(median beyond 1)"

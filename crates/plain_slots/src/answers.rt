@@ -22,6 +22,7 @@ use slot_station::moves::place_after;
 use slot_station::reply::{Admit, Mark, Pay, Reserve, Sweep};
 
 /// Puts the worker to its next place and notes its call.
+#[inline(always)]
 pub(crate) fn step(
     shape: &Shape,
     places: &mut Vec<Place>,

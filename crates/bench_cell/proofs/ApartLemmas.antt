@@ -31,7 +31,7 @@ past (r ∷ ranges) from to tuple all =
     let below : r.1 ≤ from = All-head (λ (q : ℕ × ℕ). q.1 ≤ from) r ranges all in
     either (range_of r.0 r.1 tuple) (tuples_in ranges tuple) (range_of from to tuple)
     (clash (leb r.0 tuple) (ltb tuple r.1) (leb from tuple) (ltb tuple to)
-        (λ one other. omega (arith, below, ltb-true tuple r.1 one, leb-true from tuple other)))
+    (λ one other. omega (arith, below, ltb-true tuple r.1 one, leb-true from tuple other)))
     (past ranges from to tuple (All-tail (λ (q : ℕ × ℕ). q.1 ≤ from) r ranges all))
 
 -- the tuples of ranges in the reverse order
@@ -47,7 +47,7 @@ worked_apart : (from to : ℕ) (bench : Bench) (ranges : List (ℕ × ℕ)) → 
 worked_apart from to bench ranges all (inl short) = inl short
 worked_apart from to bench ranges all (inr same) =
     inr (λ tuple. ap (λ b. b && range_of from to tuple) (ap (λ (l : List (ℕ × ℕ)). tuples_in l tuple) same ∙ reversed_tuples ranges tuple)
-        ∙ past ranges from to tuple all)
+    ∙ past ranges from to tuple all)
 
 -- a range past all ranges that a bench fits has no tuple in common with it
 pub past_apart : (plan : Plan) (worker id : ℕ) (ranges : List (ℕ × ℕ)) (bench : Bench) (from to : ℕ) → BenchFits plan worker id ranges bench

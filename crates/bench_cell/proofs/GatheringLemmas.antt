@@ -42,7 +42,7 @@ same_task plan id i j one other P h =
     let checked : checked_in i ≡ checked_in j = same_some (slice_get (checked_of plan) (id / 8)) (checked_in i) (checked_in j) one.query other.query in
     let number : number_in i ≡ number_in j = one.stage ∙ sym other.stage in
     subst (λ t. P t (checked_in j) (number_in j)) tables
-        (subst (λ c. P (tables_in i) c (number_in j)) checked (subst (P (tables_in i) (checked_in i)) number h))
+    (subst (λ c. P (tables_in i) c (number_in j)) checked (subst (P (tables_in i) (checked_in i)) number h))
 
 -- the total of a task set is that of its inputs
 pub total_of-inputs : (plan : Plan) (id : ℕ) (inputs : Inputs) → AreInputsOf plan id inputs → AreInputs inputs → total_of plan id ≡ Some (total_in inputs)
@@ -95,7 +95,7 @@ merged_result (bench ∷ benches) accs inputs result first some are same merges 
     let share : Share inputs sets accs = record { each = held_by plan id inputs of (bench ∷ benches) accs each same; apart = covers.apart } in
     let cover : Cover inputs sets = λ tuple below. covers.cover tuple (subst (λ n. tuple < n) all below) in
     λ other are_other. same_task plan id inputs other of are_other
-        (λ t c n. IsStageResult t (query_of c) (stage_at (query_of c) n) result) (merges sets share cover)
+    (λ t c n. IsStageResult t (query_of c) (stage_at (query_of c) n) result) (merges sets share cover)
 
 -- the accumulators of benches in the reverse order
 turned : (benches : List Bench) → map acc_in (reverse benches) ≡ reverse (map acc_in benches)

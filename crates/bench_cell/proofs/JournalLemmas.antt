@@ -270,7 +270,7 @@ note_all plan id claims benches fit whole = λ i bench at c.
     ap (λ n. times c (map (claim_by n) (ranges_in bench))) (fit.each i bench at).worker_is
     ∙ ap (λ (l : List (ℕ × ℕ)). times c (map (claim_by i) l)) (fitted_ranges plan id claims benches fit whole i bench at)
     ∙ sum_by-IsPermutation (weight c) (map (claim_by i) own) (map (claim_by i) (reverse own))
-        (IsPermutation-map (claim_by i) own (reverse own) (IsPermutation-reverse own))
+    (IsPermutation-map (claim_by i) own (reverse own) (IsPermutation-reverse own))
     ∙ ap (λ n. times c (map (claim_by n) (ranges_by n claims))) (omega arith)
 
 times_all : (claims : List Morsel) (benches : List Bench) (c : ClaimOf) → NoteFrom claims 0 benches

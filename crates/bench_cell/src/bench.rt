@@ -130,13 +130,7 @@ impl Bench {
 }
 
 // An accumulator with the tuples of a range, unless memory ran out.
-fn taken(
-    alloc: Global,
-    inputs: &Inputs,
-    from: u32,
-    to: u32,
-    mut acc: Box<Acc>,
-) -> Option<Box<Acc>>
+fn taken(alloc: Global, inputs: &Inputs, from: u32, to: u32, mut acc: Box<Acc>) -> Option<Box<Acc>>
     requires inputs { AreInputs inputs.now }
     requires order { from ≤ to }
     requires within { to ≤ total_in inputs.now }

@@ -141,7 +141,7 @@ without_mark_is text =
           rw found (sym (ap strip_bom (sym (take-append-drop 3 text) ∙ ap (λ front. front ++ drop 3 text) (sym begins)) ∙ stripped (drop 3 text)))
       | inr missing ↦
           rw missing (sym (kept text (λ (rest, begins). absurd (false≢true
-              (sym missing ∙ (bytes_eq-Decides mark (take 3 text)).1 (sym (ap (take 3) begins)))))))
+          (sym missing ∙ (bytes_eq-Decides mark (take 3 text)).1 (sym (ap (take 3) begins)))))))
     ]
 
 -- the text of a table reads as its records, if its first name begins with no mark

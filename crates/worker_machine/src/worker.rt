@@ -197,10 +197,15 @@ impl Worker {
         ensures ticks { steps.new ≤ steps.old + (S.seen station.old).desk.shape.slots
             + 4 * (S.seen station.old).desk.shape.workers + 2 * PARTS + 16 }
     {
+        let mut phase = mem::replace(&mut self.phase, Phase::Count);
         loop {
-            match self.step(alloc, station, steps, meter, gate) {
+            phase = self.core.go(alloc, phase, station, steps, meter, gate);
+            match phase.ended() {
                 Stepped::More => {}
-                Stepped::End(turn) => return turn,
+                Stepped::End(turn) => {
+                    self.phase = phase;
+                    return turn;
+                }
             }
         }
     }

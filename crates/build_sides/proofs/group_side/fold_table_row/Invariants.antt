@@ -9,7 +9,7 @@ invariant-loop-place l = record {
   count : length l.columns.items ≡ length l.fn.columns.items;
   done : (k : ℕ) (d : Column) → k < l.place
       → FoldsValue l.number (slice_index_or (values_by l.table l.aggs l.row) k (pos 0)) (slice_index_or l.fn.columns.items k d)
-          (slice_index_or l.columns.items k d);
+      (slice_index_or l.columns.items k d);
   rest : (k : ℕ) (d : Column) → l.place ≤ k → slice_index_or l.columns.items k d ≡ slice_index_or l.fn.columns.items k d;
   fits : (k : ℕ) → k < l.place → FitsSigned w64 (slice_index_or (values_by l.table l.aggs l.row) k (pos 0));
 }

@@ -37,7 +37,7 @@ loop-row-preserved c =
           c.loop-row.invariant.keys (ap (λ values. get_or values 0 (pos 0)) drawn.0);
       weights = pushed_more row (weight state) c.loop-row.weights.items _ _ c.in_ok-push-2.ensures.items
           (fits-draw (state_after state (row + 1)) 100 (omega arith) (omega arith))
-              c.loop-row.invariant.weights (ap (λ values. get_or values 1 (pos 0)) drawn.0);
+          c.loop-row.invariant.weights (ap (λ values. get_or values 1 (pos 0)) drawn.0);
       draws = drawn.1;
     }
 

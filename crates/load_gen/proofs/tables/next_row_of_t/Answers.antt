@@ -19,7 +19,7 @@ returns c =
     record {
       row = same_three _ _ _ _ _ _ _ refl
           (to_z-of_z w64 c.value_below-key.result key_fits ∙ c.value_below-key.ensures.draw
-              ∙ ap (λ x. pos (x % 1000)) (sym c.value_below-key.ensures.state ∙ first))
+          ∙ ap (λ x. pos (x % 1000)) (sym c.value_below-key.ensures.state ∙ first))
           (to_z-of_z w64 c.value_below-group.result group_fits ∙ c.value_below-group.ensures.draw
           ∙ ap (λ x. pos (x % 16)) (sym c.value_below-group.ensures.state ∙ second))
           (to_z-of_z w64 c.signed-value.result value_fits ∙ c.signed-value.ensures.draw ∙ ap signed_of (sym c.signed-value.ensures.state ∙ third));

@@ -1,5 +1,6 @@
 //! The table for one thread, whatever makes the steps of its calls.
-ghost use Rattle.std.specs.Prelude.{◌≡◌, [], IfOk, IsOkUnless};
+ghost use Rattle.std.specs.Prelude.{◌≡◌, [], All, None, IfOk, IsOkUnless, length};
+ghost use Rattle.slot_history.specs.Bounds.{IsShape};
 ghost use Rattle.slot_station.specs.declared.reply.MakeRefusal.TheVariants.{OutOfMemory};
 ghost use Rattle.slot_station.specs.Log.{calls_of};
 ghost use Rattle.slot_station.specs.Shapes.{IsRefusedBy, refusal_of};
@@ -10,7 +11,7 @@ use slot_station::History;
 use slot_station::limits::shape_of;
 use slot_station::reply::MakeRefusal;
 use slot_station::station::Fits;
-use std::alloc::Global;
+use std::alloc::{AllocError, Global};
 use std::marker::Model;
 use std::snapshot::Snapshot;
 
@@ -57,19 +58,10 @@ impl<B: Fits, O: SlotObject> OneTable<B, O> {
         }) }
     {
         let shape = shape_of(slots, workers, queries)?;
-        let count = slots as usize * workers as usize;
-        let mut cells = Vec::with_capacity(alloc, count).map_err(|_| MakeRefusal::OutOfMemory)?;
-        for _ in 0..count {
-            cells.push(None).map_err(|_| MakeRefusal::OutOfMemory)?;
-        }
-        let Ok(object) = O::make(alloc, shape) else {
+        let Ok(table) = make_with(alloc, shape, subject) else {
             return Err(MakeRefusal::OutOfMemory);
         };
-        Ok(OneTable {
-            object,
-            cells,
-            subject,
-        })
+        Ok(table)
     }
 
     /// How large the table is.
@@ -99,4 +91,37 @@ impl<B: Fits, O: SlotObject> OneTable<B, O> {
         drop(subject);
         History::of(object.into_log().into_badge())
     }
+}
+
+/// A table of this shape, which nobody has used.
+fn make_with<B: Fits, O: SlotObject>(
+    alloc: Global,
+    shape: Shape,
+    subject: Snapshot<B::Subject>,
+) -> Result<OneTable<B, O>, AllocError>
+    requires shape { IsShape shape }
+    requires queries { shape.queries ≡ B.queries subject.value }
+    ensures { IfOk result (λ table. table
+        ≡ record { shape = shape; subject = subject.value; log = [] }) }
+{
+    let count = shape.slots as usize * shape.workers as usize;
+    let cells = empty_cells(alloc, count)?;
+    let object = O::make(alloc, shape)?;
+    Ok(OneTable {
+        object,
+        cells,
+        subject,
+    })
+}
+
+/// So many cells, each of which holds None.
+fn empty_cells<B: Fits>(alloc: Global, count: usize) -> Result<Vec<Option<B>>, AllocError>
+    ensures count { IfOk result (λ cells. length cells.items ≡ count) }
+    ensures none { IfOk result (λ cells. All (λ x. x ≡ None) cells.items) }
+{
+    let mut cells = Vec::with_capacity(alloc, count)?;
+    for _ in 0..count {
+        cells.push(None)?;
+    }
+    Ok(cells)
 }

@@ -1,5 +1,5 @@
 use Rattle.std.proofs.Common.{◌≡◌, All, None, length}
-use Rattle.one_thread.proofs.table.OneTable.make.Given as goal
+use Rattle.one_thread.proofs.table.empty_cells.Given as goal
 
 abbrev pub invariant-loop : goal.invariant-loop
 invariant-loop g l = record {

@@ -19,8 +19,6 @@ pub mod joined;
 pub mod laws;
 pub mod life;
 pub mod rule;
-#[cfg(test)]
-mod tests;
 pub mod view;
 
 pub use board::{Board, Pass};

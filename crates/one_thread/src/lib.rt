@@ -8,7 +8,8 @@
 //! The layers above may use one fact: a seat of a table is a station, and the table's history is
 //! the seat's start with the seat's own entries after it.
 //!
-//! A caller over any such table, which seats a worker and lets it watch (proved in `examples`):
+//! A caller over any such table, which seats a worker and lets it watch (proved in the crate
+//! `slot_rows`):
 //!
 //! ```
 //! fn admitted<B: Fits, O: SlotObject, L: Ledger>(
@@ -27,8 +28,6 @@
 //! ```
 #![tactic(auto)]
 
-#[cfg(test)]
-mod examples;
 pub mod laws;
 pub mod object;
 pub mod seat;

@@ -8,7 +8,7 @@
 //! The layers above may use one fact: `PlainTable` is a `OneTable`, so each of its seats is a
 //! `Station`.
 //!
-//! A caller over any station, and its use over a table (proved in `examples`):
+//! A caller over any station, and its use over a table (proved in the crate `slot_rows`):
 //!
 //! ```
 //! fn progress<B: Fits, S: Station<B>, L: Ledger>(
@@ -28,8 +28,6 @@
 #![tactic(auto)]
 
 mod answers;
-#[cfg(test)]
-mod examples;
 pub mod object;
 mod slot;
 pub mod table;

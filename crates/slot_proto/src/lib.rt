@@ -11,8 +11,6 @@
 pub mod machine;
 pub mod proto;
 pub mod reading;
-#[cfg(test)]
-mod tests;
 
 pub use machine::Machine;
 pub use one_thread::{OneSeat, OneTable, SlotObject};

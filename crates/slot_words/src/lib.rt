@@ -13,8 +13,6 @@ pub mod address;
 pub mod encoding;
 pub mod laws;
 pub mod opening;
-#[cfg(test)]
-mod tests;
 
 pub use address::{Address, count_of_words, index};
 pub use encoding::{at_word, counter_word, cursor_word, marked, open_word, tagged};

@@ -1,27 +1,11 @@
 //! A board that nobody steps on.
-ghost use Rattle.std.specs.Prelude.{None};
-
-use crate::board::Board;
-use crate::joined::Joined;
+use crate::anything::Anything;
+use board_rule::board::Board;
+use board_rule::joined::Joined;
 use slot_station::reply::MakeRefusal;
-use slot_station::station::Fits;
 use std::alloc::Global;
 use std::snapshot::Snapshot;
 use std::test::Fail;
-
-/// A cell's value that fits whatever was claimed.
-#[derive(Drop)]
-struct Anything;
-
-impl Fits for Anything {
-    type Subject = ();
-
-    ghost queries = { λ _. 0 };
-
-    ghost total = { λ _ _. None };
-
-    ghost fits = { λ _ _ _ _ _. Unit {0} };
-}
 
 /// A board of one slot and one worker that was made and ended.
 fn unused(alloc: Global) -> Result<Joined, MakeRefusal> {

@@ -1,8 +1,8 @@
-//! Worked words.
+//! Worked words, packed and at the start.
 
-use crate::encoding::{at_word, counter_word, cursor_word, marked, open_word, tagged};
-use crate::opening::first_words;
 use slot_history::shape::Shape;
+use slot_words::encoding::{at_word, counter_word, cursor_word, marked, open_word, tagged};
+use slot_words::opening::first_words;
 use std::test::Fail;
 
 #[test]

@@ -1,11 +1,11 @@
 //! Words after calls. Of two workers and one slot there are 16 words: 3 single ones, then the
 //! slot's state, cursor and counter, then of each worker its state and four masks.
 
-use crate::machine::Machine;
-use crate::proto::{Proto, words};
 use one_thread::object::SlotObject;
 use slot_history::place::{Held, Place};
 use slot_history::shape::Shape;
+use slot_proto::machine::Machine;
+use slot_proto::proto::{Proto, words};
 use slot_station::reply::{
     Admit, Claim, Leave, Look, MakeRefusal, Mark, Pay, Reserve, Shut, Sweep,
 };
@@ -25,40 +25,58 @@ const SHAPE: Shape = Shape {
     queries: 1,
 };
 
+/// What worker 0 has in hand once it reserved the slot.
+const RESERVED: Held = Held {
+    query: None,
+    stage: 0,
+    again: false,
+    noted: 0,
+    total: None,
+};
+
 fn expect_words(rt: &impl Abort, machine: &Machine, slot: [u64; 3], first: u64, second: u64) {
     let words = machine.words();
     assert!(rt; words.len() == 16);
-    assert_eq!(rt; words[3], slot[0]);
-    assert_eq!(rt; words[4], slot[1]);
-    assert_eq!(rt; words[5], slot[2]);
-    assert_eq!(rt; words[6], first);
-    assert_eq!(rt; words[11], second);
+    let shown = [words[3], words[4], words[5], words[6], words[11]];
+    let wanted = [slot[0], slot[1], slot[2], first, second];
+    assert_eq!(rt; shown.as_slice(), wanted.as_slice());
 }
 
-/// Worker 0 opens the slot with the task set 0.
-fn fill(rt: &impl Abort, machine: &mut Machine) {
+/// Worker 0 reserves the slot and admits the query.
+fn reserve(rt: &impl Abort, machine: &mut Machine) {
     assert!(rt; machine.shape() == SHAPE);
     assert!(rt; machine.place(0) == Place::Free);
     assert!(rt; matches!(machine.reserve(0, 0), Reserve::Got(_)));
     expect_words(rt, machine, [1, 0, ZERO], 0, 0);
-    let mut held = Held {
-        query: None,
-        stage: 0,
-        again: false,
-        noted: 0,
-        total: None,
-    };
-    assert!(rt; machine.place(0) == Place::Holding(0, held));
+    assert!(rt; machine.place(0) == Place::Holding(0, RESERVED));
     assert!(rt; machine.admit(0, 0) == Admit::Got);
-    held.query = Some(0);
-    assert!(rt; machine.place(0) == Place::Holding(0, held));
+}
+
+/// Worker 0 opens the slot with the task set 0.
+fn open(rt: &impl Abort, machine: &mut Machine) {
+    assert!(rt; machine.shape() == SHAPE);
+    let admitted = Held {
+        query: Some(0),
+        ..RESERVED
+    };
+    assert!(rt; machine.place(0) == Place::Holding(0, admitted));
     machine.set_total(0, 16);
     expect_words(rt, machine, [1, TOTAL, ZERO], 0, 0);
-    held.total = Some(16);
-    assert!(rt; machine.place(0) == Place::Holding(0, held));
+    let ready = Held {
+        total: Some(16),
+        ..admitted
+    };
+    assert!(rt; machine.place(0) == Place::Holding(0, ready));
     let announcer = machine.install(0, 0);
     drop(announcer);
     expect_words(rt, machine, [6, TOTAL, ZERO], 0, 0);
+}
+
+/// Worker 0 opens the slot with the task set 0, and tells both workers.
+fn fill(rt: &impl Abort, machine: &mut Machine) {
+    reserve(rt, machine);
+    open(rt, machine);
+    assert!(rt; machine.shape() == SHAPE);
     assert!(rt; machine.place(0) == Place::Announcing(0, false, 0));
     machine.announce(0);
     assert!(rt; machine.place(0) == Place::Announcing(0, false, 1));
@@ -95,12 +113,23 @@ fn come_in(rt: &impl Abort, machine: &mut Machine, worker: u32) {
 fn work(rt: &impl Abort, machine: &mut Machine) {
     come_in(rt, machine, 0);
     come_in(rt, machine, 1);
+    claim_all(rt, machine);
+    shut(rt, machine);
+}
+
+/// Worker 0 claims all tuples, and finds that none are left.
+fn claim_all(rt: &impl Abort, machine: &mut Machine) {
     assert!(rt; machine.shape() == SHAPE);
     assert!(rt; machine.place(0) == Place::Inside(0, 0));
     assert!(rt; machine.claim(0, 16) == Claim::Range(0, 16));
     expect_words(rt, machine, [6, TOTAL + 16, ZERO], 1, 1);
     assert!(rt; machine.place(0) == Place::Inside(0, 0));
     assert!(rt; matches!(machine.claim(0, 16), Claim::Exhausted(_)));
+}
+
+/// Worker 0 shuts the task set, leaves and marks worker 1.
+fn shut(rt: &impl Abort, machine: &mut Machine) {
+    assert!(rt; machine.shape() == SHAPE);
     assert!(rt; machine.place(0) == Place::Used(0, 0));
     assert!(rt; matches!(machine.shut(0), Shut::Won(_)));
     expect_words(rt, machine, [7, TOTAL + 32, ZERO], 1, 1);
@@ -128,17 +157,15 @@ fn owe(rt: &impl Abort, machine: &mut Machine, counter: u64) {
 /// A worker finalises: it notes one task set and gives the slot back.
 fn finalise(rt: &impl Abort, machine: &mut Machine, worker: u32) {
     assert!(rt; worker < machine.shape().workers);
-    let mut held = Held {
+    let held = Held {
         query: Some(0),
-        stage: 0,
         again: true,
-        noted: 0,
-        total: None,
+        ..RESERVED
     };
     assert!(rt; machine.place(worker) == Place::Holding(0, held));
     machine.note_done(worker, 1);
-    held.noted = 1;
-    assert!(rt; machine.place(worker) == Place::Holding(0, held));
+    let noted = Held { noted: 1, ..held };
+    assert!(rt; machine.place(worker) == Place::Holding(0, noted));
     machine.release(worker);
     expect_words(rt, machine, [0, TOTAL + 33, ZERO], 0, 0);
     assert!(rt; machine.finished(worker) == 1);

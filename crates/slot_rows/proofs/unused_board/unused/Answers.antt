@@ -1,7 +1,7 @@
 use Rattle.std.proofs.Common.{◌≡◌, length, ap, arith}
 use Rattle.board_rule.specs.Passes.{board_shape}
 use Rattle.board_rule.proofs.Deals.{fresh-all, fresh-done}
-use Rattle.board_rule.proofs.tests.unused.Goals as goal
+use Rattle.slot_rows.proofs.unused_board.unused.Goals as goal
 
 pub finish-requires-clause-all : goal.finish-requires-clause-all
 finish-requires-clause-all c =

@@ -19,11 +19,8 @@ pub mod reading;
 pub mod writing;
 
 pub use adapters::{DirFiles, StdSink, StdWriter, WriterSink};
-pub use gates::{Gate, OpenGate};
-pub use memory::{MemFiles, MemSink, SureFiles};
-pub use meters::{CostMeter, Meter};
+pub use gates::{Gate, HoldGate, OpenGate};
+pub use memory::{CountSink, MemFiles, MemSink, SureFiles};
+pub use meters::{CostMeter, Meter, RealMeter};
 pub use reading::{Files, MOST_BYTES, PieceRefusal, ReadRefusal, limits, read_whole};
 pub use writing::{Failed, Sink, write_all};
-
-#[cfg(test)]
-mod tests;

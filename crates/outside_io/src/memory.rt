@@ -223,6 +223,27 @@ impl Sink for MemSink {
     }
 }
 
+/// A sink that takes every byte at once and keeps none. It never fails.
+#[derive(Clone, Copy, Debug, Default, PartialEq, Eq)]
+pub struct CountSink;
+
+impl CountSink {
+    /// A sink. It has no state.
+    pub fn new() -> CountSink {
+        CountSink
+    }
+}
+
+impl Sink for CountSink {
+    ghost faults = { λ _. 0 };
+
+    fn write_piece(&mut self, bytes: &[u8]) -> Result<usize, Failed>
+        ensures { result ≡ Ok (length bytes.now) }
+    {
+        Ok(bytes.len())
+    }
+}
+
 // Copies as many bytes of the file from `at` on as the buffer has room for, and answers how many.
 fn copy_piece(file: &[u8], at: u64, buf: &mut [u8]) -> usize
     ensures count { result ≡ min (length buf.old) (length file.now - at) }

@@ -23,6 +23,3 @@ pub use crate::table::{MAX_COLUMNS, MAX_ROWS, RowRefusal, ShapeRefusal, Table, l
 
 /// The name of a column or of a table.
 pub type Name = ColumnName;
-
-#[cfg(test)]
-mod tests;

@@ -24,6 +24,3 @@ mod writing;
 pub use crate::reading::load;
 pub use crate::refusal::TableRefusal;
 pub use crate::writing::{push_line, write_table};
-
-#[cfg(test)]
-mod tests;

@@ -1,16 +1,45 @@
-use super::*;
+//! Texts that stand for tables, texts that don't, and what is written.
+
 use col_table::Table;
+use csv_tables::{TableRefusal, load, push_line, write_table};
+use std::alloc::{AllocError, Global};
+use std::process::Abort;
 use std::test::Fail;
 
-// The rows of a table, value by value and row by row.
-fn values(rt: &HostRuntime, table: &Table) -> Result<Vec<i64>, Fail> {
-    let mut values = Vec::new(rt.alloc());
+/// The rows of a table, value by value and row by row.
+fn values(alloc: Global, table: &Table) -> Result<Vec<i64>, AllocError> {
+    let mut values = Vec::new(alloc);
     for row in 0..table.rows() {
         for col in 0..table.cols() {
             values.push(table.value(row, col))?;
         }
     }
     Ok(values)
+}
+
+/// Asserts the rows of a table that a text stands for.
+fn expect_rows(
+    rt: &impl Abort,
+    alloc: Global,
+    text: &[u8],
+    table: &Table,
+    rows: &[i64],
+) -> Result<(), Fail> {
+    assert_eq!(rt; values(alloc, table)?.as_slice(), rows, "at {text:?}");
+    Ok(())
+}
+
+/// Asserts how many columns the table of a text has, and its rows.
+fn expect_table(
+    rt: &impl Abort,
+    alloc: Global,
+    text: &[u8],
+    columns: u32,
+    rows: &[i64],
+) -> Result<(), Fail> {
+    let table = load(alloc, text)?;
+    assert_eq!(rt; table.cols(), columns, "at {text:?}");
+    expect_rows(rt, alloc, text, &table, rows)
 }
 
 // Texts that stand for tables in each form of lines and fields, with the values of their rows.
@@ -45,16 +74,14 @@ fn loads_each_form(rt: HostRuntime) -> Result<(), Fail> {
             &[i64::MAX, i64::MIN],
         ),
     ] {
-        let table = load(rt.alloc(), text)?;
-        assert_eq!(rt; table.cols(), columns, "at {text:?}");
-        assert_eq!(rt; values(&rt, &table)?.as_slice(), want, "at {text:?}");
+        expect_table(&rt, rt.alloc(), text, columns, want)?;
     }
     Ok(())
 }
 
-// The refusal of a text, if it has one.
-fn refused(rt: &HostRuntime, text: &[u8]) -> Option<TableRefusal> {
-    match load(rt.alloc(), text) {
+/// The refusal of a text, if it has one.
+pub fn refused(alloc: Global, text: &[u8]) -> Option<TableRefusal> {
+    match load(alloc, text) {
         Ok(_) => None,
         Err(refusal) => Some(refusal),
     }
@@ -117,7 +144,7 @@ fn tells_the_first_refusal(rt: HostRuntime) {
         (b"v\n1\n\xff\n", TableRefusal::NotANumber(2, 1)),
         (b"v\n\xef\xbb\xbf1\n", TableRefusal::NotANumber(1, 1)),
     ] {
-        assert_eq!(rt; refused(&rt, text), Some(want), "at {text:?}");
+        assert_eq!(rt; refused(rt.alloc(), text), Some(want), "at {text:?}");
     }
 }
 
@@ -146,6 +173,12 @@ fn says_each_refusal(rt: HostRuntime) -> Result<(), Fail> {
     Ok(())
 }
 
+/// The text that the table of a text is written as.
+fn rewritten(alloc: Global, text: &[u8]) -> Result<Vec<u8>, Fail> {
+    let table = load(alloc, text)?;
+    Ok(write_table(alloc, &table)?)
+}
+
 // Texts that stand for tables, and the text that their tables are written as.
 #[test]
 fn writes_what_it_loads(rt: HostRuntime) -> Result<(), Fail> {
@@ -169,8 +202,7 @@ fn writes_what_it_loads(rt: HostRuntime) -> Result<(), Fail> {
         (b"\xef\xbb\xbf\xef\xbb\xbfk\n", b"\xef\xbb\xbfk\n"),
         (b"k,\xef\xbb\xbfk\n", b"k,\xef\xbb\xbfk\n"),
     ] {
-        let table = load(rt.alloc(), text)?;
-        let written = write_table(rt.alloc(), &table)?;
+        let written = rewritten(rt.alloc(), text)?;
         assert_eq!(rt; written.as_slice(), want, "at {text:?}");
     }
     Ok(())
@@ -185,6 +217,20 @@ fn adds_lines(rt: HostRuntime) -> Result<(), Fail> {
     push_line(&mut text, &[0])?;
     let want = b"k,v\n1,-10\n-9223372036854775808,9223372036854775807\n0\n".as_slice();
     assert_eq!(rt; text.as_slice(), want);
+    Ok(())
+}
+
+/// Asserts the rows of a text, or its refusal.
+fn expect_outcome(
+    rt: &impl Abort,
+    alloc: Global,
+    text: &[u8],
+    want: Result<&[i64], TableRefusal>,
+) -> Result<(), Fail> {
+    match want {
+        Ok(rows) => expect_rows(rt, alloc, text, &load(alloc, text)?, rows)?,
+        Err(refusal) => assert_eq!(rt; refused(alloc, text), Some(refusal), "at {text:?}"),
+    }
     Ok(())
 }
 
@@ -209,69 +255,8 @@ fn reads_each_prefix(rt: HostRuntime) -> Result<(), Fail> {
         ([17, 18], Ok(&[1, 10, 1, 20, 2, 5])),
     ] {
         for length in lengths {
-            let prefix = &text[..length];
-            match want {
-                Ok(rows) => {
-                    let table = load(rt.alloc(), prefix)?;
-                    assert_eq!(rt; values(&rt, &table)?.as_slice(), rows, "at {length}");
-                }
-                Err(refusal) => {
-                    assert_eq!(rt; refused(&rt, prefix), Some(refusal), "at {length}")
-                }
-            }
+            expect_outcome(&rt, rt.alloc(), &text[..length], want)?;
         }
     }
-    Ok(())
-}
-
-// A table holds 1,048,576 rows, and a record more is too many whatever it holds.
-#[test]
-fn holds_so_many_rows(rt: HostRuntime) -> Result<(), Fail> {
-    let mut text = Vec::from_slice(rt.alloc(), b"v\n")?;
-    for _ in 0..1_048_576 {
-        text.extend_from_slice(b"1\n")?;
-    }
-    let table = load(rt.alloc(), text.as_slice())?;
-    assert_eq!(rt; table.rows(), 1_048_576);
-    text.extend_from_slice(b"x,")?;
-    assert_eq!(rt;
-        refused(&rt, text.as_slice()),
-        Some(TableRefusal::TooManyRows)
-    );
-    Ok(())
-}
-
-// A header holds 32 names, whatever the fields past them are.
-#[test]
-fn holds_so_many_columns(rt: HostRuntime) -> Result<(), Fail> {
-    let mut text = Vec::from_slice(rt.alloc(), b"0")?;
-    for number in 1..32 {
-        let name = format!(in rt.alloc(); ",{number}")?;
-        text.extend_from_slice(name.as_bytes())?;
-    }
-    let table = load(rt.alloc(), text.as_slice())?;
-    assert_eq!(rt; table.cols(), 32);
-    text.extend_from_slice(b",0")?;
-    assert_eq!(rt;
-        refused(&rt, text.as_slice()),
-        Some(TableRefusal::TooManyColumns)
-    );
-    Ok(())
-}
-
-// A name has 64 bytes at most.
-#[test]
-fn takes_names_of_64_bytes(rt: HostRuntime) -> Result<(), Fail> {
-    let mut text = Vec::from_slice(rt.alloc(), b"k,")?;
-    for _ in 0..32 {
-        text.extend_from_slice(b"\xc2\x80")?;
-    }
-    let table = load(rt.alloc(), text.as_slice())?;
-    assert_eq!(rt; table.cols(), 2);
-    text.push(b'v')?;
-    assert_eq!(rt;
-        refused(&rt, text.as_slice()),
-        Some(TableRefusal::BadName(2))
-    );
     Ok(())
 }

@@ -1,6 +1,6 @@
 use Rattle.std.proofs.Common.{ap, refl, ◌∙◌}
 use Rattle.prio_decay.specs.Priority.{unspent, after_spending, priority_after, priority_of}
-use Rattle.prio_decay.proofs.tests.priority_after_eight_quanta.Goals as goal
+use Rattle.policy_rows.proofs.decays.priority_after_eight_quanta.Goals as goal
 
 pub returns : goal.returns
 unfolding priority_after

@@ -22,6 +22,3 @@ pub use crate::parts::{Part, make_part};
 pub use crate::queries::QUERY_COUNT;
 pub use crate::summary::Summary;
 pub use crate::tables::{T_ROWS, U_ROWS};
-
-#[cfg(test)]
-mod tests;

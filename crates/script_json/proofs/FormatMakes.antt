@@ -20,7 +20,8 @@ use Rattle.plan_ast.specs.declared.queries.Output.{Output}
 use Rattle.plan_ast.specs.declared.queries.Query.{Query}
 use Rattle.script_json.specs.Forms.{Form, Reading, ◌>>◌, array_of, or_refuse, required, optional, bad_text, twice_named, whole, wrong_number, wrong_shape}
 use Rattle.col_table.specs.Name.{is_name}
-use Rattle.script_json.specs.Format.{entry_layout, filter_layout, function_layout, groups_layout, join_layout, query_layout}
+use Rattle.script_json.specs.Format.{entry_layout, filter_layout, function_layout, groups_layout, join_layout, query_layout, script_layout}
+use Rattle.script_json.specs.Objects.{reads_object}
 use Rattle.script_json.specs.Format.{aggregate, aggregates, any_number, count_of_rows, counts, file_name, filter, filters, first_early, function}
 use Rattle.script_json.specs.Format.{function_named, function_of_column, groups, groups_of, has, is_file_name, is_i64, join, joined_column, joins}
 use Rattle.script_json.specs.Format.{name, new_name, operator, operator_named, output, output_among, output_keys, query, reference, reference_among}
@@ -29,6 +30,7 @@ use Rattle.script_json.specs.WellFormed.{IsAgg, IsEntry, IsFilter, IsOutput, IsQ
 use Rattle.script_json.specs.declared.refusal.PathStep.TheVariants.{At}
 use Rattle.script_json.specs.declared.refusal.ScriptRefusal.TheVariants.{VersionUnknown}
 use Rattle.script_json.specs.declared.script.TableEntry.{TableEntry}
+use Rattle.script_json.specs.declared.script.Script.{Script}
 use Rattle.script_json.proofs.Parts.{AnyAgg, FewJoin}
 use Rattle.script_json.proofs.Makes.{Makes, Makes-after, Makes-array_of, Makes-found, Makes-member, Makes-member_or, Makes-object_of, Makes-optional}
 use Rattle.script_json.proofs.Makes.{Makes-or_refuse, Makes-refuse_if, Makes-required, Makes-text_of, Makes-then, Makes-under-then, Makes-unless, Makes-weaker}
@@ -303,27 +305,35 @@ queries-makes : (value : Data)
     → Makes (λ all. All IsQuery all × (0 ≤ length all) × (length all ≤ 4096)) (array_of 0 4096 (λ _. query) value)
 queries-makes value = array-makes IsQuery 0 4096 query query-makes value
 
--- queries that were read are few, and within their limits
-pub required-queries : (value : Data) (queries : List Query)
-    → required (codes "queries") (array_of 0 4096 (λ _. query)) value ≡ Ok queries
-    → All IsInBounds queries × (length queries ≤ 4096)
-required-queries value queries is =
+-- what is known of the members of a script, whatever its queries wait for
+abbrev HasParts : Script → Type 0
+HasParts s =
+    (Entries s.tables × (0 ≤ length s.tables) × (length s.tables ≤ 8)) ×
+    (All IsQuery s.queries × (0 ≤ length s.queries) × (length s.queries ≤ 4096))
+
+members-make : (value : Data) → Makes HasParts (reads_object script_layout value)
+members-make value =
+    let T : List TableEntry → Type 0 = λ all. Entries all × (0 ≤ length all) × (length all ≤ 8) in
     let Q : List Query → Type 0 = λ all. All IsQuery all × (0 ≤ length all) × (length all ≤ 4096) in
-    let form : Form (List Query) = array_of 0 4096 (λ _. query) in
-    let made = subst (λ (r : Reading (List Query)). Makes Q r) is (Makes-required Q (codes "queries") form value queries-makes) in
-    ((λ k d within. (made.0 k d within).bounds), made.2)
+    let queries_form : Form (List Query) = array_of 0 4096 (λ _. query) in
+    Makes-object_of HasParts script_layout.keys value _ (
+    Makes-member (λ _. ⊤) HasParts (codes "version") version value _ version-makes (λ known _.
+    Makes-member T HasParts (codes "tables") (array_of 0 8 table_entry) value _ tables-makes (λ tables t.
+    Makes-member Q HasParts (codes "queries") queries_form value _ queries-makes (λ queries q. (t, q)))))
+
+-- queries that were read are few, and within their limits
+pub members-queries : (value : Data) (s : Script) → reads_object script_layout value ≡ Ok s
+    → All IsInBounds s.queries × (length s.queries ≤ 4096)
+members-queries value s is =
+    let made = subst (λ (r : Reading Script). Makes HasParts r) is (members-make value) in
+    ((λ k d within. (made.1.0 k d within).bounds), made.1.2)
 
 -- a value is a well-formed script, or the refusal is of the value
 pub script-makes : (value : Data) → Makes IsScript (script value)
 unfolding Entries
 script-makes value =
-    let T : List TableEntry → Type 0 = λ all. Entries all × (0 ≤ length all) × (length all ≤ 8) in
-    let Q : List Query → Type 0 = λ all. All IsQuery all × (0 ≤ length all) × (length all ≤ 4096) in
-    let queries_form : Form (List Query) = array_of 0 4096 (λ _. query) in
     Makes-after IsScript (or_refuse wrong_shape (as_object value)) _ (Makes-or_refuse wrong_shape (as_object value) tt) (
     Makes-after IsScript (required (codes "version") version value) _ (Makes-required (λ _. ⊤) (codes "version") version value version-makes) (
-    Makes-object_of IsScript (codes "version" ∷ codes "tables" ∷ codes "queries" ∷ []) value _ (
-    Makes-member T IsScript (codes "tables") (array_of 0 8 table_entry) value _ tables-makes (λ tables t.
-    Makes-member Q IsScript (codes "queries") queries_form value _ queries-makes (λ queries q.
-    unless_early IsScript (first_early 0 0 queries) _ (λ none.
-    record { few_tables = t.2; tables = t.0.0; names = t.0.1; few_queries = q.2; queries = q.0; after = none }))))))
+    Makes-then HasParts IsScript (reads_object script_layout value) _ (members-make value) (λ s parts.
+    unless_early IsScript (first_early 0 0 s.queries) _ (λ none.
+    record { few_tables = parts.0.2; tables = parts.0.0.0; names = parts.0.0.1; few_queries = parts.1.2; queries = parts.1.0; after = none }))))

@@ -13,7 +13,7 @@ use Rattle.plan_ast.specs.declared.queries.Agg.{Agg}
 use Rattle.plan_ast.specs.declared.queries.Output.{Output}
 use Rattle.plan_ast.specs.declared.queries.Output.TheVariants.{Rows, Totals, Groups}
 use Rattle.plan_ast.specs.declared.queries.Query.{Query}
-use Rattle.script_json.specs.Canonical.{script_value}
+use Rattle.script_json.specs.Format.{script_value}
 use Rattle.script_json.specs.Format.{aggregate_of, aggregate_value, entry_value, filter_value, join_value, output_value, query_value, reference_value}
 use Rattle.script_json.specs.declared.script.TableEntry.{TableEntry}
 use Rattle.script_json.specs.declared.script.Script.{Script}

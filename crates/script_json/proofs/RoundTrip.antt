@@ -24,7 +24,7 @@ use Rattle.plan_ast.specs.declared.queries.Agg.{Agg}
 use Rattle.plan_ast.specs.declared.queries.Output.{Output}
 use Rattle.plan_ast.specs.declared.queries.Output.TheVariants.{Rows, Totals, Groups}
 use Rattle.plan_ast.specs.declared.queries.Query.{Query}
-use Rattle.script_json.specs.Canonical.{script_value}
+use Rattle.script_json.specs.Format.{script_value}
 use Rattle.script_json.specs.Objects.{array_with}
 use Rattle.script_json.specs.Format.{aggregate_of, aggregate_value, entry_value, filter_value, function_word, join_value, operator_word, output_value}
 use Rattle.script_json.specs.Format.{query_value, reference_value}

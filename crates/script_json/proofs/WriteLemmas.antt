@@ -4,7 +4,8 @@ use Rattle.serde_json.specs.Data.{Data, depth}
 use Rattle.serde_json.specs.Read.{read}
 use Rattle.serde_json.specs.Written.{compact_text, has_float}
 use Rattle.col_table.specs.Mark.{without_mark}
-use Rattle.script_json.specs.Canonical.{script_text, script_value}
+use Rattle.script_json.specs.Canonical.{script_text}
+use Rattle.script_json.specs.Format.{script_value}
 use Rattle.script_json.specs.Scripts.{ReadsScript}
 use Rattle.script_json.specs.WellFormed.{IsScript}
 use Rattle.script_json.specs.declared.script.Script.{Script}

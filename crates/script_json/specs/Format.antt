@@ -317,13 +317,24 @@ abbrev pub refuse_early : Option ℕ → Reading ⊤
 refuse_early None = Ok tt
 refuse_early (Some n) = Err (AfterTooLarge n)
 
--- `version` is read before all else, and the queries' `after` last
+-- `version`, `tables` and `queries` are required. A later version adds its members here.
+abbrev pub script_layout : Layout Script Script Script
+script_layout =
+    built_by (λ known tables queries. record { tables = tables; queries = queries })
+    & must (codes "version") version (λ script. number (unsigned 1))
+    & must (codes "tables") (array_of 0 8 table_entry)
+    (λ script. array_with entry_value script.tables)
+    & must (codes "queries") (array_of 0 4096 (λ _. query))
+    (λ script. array_with query_value script.queries)
+
+-- `version` is read before all else, even before the keys, and the queries' `after` last
 abbrev pub script : Form Script
 script value = do
   or_refuse wrong_shape (as_object value)
   required (codes "version") version value
-  object_of (codes "version" ∷ codes "tables" ∷ codes "queries" ∷ []) value
-  tables ← required (codes "tables") (array_of 0 8 table_entry) value
-  queries ← required (codes "queries") (array_of 0 4096 (λ _. query)) value
-  refuse_early (first_early 0 0 queries)
-  Ok (record { tables = tables; queries = queries })
+  read ← reads_object script_layout value
+  refuse_early (first_early 0 0 read.queries)
+  Ok read
+
+abbrev pub script_value : Script → Data
+script_value script = written_object script_layout script

@@ -24,6 +24,3 @@ pub use crate::read::read_script;
 pub use crate::refusal::{Path, PathStep, ScriptRefusal};
 pub use crate::script::{MAX_FILE_BYTES, MAX_QUERIES, MAX_TABLES, Script, TableEntry};
 pub use crate::write::write_script;
-
-#[cfg(test)]
-mod tests;

@@ -4,7 +4,8 @@ ghost use Rattle.serde_json.specs.Data.{Data};
 ghost use Rattle.serde_json.specs.View.{view};
 ghost use Rattle.plan_ast.specs.Bounds.{IsInBounds};
 ghost use Rattle.script_json.specs.Forms.{Gives};
-ghost use Rattle.script_json.specs.Format.{first_early, script, version};
+ghost use Rattle.script_json.specs.Format.{first_early, script, script_layout, version};
+ghost use Rattle.script_json.specs.Objects.{reads_object};
 ghost use Rattle.script_json.specs.Scripts.{IsJson, ReadsScript, RefusesScript};
 ghost use Rattle.script_json.specs.WellFormed.{IsScript};
 
@@ -81,19 +82,30 @@ impl Form for ScriptForm {
             return Err(ScriptRefusal::wrong_shape(alloc));
         }
         read_required(alloc, value, "version", &VersionForm)?;
-        check_keys(alloc, value, &["version", "tables", "queries"])?;
-        let tables = read_required(alloc, value, "tables", &TablesForm)?;
-        let forms = ArrayForm {
-            least: 0,
-            most: MAX_QUERIES as u32,
-            item: QueryForm,
-        };
-        let queries = read_required(alloc, value, "queries", &forms)?;
-        match early_query(queries.as_slice()) {
+        let script = read_members(alloc, value)?;
+        match early_query(script.queries.as_slice()) {
             Some(query) => Err(ScriptRefusal::AfterTooLarge(query)),
-            None => Ok(Script { tables, queries }),
+            None => Ok(script),
         }
     }
+}
+
+const QUERIES: ArrayForm<QueryForm> = ArrayForm {
+    least: 0,
+    most: MAX_QUERIES as u32,
+    item: QueryForm,
+};
+
+// The members of a script. The version is among them, though it was read before the keys were
+// checked.
+fn read_members(alloc: Global, value: &Value) -> Result<Script, ScriptRefusal>
+    ensures { Gives (reads_object script_layout (view value.now)) result }
+{
+    check_keys(alloc, value, &["version", "tables", "queries"])?;
+    read_required(alloc, value, "version", &VersionForm)?;
+    let tables = read_required(alloc, value, "tables", &TablesForm)?;
+    let queries = read_required(alloc, value, "queries", &QUERIES)?;
+    Ok(Script { tables, queries })
 }
 
 // The first query that waits for more task sets than all before it have.

@@ -1,18 +1,20 @@
 // From a script to bytes.
-ghost use Rattle.std.specs.Prelude.{◌≡◌, IfOk};
-ghost use Rattle.serde_json.specs.Data.{Data};
-ghost use Rattle.serde_json.specs.View.{view};
-ghost use Rattle.script_json.specs.Canonical.{script_text, script_value};
+ghost use Rattle.std.specs.Prelude.{◌≡◌, IfOk, OnOk, codes};
+ghost use Rattle.serde_json.specs.Data.{Data, string, unsigned};
+ghost use Rattle.serde_json.specs.Data.{number as json_number, put as with_member};
+ghost use Rattle.serde_json.specs.View.{members_view, view};
+ghost use Rattle.script_json.specs.Canonical.{script_text};
 ghost use Rattle.script_json.specs.Format.{aggregate_value, entry_value, filter_value};
-ghost use Rattle.script_json.specs.Format.{function_word, join_value, operator_word, output_value};
-ghost use Rattle.script_json.specs.Format.{query_value, reference_value};
-ghost use Rattle.script_json.specs.Objects.{array_with};
+ghost use Rattle.script_json.specs.Format.{function_word, groups_layout, join_value, operator_word};
+ghost use Rattle.script_json.specs.Format.{output_value};
+ghost use Rattle.script_json.specs.Format.{query_value, reference_value, script_value};
+ghost use Rattle.script_json.specs.Objects.{array_with, object_with, written_object};
 ghost use Rattle.script_json.specs.Scripts.{ReadsScript};
 ghost use Rattle.script_json.specs.WellFormed.{IsScript};
 
 use crate::script::{Script, TableEntry};
 use plan_ast::{Agg, Filter, Func, Join, NameRef, Op, Output, Query};
-use serde_json::{Value, json};
+use serde_json::{Map, Value, json, put};
 use std::alloc::{AllocError, Global};
 
 /// The bytes of a script in its canonical form. `read_script` reads them as the same script.
@@ -28,7 +30,8 @@ pub fn write_script(alloc: Global, script: &Script) -> Result<Vec<u8>, AllocErro
     value.to_vec(alloc)
 }
 
-// What is written as one JSON value.
+// What is written as one JSON value. The members of an object are put in the order in which its
+// layout lists them.
 trait Written {
     ghost written: { Self → Data };
 
@@ -45,6 +48,71 @@ fn array_of<T: Written>(alloc: Global, items: &[T]) -> Result<Value, AllocError>
         values.push(item.to_json(alloc)?)?;
     }
     Ok(Value::from(values))
+}
+
+// Puts a number under a key.
+fn put_number(
+    alloc: Global,
+    members: &mut Map<String, Value>,
+    key: &str,
+    number: u32,
+) -> Result<(), AllocError>
+    ensures { OnOk result (members_view members.new.entries
+        ≡ with_member key.now (json_number (unsigned number)) (members_view members.old.entries)) }
+{
+    put(members, alloc, key, Value::from(number))
+}
+
+// Puts a text under a key.
+fn put_text(
+    alloc: Global,
+    members: &mut Map<String, Value>,
+    key: &str,
+    text: &str,
+) -> Result<(), AllocError>
+    ensures { OnOk result (members_view members.new.entries
+        ≡ with_member key.now (string text.now) (members_view members.old.entries)) }
+{
+    let text = Value::try_from_str(alloc, text)?;
+    put(members, alloc, key, text)
+}
+
+// Puts what is written for a part under a key.
+fn put_part<T: Written>(
+    alloc: Global,
+    members: &mut Map<String, Value>,
+    key: &str,
+    part: &T,
+) -> Result<(), AllocError>
+    ensures { OnOk result (members_view members.new.entries
+        ≡ with_member key.now (T.written part.now) (members_view members.old.entries)) }
+{
+    let part = part.to_json(alloc)?;
+    put(members, alloc, key, part)
+}
+
+// Puts the array of what is written for each item under a key.
+fn put_array<T: Written>(
+    alloc: Global,
+    members: &mut Map<String, Value>,
+    key: &str,
+    items: &[T],
+) -> Result<(), AllocError>
+    ensures { OnOk result (members_view members.new.entries
+        ≡ with_member key.now (array_with T.written items.now) (members_view members.old.entries)) }
+{
+    let items = array_of(alloc, items)?;
+    put(members, alloc, key, items)
+}
+
+// An object with one member, which is the array of what is written for each item.
+fn object_of_array<T: Written>(alloc: Global, key: &str, items: &[T]) -> Result<Value, AllocError>
+    ensures { IfOk result (λ value. view value
+        ≡ object_with key.now (array_with T.written items.now)) }
+{
+    let mut members = Map::new(alloc);
+    put_array(alloc, &mut members, key, items)?;
+    Ok(Value::Object(members))
 }
 
 impl Written for NameRef {
@@ -85,12 +153,12 @@ impl Written for Join {
     ghost written = { join_value };
 
     fn to_json(&self, alloc: Global) -> Result<Value, AllocError> {
-        let left = self.left.to_json(alloc)?;
-        let filters = array_of(alloc, self.filters.as_slice())?;
-        json!(in alloc; {
-            "left": left, "right": self.right.as_str(), "table": self.table.as_str(),
-            "where": filters
-        })
+        let mut members = Map::new(alloc);
+        put_text(alloc, &mut members, "table", self.table.as_str())?;
+        put_part(alloc, &mut members, "left", &self.left)?;
+        put_text(alloc, &mut members, "right", self.right.as_str())?;
+        put_array(alloc, &mut members, "where", self.filters.as_slice())?;
+        Ok(Value::Object(members))
     }
 }
 
@@ -125,34 +193,38 @@ impl Written for Output {
 
     fn to_json(&self, alloc: Global) -> Result<Value, AllocError> {
         match self {
-            Output::Rows(columns) => {
-                let columns = array_of(alloc, columns.as_slice())?;
-                json!(in alloc; {"rows": columns})
-            }
-            Output::Totals(aggs) => {
-                let aggs = array_of(alloc, aggs.as_slice())?;
-                json!(in alloc; {"totals": aggs})
-            }
-            Output::Groups { by, aggs } => {
-                let by = array_of(alloc, by.as_slice())?;
-                let aggs = array_of(alloc, aggs.as_slice())?;
-                json!(in alloc; {"groups": {"aggs": aggs, "by": by}})
-            }
+            Output::Rows(columns) => object_of_array(alloc, "rows", columns.as_slice()),
+            Output::Totals(aggs) => object_of_array(alloc, "totals", aggs.as_slice()),
+            Output::Groups { by, aggs } => groups_written(alloc, by.as_slice(), aggs.as_slice()),
         }
     }
+}
+
+// The groups of an output, as the value of its only key.
+fn groups_written(alloc: Global, by: &[NameRef], aggs: &[Agg]) -> Result<Value, AllocError>
+    ensures { IfOk result (λ value. view value
+        ≡ object_with (codes "groups") (written_object groups_layout (by.now, aggs.now))) }
+{
+    let mut members = Map::new(alloc);
+    put_array(alloc, &mut members, "by", by)?;
+    put_array(alloc, &mut members, "aggs", aggs)?;
+    let groups = Value::Object(members);
+    json!(in alloc; {"groups": groups})
 }
 
 impl Written for Query {
     ghost written = { query_value };
 
     fn to_json(&self, alloc: Global) -> Result<Value, AllocError> {
-        let joins = array_of(alloc, self.joins.as_slice())?;
-        let output = self.output.to_json(alloc)?;
-        let filters = array_of(alloc, self.filters.as_slice())?;
-        json!(in alloc; {
-            "after": self.after, "cost": self.cost, "joins": joins, "output": output,
-            "scan": self.scan.as_str(), "weight": self.weight, "where": filters
-        })
+        let mut members = Map::new(alloc);
+        put_number(alloc, &mut members, "after", self.after)?;
+        put_number(alloc, &mut members, "weight", self.weight)?;
+        put_number(alloc, &mut members, "cost", self.cost)?;
+        put_text(alloc, &mut members, "scan", self.scan.as_str())?;
+        put_array(alloc, &mut members, "where", self.filters.as_slice())?;
+        put_array(alloc, &mut members, "joins", self.joins.as_slice())?;
+        put_part(alloc, &mut members, "output", &self.output)?;
+        Ok(Value::Object(members))
     }
 }
 
@@ -167,7 +239,9 @@ impl Written for TableEntry {
 fn value_of_script(alloc: Global, script: &Script) -> Result<Value, AllocError>
     ensures { IfOk result (λ value. view value ≡ script_value script.now) }
 {
-    let queries = array_of(alloc, script.queries.as_slice())?;
-    let tables = array_of(alloc, script.tables.as_slice())?;
-    json!(in alloc; {"queries": queries, "tables": tables, "version": 1u32})
+    let mut members = Map::new(alloc);
+    put_number(alloc, &mut members, "version", 1)?;
+    put_array(alloc, &mut members, "tables", script.tables.as_slice())?;
+    put_array(alloc, &mut members, "queries", script.queries.as_slice())?;
+    Ok(Value::Object(members))
 }

@@ -1,8 +1,13 @@
-use super::*;
+//! Inputs that are made from a number.
+
 use col_table::Table;
+use load_gen::{Part, Summary, generate, make_part};
+use plan_ast::NamedTable;
+use std::alloc::Global;
+use std::process::Abort;
 use std::test::Fail;
 
-// Whether a row of a table has these values.
+/// Whether a row of a table has these values.
 fn has_row(table: &Table, row: u32, values: &[i64]) -> bool {
     row < table.rows()
         && values.len() == table.cols() as usize
@@ -10,6 +15,36 @@ fn has_row(table: &Table, row: u32, values: &[i64]) -> bool {
             .iter()
             .enumerate()
             .all(|(col, value)| table.value(row, col as u32) == *value)
+}
+
+/// Asserts how many rows a table has, and its first row and its last.
+fn expect_rows(rt: &impl Abort, table: &Table, count: u32, first: &[i64], last: &[i64]) {
+    assert_eq!(rt; table.rows(), count);
+    assert!(rt; has_row(table, 0, first), "first of {count}");
+    assert!(rt;
+        has_row(table, count.saturating_sub(1), last),
+        "last of {count}"
+    );
+}
+
+/// Asserts the name and the file of a table.
+fn expect_name(rt: &impl Abort, table: &NamedTable, name: &str, file: &str) {
+    assert_eq!(rt; (table.name.as_str(), table.file.as_str()), (name, file));
+}
+
+/// Asserts the tables of an input, each with its first row and its last.
+fn expect_tables(
+    rt: &impl Abort,
+    tables: &[NamedTable],
+    ends_of_t: [&[i64]; 2],
+    ends_of_u: [&[i64]; 2],
+) {
+    assert_eq!(rt; tables.len(), 2);
+    let (t, u) = (&tables[0], &tables[1]);
+    expect_name(rt, t, "t", "t.csv");
+    expect_name(rt, u, "u", "u.csv");
+    expect_rows(rt, &t.table, 200_000, ends_of_t[0], ends_of_t[1]);
+    expect_rows(rt, &u.table, 1_000, ends_of_u[0], ends_of_u[1]);
 }
 
 // The first row and the last of both tables, of six numbers. 0 and 2,147,483,646 begin with one
@@ -44,17 +79,16 @@ fn draws_tables(rt: HostRuntime) -> Result<(), Fail> {
     ] {
         let made = generate(rt.alloc(), number)?;
         let tables = made.tables.as_slice();
-        assert_eq!(rt; tables.len(), 2);
-        let (t, u) = (&tables[0], &tables[1]);
-        assert_eq!(rt; (t.name.as_str(), t.file.as_str()), ("t", "t.csv"));
-        assert_eq!(rt; (u.name.as_str(), u.file.as_str()), ("u", "u.csv"));
-        assert_eq!(rt; (t.table.rows(), u.table.rows()), (200_000, 1_000));
-        assert!(rt; has_row(&t.table, 0, &first), "{number}");
-        assert!(rt; has_row(&t.table, 199_999, &last), "{number}");
-        assert!(rt; has_row(&u.table, 0, &first_of_u), "{number}");
-        assert!(rt; has_row(&u.table, 999, &last_of_u), "{number}");
+        expect_tables(&rt, tables, [&first, &last], [&first_of_u, &last_of_u]);
     }
     Ok(())
+}
+
+/// Asserts the length of a text, and what it begins and ends with.
+fn expect_text(rt: &impl Abort, text: &[u8], length: usize, begin: &[u8], end: &[u8]) {
+    assert_eq!(rt; text.len(), length);
+    assert!(rt; text.starts_with(begin), "at {length}");
+    assert!(rt; text.ends_with(end), "at {length}");
 }
 
 // What the parts of 7 begin and end with, and their lengths.
@@ -76,20 +110,24 @@ fn writes_parts(rt: HostRuntime) -> Result<(), Fail> {
         ),
     ] {
         let text = make_part(rt.alloc(), 7, part)?;
-        assert_eq!(rt; text.len(), length, "{part:?}");
-        assert!(rt; text.starts_with(begin), "{part:?}");
-        assert!(rt; text.ends_with(end), "{part:?}");
+        expect_text(&rt, text.as_slice(), length, begin, end);
     }
     Ok(())
 }
 
-// The FNV-1a hash of a text.
+/// The FNV-1a hash of a text.
 fn hash(text: &[u8]) -> u32 {
     let mut hash: u32 = 2_166_136_261;
     for byte in text {
         hash = (hash ^ u32::from(*byte)).wrapping_mul(16_777_619);
     }
     hash
+}
+
+/// The hash of a part of a number.
+fn hash_of_part(alloc: Global, number: u32, part: Part) -> Result<u32, Fail> {
+    let text = make_part(alloc, number, part)?;
+    Ok(hash(text.as_slice()))
 }
 
 // The whole text of the script and of the table `u`, of five numbers.
@@ -103,8 +141,8 @@ fn writes_whole_parts(rt: HostRuntime) -> Result<(), Fail> {
         (4_294_967_295, 3_565_695_069, 4_161_405_485),
     ] {
         for (part, want) in [(Part::Script, script), (Part::TableU, u)] {
-            let text = make_part(rt.alloc(), number, part)?;
-            assert_eq!(rt; hash(text.as_slice()), want, "{part:?} of {number}");
+            let hash = hash_of_part(rt.alloc(), number, part)?;
+            assert_eq!(rt; hash, want, "{part:?} of {number}");
         }
     }
     Ok(())

@@ -28,6 +28,16 @@ script_from state = record {
   queries = queries_from state;
 }
 
+-- the two tables under their names
+abbrev pub named_tables : NamedRows → NamedRows → List NamedTable
+named_tables t u =
+    named (codes "t") (codes "t.csv") t ∷ named (codes "u") (codes "u.csv") u ∷ []
+
+-- the tables that are drawn after a state, `t` before `u`
+abbrev pub tables_from : ℕ → List NamedTable
+tables_from state =
+    named_tables (table_t state 200000) (table_u (state_after state 600000) 1000)
+
 -- the table `t` comes first, then the table `u`, and then the queries
 abbrev pub t_of : ℕ → NamedRows
 t_of number = table_t (first_state number) 200000
@@ -41,9 +51,7 @@ script_of number = script_from (state_after (first_state number) 601000)
 abbrev pub generated : ℕ → Generated
 generated number = record {
   script = script_of number;
-  tables = named (codes "t") (codes "t.csv") (t_of number)
-      ∷ named (codes "u") (codes "u.csv") (u_of number)
-      ∷ [];
+  tables = named_tables (t_of number) (u_of number);
 }
 
 -- the text of a table loads as that table

@@ -1,9 +1,11 @@
 // The large input of a number.
-ghost use Rattle.std.specs.Prelude.{◌≡◌, All, IfOk, IsTrue, None};
+ghost use Rattle.std.specs.Prelude.{◌≡◌, All, IfOk, IsTrue, None, OnOk};
 ghost use Rattle.plan_ast.specs.Names.{refusal_of};
 ghost use Rattle.col_table.specs.Name.{is_name};
 ghost use Rattle.script_json.specs.WellFormed.{IsScript};
-ghost use Rattle.load_gen.specs.Generated.{LoadsBack, entry_of, generated, named, script_from};
+ghost use Rattle.load_gen.specs.Draws.{state_after};
+ghost use Rattle.load_gen.specs.Generated.{LoadsBack, entry_of, generated, named, named_tables};
+ghost use Rattle.load_gen.specs.Generated.{script_from, tables_from};
 
 use crate::draws::Draws;
 use crate::names::name;
@@ -34,15 +36,29 @@ pub fn generate(alloc: Global, number: u32) -> Result<Generated, AllocError>
         All (λ query. refusal_of made.tables query ≡ None) made.script.queries) }
 {
     let mut draws = Draws::new(number);
-    let t = draw_t(alloc, &mut draws, T_ROWS)?;
-    let u = draw_u(alloc, &mut draws, U_ROWS)?;
+    let tables = draw_tables(alloc, &mut draws)?;
     let script = draw_script(alloc, &mut draws)?;
+    Ok(Generated { script, tables })
+}
+
+// The two tables, with the names and the files of their entries.
+fn draw_tables(alloc: Global, draws: &mut Draws) -> Result<ListOf<NamedTable>, AllocError>
+    ensures tables { IfOk result (λ tables. tables ≡ tables_from draws.old) }
+    ensures loads { IfOk result (All LoadsBack) }
+    ensures draws { OnOk result (draws.new ≡ state_after draws.old 601_000) }
+{
+    let t = draw_t(alloc, draws, T_ROWS)?;
+    let u = draw_u(alloc, draws, U_ROWS)?;
+    tables_of(alloc, t, u)
+}
+
+// The tables under the names and the files of their entries.
+fn tables_of(alloc: Global, t: Table, u: Table) -> Result<ListOf<NamedTable>, AllocError>
+    ensures { IfOk result (λ tables. tables ≡ named_tables t u) }
+{
     let t = named_table(alloc, "t", "t.csv", t)?;
     let u = named_table(alloc, "u", "u.csv", u)?;
-    Ok(Generated {
-        script,
-        tables: ListOf::of(vec![in alloc; t, u]?),
-    })
+    Ok(ListOf::of(vec![in alloc; t, u]?))
 }
 
 /// The script, whose queries are drawn after the tables.

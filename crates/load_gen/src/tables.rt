@@ -8,7 +8,7 @@ ghost use Rattle.load_gen.specs.Draws.{draw, next_state, state_after};
 ghost use Rattle.load_gen.specs.Tables.{row_of_t, table_t, table_u};
 
 use crate::draws::Draws;
-use crate::names::name;
+use crate::names::{heading_of_t, heading_of_u};
 use col_table::{ColumnName, MAX_ROWS, Table};
 use std::alloc::{AllocError, Global};
 
@@ -35,8 +35,8 @@ pub(crate) fn draw_t(alloc: Global, draws: &mut Draws, rows: u32) -> Result<Tabl
         groups.push(group)?;
         values.push(value)?;
     }
-    let names = vec![in alloc; name(alloc, "k")?, name(alloc, "g")?, name(alloc, "v")?]?;
     let columns = vec![in alloc; keys, groups, values]?;
+    let names = heading_of_t(alloc)?;
     Ok(table_of(names, columns, rows))
 }
 
@@ -54,8 +54,8 @@ pub(crate) fn draw_u(alloc: Global, draws: &mut Draws, rows: u32) -> Result<Tabl
         keys.push(key)?;
         weights.push(weight)?;
     }
-    let names = vec![in alloc; name(alloc, "k")?, name(alloc, "w")?]?;
     let columns = vec![in alloc; keys, weights]?;
+    let names = heading_of_u(alloc)?;
     Ok(table_of(names, columns, rows))
 }
 

@@ -10,7 +10,7 @@ use Rattle.load_gen.specs.Tables.{table_t}
 use Rattle.load_gen.proofs.DrawsLemmas.{each_below-zero, length-each_below, state_after-zero}
 use Rattle.load_gen.proofs.LoadsLemmas.{t-heading, table_t-loads}
 use Rattle.load_gen.proofs.ScriptLemmas.{fits-draw, fits-signed}
-use Rattle.load_gen.proofs.TablesLemmas.{made_of_columns, named_rows, pushed_more, drawn_of_t, same_three}
+use Rattle.load_gen.proofs.TablesLemmas.{made_of_columns, named_rows, pushed_more, drawn_of_t}
 use Rattle.load_gen.proofs.tables.draw_t.Goals as goal
 
 -- what the columns hold at a row
@@ -63,8 +63,7 @@ table_of-requires-clause-heights c =
 
 pub table_of-requires-clause-heading : goal.table_of-requires-clause-heading
 table_of-requires-clause-heading c =
-    let named : c.in_ok-names.names.items ≡ codes "k" ∷ codes "g" ∷ codes "v" ∷ [] = same_three _ _ _ _ _ _ _ c.in_ok-names.ensures.items
-    c.in_ok-name.ensures c.in_ok-name-2.ensures c.in_ok-name-3.ensures in
+    let named : c.in_ok-names.names.items ≡ codes "k" ∷ codes "g" ∷ codes "v" ∷ [] = c.in_ok-names.ensures in
     subst IsHeading (sym named) t-heading
 
 -- the names and the columns are those of the table
@@ -73,8 +72,7 @@ is_made : (c : goal.After-table_of) → named_rows c.in_ok-names.names.items (ro
 is_made c =
     let state = c.args.draws.now in
     let rows = c.args.rows in
-    let named : c.in_ok-names.names.items ≡ codes "k" ∷ codes "g" ∷ codes "v" ∷ [] = same_three _ _ _ _ _ _ _ c.in_ok-names.ensures.items
-    c.in_ok-name.ensures c.in_ok-name-2.ensures c.in_ok-name-3.ensures in
+    let named : c.in_ok-names.names.items ≡ codes "k" ∷ codes "g" ∷ codes "v" ∷ [] = c.in_ok-names.ensures in
     let all : c.loop.counter ≡ rows = omega arith in
     made_of_columns c.in_ok-names.names.items (codes "k" ∷ codes "g" ∷ codes "v" ∷ []) c.in_ok-columns.columns.items rows
     (key state ∷ group state ∷ value state ∷ []) named

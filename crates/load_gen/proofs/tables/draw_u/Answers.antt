@@ -10,7 +10,7 @@ use Rattle.load_gen.specs.Tables.{table_u}
 use Rattle.load_gen.proofs.DrawsLemmas.{each_below-zero, length-each_below, state_after-zero}
 use Rattle.load_gen.proofs.LoadsLemmas.{fits-row, u-heading, table_u-loads}
 use Rattle.load_gen.proofs.ScriptLemmas.{fits-draw}
-use Rattle.load_gen.proofs.TablesLemmas.{made_of_columns, named_rows, pushed_more, drawn_of_u, same_two}
+use Rattle.load_gen.proofs.TablesLemmas.{made_of_columns, named_rows, pushed_more, drawn_of_u}
 use Rattle.load_gen.proofs.tables.draw_u.Goals as goal
 
 -- what the columns hold at a row
@@ -55,8 +55,7 @@ table_of-requires-clause-heights c =
 
 pub table_of-requires-clause-heading : goal.table_of-requires-clause-heading
 table_of-requires-clause-heading c =
-    let named : c.in_ok-names.names.items ≡ codes "k" ∷ codes "w" ∷ [] = same_two _ _ _ _ _ c.in_ok-names.ensures.items c.in_ok-name.ensures
-    c.in_ok-name-2.ensures in
+    let named : c.in_ok-names.names.items ≡ codes "k" ∷ codes "w" ∷ [] = c.in_ok-names.ensures in
     subst IsHeading (sym named) u-heading
 
 -- the names and the columns are those of the table
@@ -65,8 +64,7 @@ is_made : (c : goal.After-table_of) → named_rows c.in_ok-names.names.items (ro
 is_made c =
     let state = c.args.draws.now in
     let rows = c.args.rows in
-    let named : c.in_ok-names.names.items ≡ codes "k" ∷ codes "w" ∷ [] = same_two _ _ _ _ _ c.in_ok-names.ensures.items c.in_ok-name.ensures
-    c.in_ok-name-2.ensures in
+    let named : c.in_ok-names.names.items ≡ codes "k" ∷ codes "w" ∷ [] = c.in_ok-names.ensures in
     let all : c.loop-row.row ≡ rows = omega arith in
     made_of_columns c.in_ok-names.names.items (codes "k" ∷ codes "w" ∷ []) c.in_ok-columns.columns.items rows (key ∷ weight state ∷ []) named
     (ap values_of c.in_ok-columns.ensures.items

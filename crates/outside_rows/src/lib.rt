@@ -1,5 +1,5 @@
-//! Rows of `outside_io`: files read and sinks written, in memory and outside, with each call failing
-//! once; and the meters and gates of workers.
+//! Rows of `outside_io`: files read and sinks written, in memory and outside, with each call
+//! failing once; and the meters and gates of workers.
 //!
 //! It stands on `outside_io` alone and has tests alone, over its public interface. Nothing stands
 //! above it.

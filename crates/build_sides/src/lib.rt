@@ -22,6 +22,3 @@ mod links;
 pub use group_side::GroupSide;
 pub use hash_side::HashSide;
 pub use key_table::Key;
-
-#[cfg(test)]
-mod tests;

@@ -32,6 +32,3 @@ pub use places::{AggAt, ColumnAt, FilterAt, JoinAt, OutputAt, Places};
 pub use queries::{Agg, Filter, Func, Join, NameRef, NamedTable, Op, Output, Query};
 pub use refusals::PlanRefusal;
 pub use task_sets::{GROUP_PARTS, stage_total, stages, table_of_side};
-
-#[cfg(test)]
-mod tests;

@@ -2,7 +2,7 @@
 ghost use Rattle.std.specs.Prelude.{◌≡◌, ◌∷◌, [], IfOk};
 ghost use Rattle.build_sides.specs.GroupSides.{funcs_of};
 
-use super::*;
+use build_sides::{GroupSide, HashSide};
 use col_table::{ColumnName, Table};
 use plan_ast::{AggAt, AggValue, ColumnAt, Func};
 use std::process::Abort;
@@ -19,15 +19,26 @@ fn crowded(number: u32) -> i64 {
         .cast_signed()
 }
 
+// That a side has these rows of a key.
+fn has_rows(rt: &impl Abort, side: &HashSide, key: i64, rows: &[u32]) {
+    assert!(rt; side.matches(key) == rows);
+}
+
+// A side of these keys and rows.
+fn side_of(rt: &impl AllocGlobal, rows: &[(i64, u32)]) -> Result<HashSide, Fail> {
+    let mut side = HashSide::new(rt.alloc());
+    for (key, row) in rows {
+        side.add_row(*key, *row)?;
+    }
+    Ok(side)
+}
+
 #[test]
 fn rows_by_their_key(rt: HostRuntime) -> Result<(), Fail> {
-    let mut side = HashSide::new(rt.alloc());
-    for (row, key) in [1, 2, 1, -1, 1].into_iter().enumerate() {
-        side.add_row(key, row as u32)?;
-    }
-    assert!(rt; side.matches(1) == [0, 2, 4].as_slice());
-    assert!(rt; side.matches(2) == [1].as_slice());
-    assert!(rt; side.matches(-1) == [3].as_slice());
+    let side = side_of(&rt, &[(1, 0), (2, 1), (1, 2), (-1, 3), (1, 4)])?;
+    has_rows(&rt, &side, 1, &[0, 2, 4]);
+    has_rows(&rt, &side, 2, &[1]);
+    has_rows(&rt, &side, -1, &[3]);
     assert!(rt; side.matches(0).is_empty());
     assert!(rt; !side.is_unique());
     Ok(())
@@ -35,18 +46,12 @@ fn rows_by_their_key(rt: HostRuntime) -> Result<(), Fail> {
 
 #[test]
 fn absorbs_the_rows_of_each_key(rt: HostRuntime) -> Result<(), Fail> {
-    let mut side = HashSide::new(rt.alloc());
-    side.add_row(1, 7)?;
-    side.add_row(1, 3)?;
-    let mut other = HashSide::new(rt.alloc());
-    other.add_row(2, 5)?;
-    other.add_row(1, 4)?;
-    other.add_row(2, 6)?;
-    side.absorb(&other)?;
-    assert!(rt; side.matches(1) == [7, 3, 4].as_slice());
-    assert!(rt; side.matches(2) == [5, 6].as_slice());
+    let mut side = side_of(&rt, &[(1, 7), (1, 3)])?;
+    side.absorb(&side_of(&rt, &[(2, 5), (1, 4), (2, 6)])?)?;
+    has_rows(&rt, &side, 1, &[7, 3, 4]);
+    has_rows(&rt, &side, 2, &[5, 6]);
     side.absorb(&HashSide::new(rt.alloc()))?;
-    assert!(rt; side.matches(1) == [7, 3, 4].as_slice());
+    has_rows(&rt, &side, 1, &[7, 3, 4]);
     Ok(())
 }
 
@@ -182,14 +187,16 @@ fn keyed(rt: &(impl Abort + AllocGlobal), rows: &[[i64; 2]]) -> Result<Table, Fa
     Ok(table)
 }
 
-#[test]
-fn folds_rows_of_old_and_new_groups(rt: HostRuntime) -> Result<(), Fail> {
-    let table = keyed(&rt, &[[1, 10], [-1, -5], [1, 20], [3, 0], [1, 40]])?;
-    let mut side = groups(&rt)?;
-    fold(&rt, &mut side, &[1], 15)?;
-    fold(&rt, &mut side, &[-1], 15)?;
+// Folds rows of a key and a value: their count, and the sum, least and greatest of the values.
+fn fold_table(
+    rt: &(impl Abort + AllocGlobal),
+    side: &mut GroupSide,
+    table: &Table,
+) -> Result<(), Fail>
+    requires { funcs_of side.old ≡ Func.Count ∷ Func.Sum ∷ Func.Min ∷ Func.Max ∷ [] }
+{
     let by = [ColumnAt { side: 0, column: 0 }];
-    let value = Some(ColumnAt { side: 0, column: 1 });
+    let column = Some(ColumnAt { side: 0, column: 1 });
     let aggs = [
         AggAt {
             func: Func::Count,
@@ -197,60 +204,127 @@ fn folds_rows_of_old_and_new_groups(rt: HostRuntime) -> Result<(), Fail> {
         },
         AggAt {
             func: Func::Sum,
-            column: value,
+            column,
         },
         AggAt {
             func: Func::Min,
-            column: value,
+            column,
         },
         AggAt {
             func: Func::Max,
-            column: value,
+            column,
         },
     ];
     assert!(rt; table.cols() == 2);
     assert!(rt; table.rows() == 5);
     assert!(rt; side.aggregates() == 4);
-    side.fold_rows(&table, &by, &aggs, &[0, 1, 2, 3, 4], &mut [0u32; 5])?;
+    side.fold_rows(table, &by, &aggs, &[0, 1, 2, 3, 4], &mut [0u32; 5])?;
+    Ok(())
+}
+
+// That a side has three groups of these totals.
+fn has_groups(
+    rt: &(impl Abort + AllocGlobal),
+    side: &GroupSide,
+    groups: &[(i128, i128, i128, i128); 3],
+) {
     assert!(rt; side.len() == 3);
-    assert!(rt; has(&rt, &side, 0, (4, 85, 10, 40)));
-    assert!(rt; has(&rt, &side, 1, (2, 10, -5, 15)));
-    assert!(rt; has(&rt, &side, 2, (1, 0, 0, 0)));
+    for number in 0..3 {
+        assert!(rt; has(rt, side, number, groups[number]));
+    }
+}
+
+#[test]
+fn folds_rows_of_old_and_new_groups(rt: HostRuntime) -> Result<(), Fail> {
+    let table = keyed(&rt, &[[1, 10], [-1, -5], [1, 20], [3, 0], [1, 40]])?;
+    let mut side = groups(&rt)?;
+    fold(&rt, &mut side, &[1], 15)?;
+    fold(&rt, &mut side, &[-1], 15)?;
+    fold_table(&rt, &mut side, &table)?;
+    has_groups(
+        &rt,
+        &side,
+        &[(4, 85, 10, 40), (2, 10, -5, 15), (1, 0, 0, 0)],
+    );
+    Ok(())
+}
+
+// A side with one row of this key.
+fn one_row(rt: &(impl Abort + AllocGlobal), key: i64, value: i64) -> Result<GroupSide, Fail>
+    ensures { IfOk result (λ side. funcs_of side
+        ≡ Func.Count ∷ Func.Sum ∷ Func.Min ∷ Func.Max ∷ []) }
+{
+    let mut side = groups(rt)?;
+    fold(rt, &mut side, &[key], value)?;
+    Ok(side)
+}
+
+// A side with rows of two keys.
+fn two_rows(rt: &(impl Abort + AllocGlobal)) -> Result<GroupSide, Fail>
+    ensures { IfOk result (λ side. funcs_of side
+        ≡ Func.Count ∷ Func.Sum ∷ Func.Min ∷ Func.Max ∷ []) }
+{
+    let mut side = one_row(rt, 17, 10)?;
+    fold(rt, &mut side, &[2], 5)?;
+    Ok(side)
+}
+
+// Merges the parts of two groups, and looks at the first one.
+fn merges_parts(
+    rt: &(impl Abort + AllocGlobal),
+    one: &mut GroupSide,
+    other: &GroupSide,
+) -> Result<(), Fail>
+    requires { funcs_of other.now ≡ funcs_of one.old }
+{
+    one.merge_part(2, other)?;
+    assert!(rt; has(rt, one, 0, (1, 10, 10, 10)));
+    one.merge_part(1, other)?;
+    assert!(rt; has(rt, one, 0, (2, -10, -20, 10)));
     Ok(())
 }
 
 #[test]
 fn merges_the_groups_of_a_part(rt: HostRuntime) -> Result<(), Fail> {
-    let mut one = groups(&rt)?;
-    fold(&rt, &mut one, &[17], 10)?;
-    fold(&rt, &mut one, &[2], 5)?;
-    let mut other = groups(&rt)?;
-    fold(&rt, &mut other, &[17], -20)?;
-    one.merge_part(2, &other)?;
-    assert!(rt; has(&rt, &one, 0, (1, 10, 10, 10)));
-    one.merge_part(1, &other)?;
-    assert!(rt; has(&rt, &one, 0, (2, -10, -20, 10)));
+    let other = one_row(&rt, 17, -20)?;
+    merges_parts(&rt, &mut two_rows(&rt)?, &other)
+}
+
+// A side with rows of six keys.
+fn six_rows(rt: &(impl Abort + AllocGlobal)) -> Result<GroupSide, Fail>
+    ensures { IfOk result (λ side. funcs_of side
+        ≡ Func.Count ∷ Func.Sum ∷ Func.Min ∷ Func.Max ∷ []) }
+{
+    let mut side = one_row(rt, 1, 10)?;
+    fold(rt, &mut side, &[2], 20)?;
+    fold(rt, &mut side, &[17], 170)?;
+    fold(rt, &mut side, &[-15], -150)?;
+    fold(rt, &mut side, &[3], 30)?;
+    fold(rt, &mut side, &[33], 330)?;
+    Ok(side)
+}
+
+// Merges all parts, and counts the groups meanwhile.
+fn merges_all(
+    rt: &(impl Abort + AllocGlobal),
+    one: &mut GroupSide,
+    other: &GroupSide,
+) -> Result<(), Fail>
+    requires { funcs_of other.now ≡ funcs_of one.old }
+{
+    one.merge_part(1, other)?;
+    assert!(rt; one.len() == 4);
+    assert!(rt; has(rt, one, 0, (2, -143, -150, 7)));
+    one.merge_part(0, other)?;
+    assert!(rt; one.len() == 4);
+    one.merge_part(2, other)?;
+    one.merge_part(3, other)?;
+    assert!(rt; one.len() == 6);
     Ok(())
 }
 
 #[test]
 fn merges_every_group_of_a_part(rt: HostRuntime) -> Result<(), Fail> {
-    let mut other = groups(&rt)?;
-    fold(&rt, &mut other, &[1], 10)?;
-    fold(&rt, &mut other, &[2], 20)?;
-    fold(&rt, &mut other, &[17], 170)?;
-    fold(&rt, &mut other, &[-15], -150)?;
-    fold(&rt, &mut other, &[3], 30)?;
-    fold(&rt, &mut other, &[33], 330)?;
-    let mut one = groups(&rt)?;
-    fold(&rt, &mut one, &[-15], 7)?;
-    one.merge_part(1, &other)?;
-    assert!(rt; one.len() == 4);
-    assert!(rt; has(&rt, &one, 0, (2, -143, -150, 7)));
-    one.merge_part(0, &other)?;
-    assert!(rt; one.len() == 4);
-    one.merge_part(2, &other)?;
-    one.merge_part(3, &other)?;
-    assert!(rt; one.len() == 6);
-    Ok(())
+    let other = six_rows(&rt)?;
+    merges_all(&rt, &mut one_row(&rt, -15, 7)?, &other)
 }

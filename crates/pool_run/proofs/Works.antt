@@ -7,14 +7,14 @@ use Rattle.std.proofs.lemmas.List.Elements.{All-get_or}
 use Rattle.std.proofs.lemmas.Option.{slice_get_cases, slice_get-map, slice_get_past}
 use Rattle.slot_history.specs.declared.shape.TheConstants.{STAGES}
 use Rattle.plan_ast.specs.Checks.{IsCheckedFor, query_of}
-use Rattle.plan_ast.specs.Stages.{merges_of}
+use Rattle.plan_ast.specs.Stages.{merges_of, stages_of}
 use Rattle.plan_ast.specs.declared.checks.Checked.{Checked}
 use Rattle.plan_ast.specs.declared.queries.Output.{Output}
 use Rattle.plan_ast.specs.declared.queries.Output.TheVariants.{Rows, Totals, Groups}
 use Rattle.run_laws.specs.Ends.{IsWork}
 use Rattle.bench_cell.specs.declared.plan.Plan.{Plan}
-use Rattle.bench_cell.specs.Plans.{checked_of, stages_in, tables_of}
-use Rattle.worker_machine.specs.Plans.{stages_at}
+use Rattle.bench_cell.specs.Plans.{checked_of, stages_in, subject_of_plan, tables_of}
+use Rattle.bench_cell.proofs.PlanLemmas.{query-at}
 use Rattle.worker_machine.specs.Loads.{load_of}
 use Rattle.one_thread.specs.Tables.{TableStory}
 use Rattle.pool_run.specs.Scenes.{new_table}
@@ -26,8 +26,8 @@ few-merges (Totals aggs) = omega arith
 few-merges (Groups by aggs) = omega arith
 
 -- a query that there is
-query-at : (plan : Plan) (q : ℕ) → q < length plan.queries.items → (c : Checked) × (slice_get (checked_of plan) q ≡ Some c) × IsCheckedFor (tables_of plan) c
-query-at plan q low = elim (slice_get_cases plan.queries.items q).1 [
+checked-at : (plan : Plan) (q : ℕ) → q < length plan.queries.items → (c : Checked) × (slice_get (checked_of plan) q ≡ Some c) × IsCheckedFor (tables_of plan) c
+checked-at plan q low = elim (slice_get_cases plan.queries.items q).1 [
   | inl p ↦ (
     arc_value p.0,
     slice_get-map arc_value plan.queries.items q ∙ ap (option_map arc_value) p.2,
@@ -37,17 +37,17 @@ query-at plan q low = elim (slice_get_cases plan.queries.items q).1 [
   | inr p ↦ absurd (omega arith)
 ]
 
-stages-are : (plan : Plan) (q : ℕ) (c : Checked) → slice_get (checked_of plan) q ≡ Some c → stages_at plan q ≡ stages_in c
-stages-are plan q c here = ap (λ o. option_map_or stages_in o 0) here
+stages-are : (plan : Plan) (q : ℕ) (c : Checked) → slice_get (checked_of plan) q ≡ Some c → (load_of plan).stages q ≡ stages_in c
+stages-are plan q c here = ap (λ o. option_map_or stages_of o 0) (query-at plan q c here)
 
 -- what may be asked of a plan is work of a run that ends
 plan-works : (plan : Plan) (workers slots : ℕ) (order : List ℕ) → let asked = asked_of plan workers slots order in
     MayRun asked → IsWork asked.shape asked.load
 plan-works plan workers slots order may = record {
   shape = record { slots = may.slots; workers = may.workers; queries = plan.few };
-  some = λ q low. let c = query-at plan q low in subst (λ n. 0 < n) (sym (stages-are plan q c.0 c.1)) (omega arith);
+  some = λ q low. let c = checked-at plan q low in subst (λ n. 0 < n) (sym (stages-are plan q c.0 c.1)) (omega arith);
   few = λ q low.
-      let c = query-at plan q low in
+      let c = checked-at plan q low in
       let joins : length (query_of c.0).joins ≤ 2 = c.2.bounds.joins in
       let merges : merges_of (query_of c.0).output ≤ 1 = few-merges (query_of c.0).output in
       subst (λ n. n ≤ STAGES) (sym (stages-are plan q c.0 c.1)) (omega arith);
@@ -64,6 +64,7 @@ module _ (plan : Plan) (workers slots : ℕ) (order : List ℕ) {table : TableSt
   of-workers = subst (λ (t : TableStory Plan). All (λ w. w < t.shape.workers) order) (sym new) may.order
 
 -- past the last query there are none
-pub none-past : (plan : Plan) (q : ℕ) → length plan.queries.items ≤ q → stages_at plan q ≡ 0
-none-past plan q past = ap (λ o. option_map_or stages_in o 0)
-    (slice_get_past (checked_of plan) q (subst (λ n. n ≤ q) (sym (length-map plan.queries.items arc_value)) past))
+pub none-past : (plan : Plan) (q : ℕ) → length plan.queries.items ≤ q → (load_of plan).stages q ≡ 0
+none-past plan q past = ap (λ o. option_map_or stages_of o 0)
+    (slice_get_past (subject_of_plan plan).queries q
+    (subst (λ n. n ≤ q) (sym (length-map (checked_of plan) query_of ∙ length-map plan.queries.items arc_value)) past))

@@ -2,7 +2,7 @@
 ghost use Rattle.std.specs.Prelude.{◌≡◌, ◌<◌, ◌≤◌, ℕ, All, IfOk, length};
 ghost use Rattle.std.specs.Arc.{arc_value};
 ghost use Rattle.plan_ast.specs.Checks.{IsCheckedFor, query_of};
-ghost use Rattle.worker_machine.specs.Plans.{after_at};
+ghost use Rattle.worker_machine.specs.Loads.{load_of};
 
 use crate::{Ran, run_steps, run_turns};
 use bench_cell::Plan;
@@ -103,7 +103,7 @@ fn plan(
     rows: &[[i64; 2]],
     queries: Vec<Query>,
 ) -> Result<Arc<Plan>, Fail>
-    ensures { IfOk result (λ plan. (q : ℕ) → after_at (arc_value plan) q ≡ 0) }
+    ensures { IfOk result (λ plan. (q : ℕ) → (load_of (arc_value plan)).after q ≡ 0) }
 {
     let tables = Arc::new(alloc, tables(rt, alloc, rows)?)?;
     let mut all = Vec::new(alloc);
@@ -141,7 +141,7 @@ fn turns(
     slots: u32,
     order: &[u32],
 ) -> Result<Ran, Fail>
-    requires { (q : ℕ) → after_at (arc_value plan.now) q ≡ 0 }
+    requires { (q : ℕ) → (load_of (arc_value plan.now)).after q ≡ 0 }
 {
     may_run(rt, workers, slots, order);
     let plan = Arc::try_clone(plan)?;
@@ -156,7 +156,7 @@ fn steps(
     workers: u32,
     order: &[u32],
 ) -> Result<Ran, Fail>
-    requires { (q : ℕ) → after_at (arc_value plan.now) q ≡ 0 }
+    requires { (q : ℕ) → (load_of (arc_value plan.now)).after q ≡ 0 }
 {
     may_run(rt, workers, 128, order);
     let plan = Arc::try_clone(plan)?;

@@ -11,10 +11,8 @@ use Rattle.stride_set.specs.Strides.{Strides}
 use Rattle.slot_station.specs.declared.token.Holder.{Holder}
 use Rattle.slot_station.specs.Desks.{Seen, own_place}
 use Rattle.plan_ast.specs.Answer.{answer_of}
-use Rattle.plan_ast.specs.Checks.{query_of}
 use Rattle.plan_ast.specs.Stages.{builds, scans, merges, merges_of, stage_at, stages_of}
 use Rattle.plan_ast.specs.declared.answers.Answer.{Answer}
-use Rattle.plan_ast.specs.declared.checks.Checked.{Checked}
 use Rattle.plan_ast.specs.declared.queries.Join.{Join}
 use Rattle.plan_ast.specs.declared.queries.NamedTable.{NamedTable}
 use Rattle.plan_ast.specs.declared.queries.Output.{Output}
@@ -30,12 +28,12 @@ use Rattle.turn_model.specs.Points as point
 use Rattle.turn_model.specs.Points.{goes_on}
 use Rattle.bench_cell.specs.declared.plan.Plan.{Plan}
 use Rattle.bench_cell.specs.declared.bench.Bench.{Bench}
-use Rattle.bench_cell.specs.Plans.{checked_of, stages_in, tables_of}
+use Rattle.bench_cell.specs.Plans.{checked_of, subject_of_plan, tables_of}
+use Rattle.bench_cell.proofs.PlanLemmas.{query-at}
 use Rattle.worker_machine.specs.declared.kept.Core.{Core}
 use Rattle.worker_machine.specs.declared.phase.Phase.{Phase}
 use Rattle.worker_machine.specs.declared.phase.Phase.TheVariants as phase
 use Rattle.worker_machine.specs.Benches.{IsResultFor}
-use Rattle.worker_machine.specs.Plans.{stages_at}
 use Rattle.worker_machine.specs.Loads.{load_of, model_desk}
 use Rattle.worker_machine.specs.PointsOf.{point_of}
 use Rattle.worker_machine.specs.Hands.{EndsQuery, HoldsAs, IsNextMade, IsTaskHeld, next_by, finalised_by}
@@ -91,11 +89,12 @@ ends-query plan h answer held again (inputs, has) =
     let ps = parts (finalised_by h) q h.stage refl held.low in
     let e = answer-last (tables_in inputs) (query_in inputs) inputs.stage answer has.sound.stage has.whole_is in
     let got : slice_get (checked_of plan) q ≡ Some (checked_in inputs) = ap (slice_get (checked_of plan)) (sym ps.0) ∙ has.of_set.query in
-    let stages : stages_at plan q ≡ stages_of (query_in inputs) = ap (λ o. option_map_or stages_in o 0) got in
+    let query : slice_get (subject_of_plan plan).queries q ≡ Some (query_in inputs) = query-at plan q (checked_in inputs) got in
+    let stages : (load_of plan).stages q ≡ stages_of (query_in inputs) = ap (λ o. option_map_or stages_of o 0) query in
     let at : inputs.stage ≡ h.stage = has.of_set.stage ∙ ps.1 in
     record {
       last = ap (λ n. n + 1) (sym at) ∙ e.0 ∙ sym stages;
-      answer_is = ap (option_map (λ (checked : Checked). answer_of (tables_of plan) (query_of checked))) got
+      answer_is = ap (option_map (answer_of (tables_of plan))) query
           ∙ ap (λ tables. Some (answer_of tables (query_in inputs))) (sym has.of_set.tables) ∙ ap Some (sym e.1);
       again = again;
     }
@@ -121,7 +120,7 @@ module _ {O : Type 0} (seen : Seen O Plan) (h : Holder) (ms : List Move) (holds 
   held-made = ap held_at (sym at ∙ holds.place)
 
   abbrev stages : ℕ
-  stages = stages_at seen.desk.subject (unwrap_or h.query 0)
+  stages = (load_of seen.desk.subject).stages (unwrap_or h.query 0)
 
   noted-point : (b : Bool) → ltb (h.stage + 1) stages ≡ b
       → cond (goes_on (load_of seen.desk.subject) (held_at (place_by (model_desk seen.desk) ms)) 1) (point.Fill 0) point.FreeIt
@@ -136,7 +135,7 @@ module _ {O : Type 0} (seen : Seen O Plan) (h : Holder) (ms : List Move) (holds 
       let low = next.low in
       let ps = parts (next_by h) (unwrap_or h.query 0) (h.stage + 1) (omega (arith, is)) low in
       let lt : h.stage + 1 < stages = subst (λ k. k < stages) ps.1
-      (subst (λ q. next_by h % STAGES < stages_at seen.desk.subject q) ps.0 (task-stage seen.desk.subject (next_by h) next.task)) in
+      (subst (λ q. next_by h % STAGES < (load_of seen.desk.subject).stages q) ps.0 (task-stage seen.desk.subject (next_by h) next.task)) in
       sym (noted-point true (lt-ltb (h.stage + 1) stages lt))
 
   pub note-ends : (answer : Answer) → EndsQuery seen.desk.subject h answer

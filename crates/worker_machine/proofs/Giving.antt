@@ -20,7 +20,6 @@ use Rattle.turn_model.specs.Driven.{GivesUp, MayCall, held_by}
 use Rattle.worker_machine.specs.declared.kept.Core.{Core}
 use Rattle.worker_machine.specs.declared.phase.Phase.{Phase}
 use Rattle.worker_machine.specs.Hands.{HoldsAs}
-use Rattle.worker_machine.specs.Plans.{stages_at}
 use Rattle.worker_machine.specs.Loads.{load_of, model_desk}
 use Rattle.worker_machine.specs.Keeps.{HasMade, standing}
 use Rattle.worker_machine.proofs.Moving.{place-made}
@@ -44,7 +43,7 @@ rest-ends all stage = at (ℕ_discrete (all - stage) 1) where
 
 -- the holder gives up a query of which it noted nothing
 module _ {O : Type 0} (seen : Seen O Plan) {core : Core} {phase : Phase} (h : Holder) (ms : List Move) (made : HasMade (standing core phase seen) ms)
-    (held : HoldsAs seen h 0 None) (n : ℕ) (is : n ≡ stages_at seen.desk.subject (unwrap_or h.query 0) - h.stage) where
+    (held : HoldsAs seen h 0 None) (n : ℕ) (is : n ≡ (load_of seen.desk.subject).stages (unwrap_or h.query 0) - h.stage) where
   held-is : held_by (model_desk seen.desk) ms ≡ record { query = h.query; stage = h.stage; again = h.again; noted = 0; total = None }
   held-is = ap held_at (sym (place-made seen ms made) ∙ held.place)
 
@@ -54,8 +53,8 @@ module _ {O : Type 0} (seen : Seen O Plan) {core : Core} {phase : Phase} (h : Ho
   pub ends-all : goes_on (load_of seen.desk.subject) (held_by (model_desk seen.desk) ms) n ≡ false
   ends-all =
       ap (λ k. goes_on (load_of seen.desk.subject) k n) held-is
-      ∙ ap (λ k. eqb k 1 && ltb (h.stage + 1) (stages_at seen.desk.subject (unwrap_or h.query 0))) is
-      ∙ rest-ends (stages_at seen.desk.subject (unwrap_or h.query 0)) h.stage
+      ∙ ap (λ k. eqb k 1 && ltb (h.stage + 1) ((load_of seen.desk.subject).stages (unwrap_or h.query 0))) is
+      ∙ rest-ends ((load_of seen.desk.subject).stages (unwrap_or h.query 0)) h.stage
 
 module _ (D : Desk Workload) (ms : List Move) (n : ℕ) (gives : GivesUp D ms n) where
   -- a query may be given up after its admission, and after a task set of it was gathered

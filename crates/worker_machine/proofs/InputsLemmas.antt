@@ -1,33 +1,24 @@
 -- Inputs of task sets, and the ranges of benches.
-use Rattle.std.proofs.Common.{◌≡◌, ℕ, ◌+◌, ◌/◌, ◌%◌, ◌<◌, ◌≤◌, Bool, if◌then◌else◌, List, Some, None, IsSome, ◌∙◌}
-use Rattle.std.proofs.Common.{slice_get, option_and_then, refl, sym, ap, ap₂, subst, arith, lt-ltb}
+use Rattle.std.proofs.Common.{◌≡◌, ℕ, ◌+◌, ◌/◌, ◌%◌, ◌<◌, ◌≤◌, Some, IsSome, ◌∙◌}
+use Rattle.std.proofs.Common.{slice_get, refl, sym, ap, subst, arith}
 use Rattle.slot_history.specs.declared.shape.TheConstants.{STAGES}
-use Rattle.plan_ast.specs.Checks.{query_of}
 use Rattle.plan_ast.specs.Bounds.{IsInBounds}
-use Rattle.plan_ast.specs.Stages.{merges_of, stage_at, stages_of, tuples_of}
+use Rattle.plan_ast.specs.Stages.{merges_of, stages_of}
 use Rattle.plan_ast.specs.declared.queries.Output.{Output}
 use Rattle.plan_ast.specs.declared.queries.Output.TheVariants.{Rows, Totals, Groups}
-use Rattle.plan_ast.specs.declared.queries.NamedTable.{NamedTable}
 use Rattle.plan_ast.specs.declared.queries.Query.{Query}
-use Rattle.plan_ast.specs.declared.checks.Checked.{Checked}
-use Rattle.pipe_ops.specs.Inputs.{AreInputs, checked_in, query_in, tables_in, total_in}
+use Rattle.pipe_ops.specs.Inputs.{AreInputs, query_in, total_in}
 use Rattle.pipe_ops.specs.StageResults.{IsNext}
 use Rattle.pipe_ops.specs.declared.inputs.Inputs.{Inputs}
 use Rattle.bench_cell.specs.declared.plan.Plan.{Plan}
-use Rattle.bench_cell.specs.Plans.{checked_of, stages_in, tables_of, total_in_query, total_of}
+use Rattle.bench_cell.specs.Plans.{checked_of, total_of}
 use Rattle.bench_cell.specs.Benches.{AreInputsOf}
+use Rattle.bench_cell.proofs.GatheringLemmas.{total_of-inputs}
 use Rattle.worker_machine.specs.Plans.{IsTask}
-
-total-of-query : (tables : List NamedTable) (c : Checked) (k : ℕ) → k < stages_in c → total_in_query tables k c ≡ Some
-    (tuples_of tables (query_of c) (stage_at (query_of c) k))
-total-of-query tables c k lt = ap (λ (b : Bool). if b then Some (tuples_of tables (query_of c) (stage_at (query_of c) k)) else None) (lt-ltb k (stages_in c) lt)
 
 -- the tuples of the inputs of a task set are its total
 pub total-in : (plan : Plan) (id : ℕ) (inputs : Inputs) → AreInputsOf plan id inputs → AreInputs inputs → total_of plan id ≡ Some (total_in inputs)
-total-in plan id inputs ok sound =
-    ap (option_and_then (total_in_query (tables_of plan) (id % STAGES))) ok.query
-    ∙ ap₂ (λ tables k. total_in_query tables k (checked_in inputs)) (sym ok.tables) (sym ok.stage)
-    ∙ total-of-query (tables_in inputs) (checked_in inputs) inputs.stage sound.stage
+total-in = total_of-inputs
 
 pub task-in : (plan : Plan) (id : ℕ) (inputs : Inputs) → AreInputsOf plan id inputs → AreInputs inputs → IsTask plan id
 task-in plan id inputs ok sound = subst IsSome (sym (total-in plan id inputs ok sound)) refl

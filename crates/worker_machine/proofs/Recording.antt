@@ -31,8 +31,7 @@ use Rattle.report_text.specs.declared.report.Record.{Record}
 use Rattle.worker_machine.specs.declared.kept.Core.{Core}
 use Rattle.worker_machine.specs.declared.phase.Phase.{Phase}
 use Rattle.worker_machine.specs.Hands.{HoldsAs, IsHistoryOf, IsTaskHeld, finalised_by}
-use Rattle.worker_machine.specs.Plans.{stages_at}
-use Rattle.worker_machine.specs.Loads.{model_desk}
+use Rattle.worker_machine.specs.Loads.{load_of, model_desk}
 use Rattle.worker_machine.specs.Telling.{HasBook, IsRecordAt, KeepsRecord, book_of, given_up, work_by}
 use Rattle.worker_machine.proofs.Telling.{Gathers, told-gathered}
 use Rattle.worker_machine.proofs.Calls.{place-kept}
@@ -99,8 +98,8 @@ module _ {O : Type 0} (seen : Seen O Plan) (h : Holder) (held : HoldsAs seen h 0
       (holder-finishes d seen.desk.worker h.slot holding trail known.legal low held.place again) in (
         recorded-id,
         record {
-          stage = subst (λ k. k < stages_at seen.desk.subject r.kept.query) (sym r.ends.stage_is)
-              (subst (λ q. id % STAGES < stages_at seen.desk.subject q) (sym r.ends.query_is) (task-stage seen.desk.subject id task.task));
+          stage = subst (λ k. k < (load_of seen.desk.subject).stages r.kept.query) (sym r.ends.stage_is)
+              (subst (λ q. id % STAGES < (load_of seen.desk.subject).stages q) (sym r.ends.query_is) (task-stage seen.desk.subject id task.task));
           last = subst (λ i. lasts_of d i trail ≡ 1) (sym recorded-id) ((task-sets-stay d trail trail known.legal ([], refl)).last id t.0);
           slot = subst (λ i. slot_with d i trail ≡ Some r.kept.slot) (sym recorded-id) (in-slot.0 ∙ ap Some (sym r.ends.slot_is));
           total = subst (λ i. history.total_of d i trail ≡ Some r.kept.total) (sym recorded-id) (t.1.1 ∙ ap Some (sym same));

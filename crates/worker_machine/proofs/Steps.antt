@@ -20,7 +20,7 @@ use Rattle.bench_cell.specs.Plans.{total_of}
 use Rattle.bench_cell.specs.Benches.{BenchFits}
 use Rattle.worker_machine.specs.declared.phase.Phase.TheVariants.{Admit, Put, Size, Install, Give}
 use Rattle.worker_machine.specs.Benches.{AreFresh}
-use Rattle.worker_machine.specs.Plans.{stages_at}
+use Rattle.worker_machine.specs.Loads.{load_of}
 use Rattle.worker_machine.specs.Hands.{HoldsAs, IsTaskHeld, MayInstall, AreNoted, IsHistoryOf, IsNextMade, InHand, Puts, Fetches, next_by}
 use Rattle.worker_machine.proofs.Calls.{carry, all-noted, carry-kept}
 use Rattle.worker_machine.proofs.Holdings.{holds-kept, admitted, noted-done, total-set}
@@ -42,7 +42,7 @@ noted-from notes to x u low lt = absurd (omega (arith, lt))
 
 module _ {O : Type 0} {old new : Seen O Plan} {total : Plan → ℕ → Option ℕ} {h h' : Holder} (bs bs' : List Bench) where
   -- benches were made after the admission
-  pub admitted-puts : {q : ℕ} → Makes total (AdmitGot q) old new → InHand old bs (Admit h) → h' ≡ record h { query = Some q } → 0 < stages_at old.desk.subject q
+  pub admitted-puts : {q : ℕ} → Makes total (AdmitGot q) old new → InHand old bs (Admit h) → h' ≡ record h { query = Some q } → 0 < (load_of old.desk.subject).stages q
       → 0 < old.desk.shape.workers → length bs' ≡ old.desk.shape.workers → AreFresh old.desk.subject (STAGES * q) old.desk.shape.workers bs'
       → InHand new bs' (Put h' 0)
   admitted-puts {q} m hand e some workers count fresh =
@@ -61,7 +61,7 @@ module _ {O : Type 0} {old new : Seen O Plan} {total : Plan → ℕ → Option �
 
   -- or were not
   pub admitted-gives : {q : ℕ} → Makes total (AdmitGot q) old new → InHand old bs (Admit h) → h' ≡ record h { query = Some q }
-      → 0 < stages_at old.desk.subject q
+      → 0 < (load_of old.desk.subject).stages q
       → InHand new bs' (Give h')
   admitted-gives {q} m hand e some =
       let first = first-next old.desk.subject h h' q e hand.2 hand.3 some in

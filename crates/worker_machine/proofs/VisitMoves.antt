@@ -47,8 +47,7 @@ use Rattle.worker_machine.specs.declared.kept.Known.{Known}
 use Rattle.worker_machine.specs.declared.phase.Phase.{Phase}
 use Rattle.worker_machine.specs.declared.phase.Phase.TheVariants as phase
 use Rattle.worker_machine.specs.Outcomes.{IsAsked}
-use Rattle.worker_machine.specs.Plans.{cost_at, weight_at}
-use Rattle.worker_machine.specs.Loads.{model_desk}
+use Rattle.worker_machine.specs.Loads.{load_of, model_desk}
 use Rattle.worker_machine.specs.PointsOf.{point_of}
 use Rattle.worker_machine.specs.Keeps.{HasMade, Knows, KeepsRest, chosen, kept_of, standing}
 use Rattle.worker_machine.specs.Knowing.{AreSpentOn, IsPriorityOf, SharesCount, WorkedOn}
@@ -282,14 +281,14 @@ sized-is known sizing end same at = cc
 pub settled-by : (D : Desk Plan) (plan : Plan) (workers id : ℕ) (old new : Known) → plan ≡ D.subject → workers ≡ D.shape.workers
     → new.group ≡ Some (id / STAGES) → new.query ≡ Some (id / STAGES) → new.id ≡ Some id
     → (old.query ≡ Some (id / STAGES) → new.decay ≡ old.decay)
-    → (old.query ≢ Some (id / STAGES) → new.decay ≡ unspent (params_of (weight_at plan (id / STAGES))))
+    → (old.query ≢ Some (id / STAGES) → new.decay ≡ unspent (params_of ((load_of plan).weight (id / STAGES))))
     → (old.id ≡ Some id → (new.sizer ≡ old.sizer) × (new.last_end ≡ old.last_end))
     → (old.id ≢ Some id → (new.sizer ≡ record { workers = workers; pace = pace_of [] }) × (new.last_end ≡ 0))
     → kept_of new ≡ settled (model_desk D) id (kept_of old)
 settled-by D plan workers id old new plan-is workers-are group query task kept-decay fresh-decay kept-sizer fresh-sizer =
     settled-as (model_desk D) id old new group query
-    (settled-decay old.query (id / STAGES) old.decay (unspent (params_of (weight_at D.subject (id / STAGES)))) new.decay kept-decay
-    (λ n. fresh-decay n ∙ ap (λ (p : Plan). unspent (params_of (weight_at p (id / STAGES)))) plan-is)) task
+    (settled-decay old.query (id / STAGES) old.decay (unspent (params_of ((load_of D.subject).weight (id / STAGES)))) new.decay kept-decay
+    (λ n. fresh-decay n ∙ ap (λ (p : Plan). unspent (params_of ((load_of p).weight (id / STAGES)))) plan-is)) task
     (settled-decay old.id id (kept_of old).sized (fresh_sized D.shape.workers) (kept_of new).sized
     (λ e. sized-is new old.sizer old.last_end (kept-sizer e).0 (kept-sizer e).1)
     (λ n. sized-is new (record { workers = workers; pace = pace_of [] }) 0 (fresh-sizer n).0 (fresh-sizer n).1 ∙ ap fresh_sized workers-are))
@@ -373,10 +372,10 @@ module _ {O : Type 0} (seen : Seen O Plan) {core : Core} {s id : ℕ} {b : Bench
         room = omega (arith, before, more);
       }
 
-  pub range-timed : (may_take : ℕ → ℕ → ℕ → Type 0) (n from to t ns cost : ℕ) → may_take (to - from) cost ns → cost ≡ cost_at seen.desk.subject (id / STAGES)
+  pub range-timed : (may_take : ℕ → ℕ → ℕ → Type 0) (n from to t ns cost : ℕ) → may_take (to - from) cost ns → cost ≡ (load_of seen.desk.subject).cost (id / STAGES)
       → t ≡ max 1 (min ns (2 ^ 36)) → IsTimedCall may_take (model_desk seen.desk).subject (query_by (model_desk seen.desk) ms) (act.ClaimRange n from to) t
   range-timed may_take n from to t ns cost took is at-most =
-      (ns, subst (λ x. may_take (to - from) x ns) (is ∙ sym (ap (cost_at seen.desk.subject) query-here)) took, at-most)
+      (ns, subst (λ x. may_take (to - from) x ns) (is ∙ sym (ap (load_of seen.desk.subject).cost query-here)) took, at-most)
 
 spent-kept : (known known' : Known) (range : Range) → known'.group ≡ known.group → known'.query ≡ known.query → known'.id ≡ known.id
     → known'.decay ≡ after_spending known.decay range.time

@@ -19,7 +19,7 @@ use Rattle.bench_cell.specs.declared.bench.Bench.{Bench}
 use Rattle.bench_cell.specs.Plans.{total_of}
 use Rattle.bench_cell.specs.Benches.{BenchFits}
 use Rattle.plan_ast.specs.declared.answers.Answer.{Answer}
-use Rattle.worker_machine.specs.Plans.{IsTask, stages_at}
+use Rattle.worker_machine.specs.Plans.{IsTask}
 use Rattle.worker_machine.specs.Loads.{load_of}
 use Rattle.worker_machine.specs.Benches.{AreFresh}
 use Rattle.worker_machine.specs.declared.phase.Phase.{Phase}
@@ -50,7 +50,7 @@ pub record IsTaskHeld (plan : Plan) (h : Holder) : Type 0 where
 
 -- the stage that is finalised is the last of its query, whose one-thread answer this is
 pub record EndsQuery (plan : Plan) (h : Holder) (answer : Answer) : Type 0 where
-  pub last : h.stage + 1 ≡ stages_at plan (unwrap_or h.query 0)
+  pub last : h.stage + 1 ≡ (load_of plan).stages (unwrap_or h.query 0)
   pub answer_is : (load_of plan).answer (unwrap_or h.query 0) ≡ Some answer
   pub again : h.again ≡ true
 

@@ -3,7 +3,8 @@ ghost use Rattle.std.specs.Prelude.{◌/◌, ◌≡◌, ◌≢◌, ◌<◌, ◌�
 ghost use Rattle.prio_decay.specs.Priority.{after_spending, unspent};
 ghost use Rattle.morsel_size.specs.Sizing.{pace_after, pace_of};
 ghost use Rattle.turn_model.specs.Learned.{params_of};
-ghost use Rattle.worker_machine.specs.Plans.{IsTask, weight_at};
+ghost use Rattle.worker_machine.specs.Plans.{IsTask};
+ghost use Rattle.worker_machine.specs.Loads.{load_of};
 ghost use Rattle.worker_machine.specs.Sized.{IsSized};
 
 use crate::kept::Known;
@@ -24,7 +25,7 @@ pub(crate) fn settle(known: &mut Known, plan: &Plan, workers: u32, id: u32)
     ensures kept_decay { known.old.query ≡ Some (id / STAGES)
         → known.new.decay ≡ known.old.decay }
     ensures fresh_decay { known.old.query ≢ Some (id / STAGES)
-        → known.new.decay ≡ unspent (params_of (weight_at plan.now (id / STAGES))) }
+        → known.new.decay ≡ unspent (params_of ((load_of plan.now).weight (id / STAGES))) }
     ensures kept_sizer { known.old.id ≡ Some id
         → (known.new.sizer ≡ known.old.sizer) × (known.new.last_end ≡ known.old.last_end) }
     ensures fresh_sizer { known.old.id ≢ Some id

@@ -4,7 +4,8 @@ ghost use Rattle.plan_ast.specs.Bounds.{IsInBounds};
 ghost use Rattle.plan_ast.specs.Stages.{stages_of};
 ghost use Rattle.slot_history.specs.declared.shape.TheConstants.{MOST_TOTAL};
 ghost use Rattle.bench_cell.specs.Plans.{total_of};
-ghost use Rattle.worker_machine.specs.Plans.{IsTask, stages_at, weight_at, after_at, cost_at};
+ghost use Rattle.worker_machine.specs.Plans.{IsTask};
+ghost use Rattle.worker_machine.specs.Loads.{load_of};
 
 use bench_cell::Plan;
 use plan_ast::Query;
@@ -14,10 +15,10 @@ use slot_station::shape::STAGES;
 pub(crate) fn query_of(plan: &Plan, q: u32) -> &Query
     requires { q < length plan.now.queries.items }
     ensures bounds { IsInBounds result.now }
-    ensures stages { stages_at plan.now q ≡ stages_of result.now }
-    ensures weight { weight_at plan.now q ≡ result.now.weight }
-    ensures after { after_at plan.now q ≡ result.now.after }
-    ensures cost { cost_at plan.now q ≡ result.now.cost }
+    ensures stages { (load_of plan.now).stages q ≡ stages_of result.now }
+    ensures weight { (load_of plan.now).weight q ≡ result.now.weight }
+    ensures after { (load_of plan.now).after q ≡ result.now.after }
+    ensures cost { (load_of plan.now).cost q ≡ result.now.cost }
 {
     plan.query(q).query()
 }

@@ -9,11 +9,12 @@ use Rattle.std.specs.Arc.{arc_value}
 use Rattle.slot_history.specs.declared.shape.TheConstants.{STAGES}
 use Rattle.bench_cell.specs.Plans.{total_of}
 use Rattle.worker_machine.specs.Plans.{IsTask}
+use Rattle.worker_machine.specs.Loads.{load_of}
 use Rattle.slot_station.specs.Desks.{Desk}
 use Rattle.std.proofs.Common.{refl, length}
 use Rattle.worker_machine.proofs.Moving.{answers-kept, moves-by, quiet-by, keeps-on}
 use Rattle.std.proofs.Common.{ap}
-use Rattle.worker_machine.specs.Plans.{cost_at}
+use Rattle.worker_machine.specs.Loads.{load_of}
 use Rattle.worker_machine.proofs.VisitMoves.{claim-size, known-at, range-knows, range-shares, range-timed, spent-priority}
 use Rattle.worker_machine.specs.declared.phase.Phase.TheVariants as phase
 use Rattle.std.proofs.Common.{None}
@@ -99,7 +100,7 @@ returns-in-Range-clause-moves g c =
           (subst (λ (p : Plan). total_of p c.args.id ≡ Some c.task_total-total.result) plan c.task_total-total.ensures.total));
       timed = range-timed old ms h f.hand.0 known got of g.M.Meter.may_take c.next-n.result c.in-Range.from
           c.in-Range.to c.within_bounds-ns.result _ _ c.stop.ensures
-          (sym c.query_of.ensures.cost ∙ ap (λ (p : Plan). cost_at p (c.args.id / STAGES)) (c.deref-in-Range.ensures ∙ plan-of self f.desk))
+          (sym c.query_of.ensures.cost ∙ ap (λ (p : Plan). (load_of p).cost (c.args.id / STAGES)) (c.deref-in-Range.ensures ∙ plan-of self f.desk))
           c.within_bounds-ns.ensures;
       answers = answers-kept h.answers c.worked.ensures.replies;
       told = told-kept c.args.self.now c.worked.new.self (phase.Claim c.args.s c.args.id c.args.bench) (phase.Back None c.work.new.self)

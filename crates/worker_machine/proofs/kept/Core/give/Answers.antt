@@ -1,6 +1,6 @@
-use Rattle.std.proofs.Common.{◌≡◌, ◌-◌, unwrap_or, refl, sym, ap, ap₂, ◌∙◌}
-use Rattle.worker_machine.specs.Plans.{stages_at}
-use Rattle.worker_machine.specs.Loads.{model_desk}
+use Rattle.std.proofs.Common.{◌≡◌, ℕ, ◌-◌, unwrap_or, refl, sym, ap, ap₂, ◌∙◌}
+use Rattle.worker_machine.specs.Loads.{load_of, model_desk}
+use Rattle.bench_cell.specs.declared.plan.Plan.{Plan}
 use Rattle.worker_machine.proofs.Desks.{plan-of}
 use Rattle.worker_machine.proofs.Giving.{gives-up, ends-all, may-give, given}
 use Rattle.worker_machine.proofs.Moving.{moves-by, mind-on, shares-kept, answers-on}
@@ -20,9 +20,9 @@ returns-clause-moves g c =
     let f = c.requires.follows in
     let old = g.S.Station.seen c.args.station.now in
     let x = c.args.holder in
-    let rest : c.stages-all.result - x.stage ≡ stages_at old.desk.subject (unwrap_or x.query 0) - x.stage =
+    let rest : c.stages-all.result - x.stage ≡ (load_of old.desk.subject).stages (unwrap_or x.query 0) - x.stage =
     ap (λ n. n - x.stage) (c.stages-all.ensures.count ∙ sym c.query_of.ensures.stages
-    ∙ ap₂ stages_at (c.deref.ensures ∙ plan-of c.args.self.now f.desk) c.unwrap_or.ensures) in
+    ∙ ap₂ (λ (p : Plan) (q : ℕ). (load_of p).stages q) (c.deref.ensures ∙ plan-of c.args.self.now f.desk) c.unwrap_or.ensures) in
     moves-by c.note_done.ensures.made 0 (λ ms h. record {
       may = may-give (model_desk old.desk) ms _ (gives-up old x ms h f.hand.0 _ rest) x.again;
       timed = refl;

@@ -14,7 +14,7 @@ pub enum Stepped {
 }
 
 /// The call that a worker makes next, with what it has in hand for it.
-#[derive(Debug, Drop)]
+#[derive(Drop)]
 pub enum Phase {
     /// No turn is under way; the last one ended so. A turn begins with the first return part.
     Ready(Turn),

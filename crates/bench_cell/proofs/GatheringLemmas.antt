@@ -6,6 +6,7 @@ use Rattle.std.specs.List.{AllZip}
 use Rattle.std.specs.Option.{IsSome}
 use Rattle.std.proofs.lemmas.List.{append-nil, append_assoc, length-reverse, map-append, reverse-append, reverse-reverse}
 use Rattle.std.proofs.lemmas.List.Elements.{All-cons, All-head, All-nil, All-tail}
+use Rattle.slot_history.specs.declared.shape.TheConstants.{STAGES}
 use Rattle.plan_ast.specs.Checks.{query_of}
 use Rattle.plan_ast.specs.Folds.{Tuples}
 use Rattle.plan_ast.specs.Stages.{stage_at, stages_of, tuples_of}
@@ -39,7 +40,7 @@ pub same_task : (plan : Plan) (id : ℕ) (i j : Inputs) → AreInputsOf plan id 
     → P (tables_in i) (checked_in i) (number_in i) → P (tables_in j) (checked_in j) (number_in j)
 same_task plan id i j one other P h =
     let tables : tables_in i ≡ tables_in j = one.tables ∙ sym other.tables in
-    let checked : checked_in i ≡ checked_in j = same_some (slice_get (checked_of plan) (id / 8)) (checked_in i) (checked_in j) one.query other.query in
+    let checked : checked_in i ≡ checked_in j = same_some (slice_get (checked_of plan) (id / STAGES)) (checked_in i) (checked_in j) one.query other.query in
     let number : number_in i ≡ number_in j = one.stage ∙ sym other.stage in
     subst (λ t. P t (checked_in j) (number_in j)) tables
     (subst (λ c. P (tables_in i) c (number_in j)) checked (subst (P (tables_in i) (checked_in i)) number h))
@@ -48,9 +49,9 @@ same_task plan id i j one other P h =
 pub total_of-inputs : (plan : Plan) (id : ℕ) (inputs : Inputs) → AreInputsOf plan id inputs → AreInputs inputs → total_of plan id ≡ Some (total_in inputs)
 total_of-inputs plan id inputs of are =
     let query : Query = query_in inputs in
-    let below : id % 8 < stages_in (checked_in inputs) = subst (λ n. n < stages_of query) of.stage are.stage in
-    total_by-is plan (id / 8) (id % 8) (checked_in inputs) of.query below
-    ∙ ap (λ t. Some (tuples_of t query (stage_at query (id % 8)))) (sym of.tables)
+    let below : id % STAGES < stages_in (checked_in inputs) = subst (λ n. n < stages_of query) of.stage are.stage in
+    total_by-is plan (id / STAGES) (id % STAGES) (checked_in inputs) of.query below
+    ∙ ap (λ t. Some (tuples_of t query (stage_at query (id % STAGES)))) (sym of.tables)
     ∙ ap (λ n. Some (tuples_of (tables_in inputs) query (stage_at query n))) (sym of.stage)
 
 -- the accumulators of benches hold the folds over their tuples

@@ -6,6 +6,7 @@ use Rattle.std.proofs.lemmas.Nat.{div-mul-add, mod-mul-add}
 use Rattle.std.proofs.lemmas.Option.{slice_get-map}
 use Rattle.std.specs.Option.{option_and_then, option_map}
 use Rattle.plan_ast.specs.Bounds.{IsInBounds}
+use Rattle.slot_history.specs.declared.shape.TheConstants.{STAGES}
 use Rattle.plan_ast.specs.Checks.{query_of}
 use Rattle.plan_ast.specs.Stages.{merges_of, stage_at, stages_of, tuples_of}
 use Rattle.plan_ast.specs.declared.checks.Checked.{Checked}
@@ -43,10 +44,10 @@ total_by-is plan q stage checked at below =
 -- the same by the task set's id
 pub total_of-is : (plan : Plan) (q stage total : ℕ) (checked : Checked) → slice_get (checked_of plan) q ≡ Some checked → stage < stages_in checked
     → IsInBounds (query_of checked) → total ≡ tuples_of (tables_of plan) (query_of checked) (stage_at (query_of checked) stage)
-    → total_of plan (8 * q + stage) ≡ Some total
+    → total_of plan (STAGES * q + stage) ≡ Some total
 total_of-is plan q stage total checked at below bounds is =
-    let small : stage < 8 = omega (arith, below, stages_few (query_of checked) bounds) in
-    let turned : 8 * q + stage ≡ q * 8 + stage = ap (λ n. n + stage) (mul_comm 8 q) in
-    let query : (8 * q + stage) / 8 ≡ q = ap (λ n. n / 8) turned ∙ div-mul-add q 8 stage small in
-    let number : (8 * q + stage) % 8 ≡ stage = ap (λ n. n % 8) turned ∙ mod-mul-add q 8 stage small in
-    ap (λ n. total_by plan n ((8 * q + stage) % 8)) query ∙ ap (total_by plan q) number ∙ total_by-is plan q stage checked at below ∙ ap Some (sym is)
+    let small : stage < STAGES = omega (arith, below, stages_few (query_of checked) bounds) in
+    let turned : STAGES * q + stage ≡ q * STAGES + stage = ap (λ n. n + stage) (mul_comm STAGES q) in
+    let query : (STAGES * q + stage) / STAGES ≡ q = ap (λ n. n / STAGES) turned ∙ div-mul-add q STAGES stage small in
+    let number : (STAGES * q + stage) % STAGES ≡ stage = ap (λ n. n % STAGES) turned ∙ mod-mul-add q STAGES stage small in
+    ap (λ n. total_by plan n ((STAGES * q + stage) % STAGES)) query ∙ ap (total_by plan q) number ∙ total_by-is plan q stage checked at below ∙ ap Some (sym is)

@@ -1,8 +1,8 @@
 //! One worker's work on a task set: what the cells of a slot hold.
 //!
 //! A `Plan` is what a run works on: tables, and queries that were checked with them. Stage k of
-//! query q is the task set of the id 8 q + k. A `Bench` is what one worker made of the ranges that
-//! it claimed of a task set.
+//! query q is the task set of the id `STAGES * q + k`. A `Bench` is what one worker made of the
+//! ranges that it claimed of a task set.
 //!
 //! It stands on `pipe_ops`, which folds ranges of a stage, and on `slot_station`, which says what a
 //! cell holds (`Fits`). The one fact that the layers above may use: a bench fits the ranges that it

@@ -3,17 +3,18 @@ ghost use Rattle.std.specs.Prelude.{◌≤◌, All, length};
 ghost use Rattle.std.specs.Arc.{arc_value};
 ghost use Rattle.bench_cell.specs.OneProof.{checked_props};
 ghost use Rattle.plan_ast.specs.Checks.{IsCheckedFor};
+ghost use Rattle.slot_history.specs.declared.shape.TheConstants.{MOST_QUERIES};
 
 use plan_ast::{Checked, NamedTable, stage_total, stages};
 use std::sync::Arc;
 
 /// Tables, and queries that were checked with them, in the order in which they arrive: at most
-/// 4,096. It is the subject of the cells that hold benches.
+/// `MOST_QUERIES`. It is the subject of the cells that hold benches.
 #[derive(Debug, Drop)]
 pub struct Plan {
     pub tables: Arc<Vec<NamedTable>>,
     pub queries: Vec<Arc<Checked>>,
-    ghost few: { length queries.items ≤ 4096 },
+    ghost few: { length queries.items ≤ MOST_QUERIES },
     ghost checked: { All (λ query. IsCheckedFor (arc_value tables).items (arc_value query))
         queries.items } by { Prim.hlevel checked_props },
 }
@@ -24,7 +25,7 @@ impl Plan {
     ghost use Rattle.slot_history.specs.declared.shape.TheConstants.{MOST_TOTAL, STAGES};
     ghost use Rattle.bench_cell.specs.Plans.{checked_of, sets_of, stages_in, tables_of, total_of};
 
-    /// The number of queries: 0 to 4,096. It allocates nothing.
+    /// The number of queries: 0 to `MOST_QUERIES`. It allocates nothing.
     pub fn len(&self) -> u32
         ensures { result ≡ length self.now.queries.items }
     {

@@ -1,5 +1,6 @@
 -- How many steps a turn still takes at most.
 use Rattle.std.specs.Prelude.{ℕ, ◌+◌, ◌*◌, ◌-◌, ◌<◌, Bool, true, false}
+use Rattle.slot_history.specs.declared.shape.Shape.{Shape}
 use Rattle.slot_history.specs.declared.shape.TheConstants.{PARTS}
 use Rattle.slot_station.specs.Desks.{Desk}
 use Rattle.bench_cell.specs.declared.plan.Plan.{Plan}
@@ -11,12 +12,16 @@ use Rattle.worker_machine.specs.declared.phase.Phase.TheVariants.{Look, Early, T
 use Rattle.worker_machine.specs.declared.phase.Phase.TheVariants.{Back, Leave, Ask, Sweep, Pay}
 use Rattle.worker_machine.specs.declared.phase.Phase.TheVariants.{Enter, Fetch, Note}
 
+-- the most steps of a whole turn
+abbrev pub turn_bound : Shape → ℕ
+turn_bound d = d.slots + 4 * d.workers + 2 * PARTS + 16
+
 -- At most four times a turn makes a step for each worker: it asks, fetches, puts and tells. It
 -- scans each slot once, takes 2 * PARTS words of notices, and all else takes 16 steps. So a line
 -- adds up the slots that are left to be scanned, the workers that are left in the round under way,
 -- those of the rounds that may follow, and the single steps between them.
 abbrev pub left : Desk Plan → Phase → ℕ
-left D (Ready e) = D.shape.slots + 4 * D.shape.workers + 2 * PARTS + 16
+left D (Ready e) = turn_bound D.shape
 left D (Return k) = D.shape.slots + 4 * D.shape.workers + 15 + PARTS + (PARTS - k)
 left D (Change k) = D.shape.slots + 4 * D.shape.workers + 15 + (PARTS - k)
 left D Count = D.shape.slots + 4 * D.shape.workers + 15

@@ -2,6 +2,7 @@
 ghost use Rattle.std.specs.Prelude.{◌≡◌, ◌<◌, ◌≤◌, length};
 ghost use Rattle.std.specs.Arc.{arc_value};
 ghost use Rattle.std.specs.Vec.{vec_capacity};
+ghost use Rattle.slot_history.specs.declared.shape.TheConstants.{MOST_SLOTS, MOST_WORKERS};
 ghost use Rattle.stride_set.specs.Strides.{strides_of};
 ghost use Rattle.worker_machine.specs.Sized.{AreSized};
 
@@ -53,8 +54,8 @@ pub struct Core {
     pub(crate) records: Vec<Record>,
     pub(crate) shares: Vec<Share>,
     ghost is_one: { worker < workers },
-    ghost few_workers: { workers ≤ 64 },
-    ghost few_slots: { (0 < slots) × (slots ≤ 128) },
+    ghost few_workers: { workers ≤ MOST_WORKERS },
+    ghost few_slots: { (0 < slots) × (slots ≤ MOST_SLOTS) },
     ghost passes: { (strides_of strides).slots ≡ slots },
     ghost each_known: { length known.items ≡ slots },
     ghost room: { workers ≤ vec_capacity benches },

@@ -21,6 +21,7 @@ use turn_model::Turn;
 impl Core {
     ghost use Rattle.std.specs.Prelude.{◌≡◌, ◌<◌, ◌≤◌, length, IfOk};
     ghost use Rattle.std.specs.Arc.{arc_value};
+    ghost use Rattle.slot_history.specs.declared.shape.TheConstants.{MOST_SLOTS, MOST_WORKERS};
     ghost use Rattle.worker_machine.specs.Desks.{desk_of};
     ghost use Rattle.worker_machine.specs.Keeps.{IsUntold};
 
@@ -32,8 +33,8 @@ impl Core {
         plan: Arc<Plan>,
     ) -> Result<Core, AllocError>
         requires worker { worker < workers }
-        requires workers { workers ≤ 64 }
-        requires slots { (0 < slots) × (slots ≤ 128) }
+        requires workers { workers ≤ MOST_WORKERS }
+        requires slots { (0 < slots) × (slots ≤ MOST_SLOTS) }
         ensures desk { IfOk result (λ core. desk_of core ≡ record {
           worker = worker;
           shape = record {
@@ -111,15 +112,15 @@ impl Phase {
 }
 
 impl Worker {
-    ghost use Rattle.std.specs.Prelude.{◌≡◌, ◌↔◌, ◌+◌, ◌*◌, ◌<◌, ◌≤◌, true, length, IfOk, IsTrue};
+    ghost use Rattle.std.specs.Prelude.{◌≡◌, ◌↔◌, ◌+◌, ◌<◌, ◌≤◌, true, length, IfOk, IsTrue};
     ghost use Rattle.std.specs.Arc.{arc_value};
-    ghost use Rattle.slot_history.specs.declared.shape.TheConstants.{PARTS};
+    ghost use Rattle.slot_history.specs.declared.shape.TheConstants.{MOST_SLOTS, MOST_WORKERS};
     ghost use Rattle.worker_machine.specs.declared.phase.Phase.{Phase};
     ghost use Rattle.turn_model.specs.declared.turn.Turn.{Turn};
     ghost use Rattle.worker_machine.specs.Desks.{Stays};
     ghost use Rattle.worker_machine.specs.Following.{Follows, IsNewFor, stepped};
     ghost use Rattle.worker_machine.specs.Keeps.{Moves};
-    ghost use Rattle.worker_machine.specs.Left.{IsNearer, is_ready};
+    ghost use Rattle.worker_machine.specs.Left.{IsNearer, is_ready, turn_bound};
     ghost use Rattle.worker_machine.specs.Turning.{Turns, standing_of};
 
     /// A worker that has made no call: one of so many workers, over an object of so many slots,
@@ -133,8 +134,8 @@ impl Worker {
         plan: Arc<Plan>,
     ) -> Result<Worker, AllocError>
         requires worker { worker < workers }
-        requires workers { workers ≤ 64 }
-        requires slots { (0 < slots) × (slots ≤ 128) }
+        requires workers { workers ≤ MOST_WORKERS }
+        requires slots { (0 < slots) × (slots ≤ MOST_SLOTS) }
         ensures { IfOk result (IsNewFor (record {
           worker = worker;
           shape = record {
@@ -194,8 +195,7 @@ impl Worker {
         ensures stays { Stays (S.seen station.old) (S.seen station.new) }
         ensures turns { Turns M.may_take (standing_of self.old (S.seen station.old)) result
             (standing_of self.new (S.seen station.new)) }
-        ensures ticks { steps.new ≤ steps.old + (S.seen station.old).desk.shape.slots
-            + 4 * (S.seen station.old).desk.shape.workers + 2 * PARTS + 16 }
+        ensures ticks { steps.new ≤ steps.old + turn_bound (S.seen station.old).desk.shape }
     {
         let mut phase = mem::replace(&mut self.phase, Phase::Count);
         loop {

@@ -9,9 +9,8 @@ use Rattle.slot_station.specs.Log.{calls_of}
 use Rattle.stride_set.specs.Strides.{Strides, strides_of}
 use Rattle.turn_model.specs.Moves.{times_of}
 use Rattle.turn_model.specs.Learned.{strides_by}
-use Rattle.turn_model.specs.Reports.{IsGapOf, AreGaps}
+use Rattle.turn_model.specs.Reports.{IsGapOf}
 use Rattle.turn_model.specs.Runs.{Run, IsDriven, IsDrivenBy, IsComplete, desk_at}
-use Rattle.report_text.specs.declared.report.Gap.{Gap}
 use Rattle.bench_cell.specs.declared.plan.Plan.{Plan}
 use Rattle.worker_machine.specs.declared.phase.Phase.{Phase}
 use Rattle.worker_machine.specs.declared.phase.Phase.TheVariants.{Ready}
@@ -65,7 +64,7 @@ module _ {may_take : ℕ → ℕ → ℕ → Type 0} {at : Scene} {run : Run} (p
         over-in at.table (played.made w x.0 x.1) (over w x.0 x.1);
   }
 
-  gap-at : (w : ℕ) (x : Worker) → slice_get at.team w ≡ Some x → is_ready x.phase ≡ true
+  pub gap-at : (w : ℕ) (x : Worker) → slice_get at.team w ≡ Some x → is_ready x.phase ≡ true
       → IsGapOf (desk_at at.table.shape (load_of at.table.subject) w) (run.team w) (gap_of x)
   gap-at w x here ready =
       let m = played.made w x here in
@@ -76,14 +75,6 @@ module _ {may_take : ℕ → ℕ → ℕ → Type 0} {at : Scene} {run : Run} (p
         widest = ap (λ (s : Strides). s.widest) passes;
         largest = ap (λ (s : Strides). s.largest) passes;
       }
-
-  pub gaps-are : NoneTurns at.team → (gaps : List Gap) → gaps ≡ map gap_of at.team → AreGaps at.table.shape (load_of at.table.subject) run.team gaps
-  gaps-are none gaps are = record {
-    count = ap length are ∙ length-map at.team gap_of ∙ follows.count;
-    each = λ w gap here.
-        let x = mapped-at gap_of at.team w gap (ap (λ l. slice_get l w) (sym are) ∙ here) in
-        subst (IsGapOf (desk_at at.table.shape (load_of at.table.subject) w) (run.team w)) x.2 (gap-at w x.0 x.1 (none w x.0 x.1));
-  }
 
   -- the times of the workers, and none of others
   pub times-are : (times : List (List ℕ)) → times ≡ map (λ (w : Worker). w.core.times) at.team → (w : ℕ)

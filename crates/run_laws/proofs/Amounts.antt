@@ -29,7 +29,7 @@ use Rattle.turn_model.specs.Learned.{place_by, query_by, time_in}
 use Rattle.turn_model.specs.Runs.{desk_at}
 use Rattle.turn_model.specs.Measure.{unclaimed}
 use Rattle.turn_model.specs.Reports.{tuples_by}
-use Rattle.run_laws.specs.Shares.{AreShort, CountsAreSmall}
+use Rattle.run_laws.specs.Merging.{AreShort, CountsAreSmall}
 use Rattle.run_laws.proofs.Least.{sum-equal, sum-turns, sum-bounded, sum-member}
 use Rattle.run_laws.proofs.Numbers.{left_at, left-empty, left-shut, left-ended}
 use Rattle.run_laws.proofs.SharesTell.{sum-push}

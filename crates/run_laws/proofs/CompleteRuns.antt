@@ -10,8 +10,7 @@ use Rattle.turn_model.specs.Moves.{Move, Made, Exchanged}
 use Rattle.turn_model.specs.Learned.{query_by}
 use Rattle.turn_model.specs.Runs.{Run, desk_at, IsTimedCall, AreTimed, IsDriven, IsComplete}
 use Rattle.run_laws.specs.Ends.{IsWork, IsPlayed}
-use Rattle.run_laws.specs.Shares.{AreShort}
-use Rattle.run_laws.specs.Merging.{IsWhole}
+use Rattle.run_laws.specs.Merging.{AreShort, IsWhole}
 
 -- `may_take` says which times a meter may answer
 module _ (may_take : ℕ → ℕ → ℕ → Type 0) where

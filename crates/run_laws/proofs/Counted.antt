@@ -10,7 +10,7 @@ use Rattle.std.proofs.lemmas.List.Elements.{All-nil, All-cons}
 use Rattle.std.proofs.lemmas.List.Sums.{sum_by-cons, sum_by-append}
 use Rattle.slot_history.specs.Sets.{sum_below}
 use Rattle.turn_model.specs.Reports.{Has}
-use Rattle.run_laws.specs.Endings.{Beside}
+use Rattle.turn_model.specs.Endings.{Beside}
 use Rattle.run_laws.proofs.EndingsTell.{times_in}
 use Rattle.run_laws.proofs.Pigeons.{RisesFrom, times-here}
 

@@ -27,7 +27,7 @@ use Rattle.turn_model.specs.Points.{Back, Leave, Ask, Sweep, Pay, Fetch, ended_a
 use Rattle.turn_model.specs.Driven.{MayCall, MayExchange, AreDriven}
 use Rattle.turn_model.specs.Measure.{is_query}
 use Rattle.run_laws.specs.Completes.{is_release}
-use Rattle.run_laws.specs.Endings.{ended_after, ended_by, gathered_after, gathered_by}
+use Rattle.turn_model.specs.Endings.{ended_after, ended_by, gathered_after, gathered_by}
 use Rattle.run_laws.proofs.PointsStand.{Stands, points-stand}
 use Rattle.run_laws.proofs.Tallies.{by_moves}
 

@@ -18,7 +18,7 @@ use Rattle.turn_model.specs.Moves.{Move, Made, Exchanged}
 use Rattle.turn_model.specs.Learned.{place_by}
 use Rattle.turn_model.specs.Points.{Point, Fill, FreeIt, Fetch, goes_on, after, point_by}
 use Rattle.turn_model.specs.Driven.{MayCall, AreDriven}
-use Rattle.run_laws.specs.Endings.{ended_after, ended_by}
+use Rattle.turn_model.specs.Endings.{ended_after, ended_by}
 use Rattle.run_laws.proofs.PointsStand.{Stands, points-stand, admit-says}
 use Rattle.run_laws.proofs.Tallies.{by_moves}
 use Rattle.run_laws.proofs.EndingsTell.{last_of}

@@ -11,8 +11,6 @@ mod Turns
 mod Releases
 pub mod EndsWell
 pub mod Completes
-pub mod RecordsStay
-pub mod Counting
 pub mod SharesTell
 mod Tallies
 mod EndingsTell

@@ -27,7 +27,7 @@ use Rattle.turn_model.specs.Driven.{MayCall, MayExchange, AreDriven}
 use Rattle.turn_model.specs.Runs.{Run, desk_at}
 use Rattle.turn_model.specs.Measure.{is_query}
 use Rattle.turn_model.specs.Reports.{IsRecordIn, IsReportOf}
-use Rattle.run_laws.specs.Endings.{ended_after, ended_by, gathered_by}
+use Rattle.turn_model.specs.Endings.{ended_after, ended_by, gathered_by}
 use Rattle.run_laws.specs.Merging.{IsWhole}
 use Rattle.run_laws.specs.Agreeing.{NotesOne, GivesNoneUp, NoneRanOut}
 use Rattle.run_laws.proofs.Least.{sum-less, sum-member}

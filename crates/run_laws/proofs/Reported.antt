@@ -19,15 +19,17 @@ use Rattle.report_text.specs.declared.replies.QueryReply.{QueryReply}
 use Rattle.report_text.specs.declared.replies.Reply.TheVariants.{Memory}
 use Rattle.report_text.specs.declared.report.Record.{Record}
 use Rattle.report_text.specs.declared.report.Share.{Share}
+use Rattle.report_text.specs.declared.report.Gap.{Gap}
 use Rattle.report_text.specs.declared.report.Report.{Report}
 use Rattle.slot_station.specs.Desks.{Desk}
 use Rattle.turn_model.specs.Workloads.{Workload}
 use Rattle.turn_model.specs.Runs.{Run, desk_at}
 use Rattle.turn_model.specs.Measure.{is_query}
-use Rattle.turn_model.specs.Reports.{Has, IsReplyTo, AreReplies, RanOut, id_of_record, IsRecordIn, AreRecords, AreAnswered, AreShares}
-use Rattle.run_laws.specs.Shares.{shares_by, AreSharesOf}
-use Rattle.run_laws.specs.Endings.{ended_by, gathered_by, IsReplyAt, Telling, HasTold}
-use Rattle.run_laws.specs.Merging.{IsWhole, HaveTold, IsMerged, MergedIsReport}
+use Rattle.turn_model.specs.Reports.{Has, IsReplyTo, AreReplies, RanOut, id_of_record, IsRecordIn, AreRecords, AreAnswered, AreShares, IsGapOf, AreGaps}
+use Rattle.turn_model.specs.Shares.{shares_by, AreSharesOf}
+use Rattle.turn_model.specs.Tellings.{Telling, HasTold, HaveTold, IsMerged}
+use Rattle.turn_model.specs.Endings.{ended_by, gathered_by, IsReplyAt}
+use Rattle.run_laws.specs.Merging.{IsWhole, MergedIsReport}
 use Rattle.run_laws.proofs.Tallies.{by_moves}
 use Rattle.run_laws.proofs.EndingsTell.{last_of, ended_for, times_in}
 use Rattle.run_laws.proofs.Pigeons.{IsCounting, counting}
@@ -52,7 +54,7 @@ abbrev query_of : QueryReply → ℕ
 query_of r = r.query
 
 module _ (d : Shape) (load : Workload) (run : Run) (told : List Telling) (report : Report) (whole : IsWhole d load run) (have : HaveTold d load run told)
-    (merged : IsMerged d load run told report) where
+    (merged : IsMerged told report) where
   abbrev D : ℕ → Desk Workload
   D w = desk_at d load w
 
@@ -68,7 +70,7 @@ module _ (d : Shape) (load : Workload) (run : Run) (told : List Telling) (report
   replies-of q w t got =
       sym (sum_by-IsPermutation (has_key query_of q) t.replies (reverse t.replies) (IsPermutation-reverse t.replies))
       ∙ beside-sum (IsReplyAt load) (has_key query_of q) (λ (held : Held). cond (is_query held.query q) 1 0) (ended_for q) refl (λ y ys. refl)
-      (λ r held is. sym (ap (λ o. cond (is_query o q) 1 0) is.query)) (reverse t.replies) (ended_by (D w) (run.team w)) (tells w t got).replies
+      (λ r held is. sym (ap (λ o. cond (is_query o q) 1 0) is.query)) (reverse t.replies) (ended_by (D w) (run.team w)) (tells w t got).of_work.replies
 
   reply-count : (q : ℕ) → sum_by (has_key query_of q) report.replies ≡ cond (ltb q d.queries) 1 0
   reply-count q =
@@ -88,7 +90,7 @@ module _ (d : Shape) (load : Workload) (run : Run) (told : List Telling) (report
       (all-flat (λ (t : Telling). t.replies) Q told (λ w t got.
       All-permutation Q (reverse t.replies) t.replies (IsPermutation-sym t.replies (reverse t.replies) (IsPermutation-reverse t.replies))
       (beside-all (IsReplyAt load) (HasLast (D w) (run.team w)) Q (AllLast (D w) (run.team w)) (λ y ys all. (all.0, all.1))
-      (λ r held is last. each w r held (low w t got) is last) (reverse t.replies) (ended_by (D w) (run.team w)) (tells w t got).replies
+      (λ r held is last. each w r held (low w t got) is last) (reverse t.replies) (ended_by (D w) (run.team w)) (tells w t got).of_work.replies
       (ended-last (D w) (run.team w) (whole.played.driven w (low w t got))))))
 
   replies : AreReplies d load report.replies
@@ -110,7 +112,7 @@ module _ (d : Shape) (load : Workload) (run : Run) (told : List Telling) (report
   records-of id w t got =
       sym (sum_by-IsPermutation (has_key id_of_record id) t.records (reverse t.records) (IsPermutation-reverse t.records))
       ∙ beside-sum IsBeside (has_key id_of_record id) (λ n. cond (eqb n id) 1 0) (times_in id) refl (λ y ys. refl)
-      (λ kept n is. ap (λ k. cond (eqb k id) 1 0) is.0) (reverse t.records) (gathered_by (D w) (run.team w)) (tells w t got).records
+      (λ kept n is. ap (λ k. cond (eqb k id) 1 0) is.0) (reverse t.records) (gathered_by (D w) (run.team w)) (tells w t got).of_work.records
 
   record-count : (id : ℕ) → sum_by (has_key id_of_record id) report.records ≡ lasts_of d id run.history
   record-count id =
@@ -125,7 +127,7 @@ module _ (d : Shape) (load : Workload) (run : Run) (told : List Telling) (report
       All-permutation (IsRecordIn d load run.history) (reverse t.records) t.records
       (IsPermutation-sym t.records (reverse t.records) (IsPermutation-reverse t.records))
       (beside-all IsBeside (λ n. Unit {0}) (IsRecordIn d load run.history) (λ ns. Unit {0}) (λ y ys all. (tt, tt)) (λ kept id is all. is.1)
-      (reverse t.records) (gathered_by (D w) (run.team w)) (tells w t got).records tt)))
+      (reverse t.records) (gathered_by (D w) (run.team w)) (tells w t got).of_work.records tt)))
 
   has-record : (id : ℕ) → 0 < lasts_of d id run.history → Has (λ (kept : Record). id_of_record kept ≡ id) report.records
   has-record id some = has-counted id_of_record id report.records (let c = record-count id in omega (arith, some, c))
@@ -156,7 +158,7 @@ module _ (d : Shape) (load : Workload) (run : Run) (told : List Telling) (report
       all-of (λ (kept : Record). kept.short ≡ true → RanOut kept.query report.replies) t.records (λ i kept at short.
       ⊎_elim (λ out. ran-out w kept.query t got out)
       (λ gives. absurd (none-some kept.query (sym (have.given_up w t got) ∙ gives)))
-      (all-at (λ (kept : Record). kept.short ≡ true → RanOut kept.query t.replies ⊎ (t.gives_up ≡ Some kept.query)) t.records (tells w t got).short i kept at
+      (all-at (λ (kept : Record). kept.short ≡ true → RanOut kept.query t.replies ⊎ (t.gives_up ≡ Some kept.query)) t.records (tells w t got).of_work.short i kept at
       short)))) where
         none-some : (q : ℕ) → None ≡ Some q → ⊥
         none-some q e = cc
@@ -241,11 +243,25 @@ module _ (d : Shape) (load : Workload) (run : Run) (told : List Telling) (report
       (length-map told (λ (t : Telling). t.shares) ∙ have.count)
       (λ w these got. by-telling w these (slice_get told w) refl (sym (slice_get-map (λ (t : Telling). t.shares) told w) ∙ got)))
 
+  -- ---- gaps
+
+  gap-of : (w : ℕ) (gap : Gap) (o : Option Telling) → slice_get told w ≡ o → option_map (λ (t : Telling). t.gap) o ≡ Some gap
+      → IsGapOf (D w) (run.team w) gap
+  gap-of w gap None at is = absurd (cc)
+  gap-of w gap (Some t) at is = subst (IsGapOf (D w) (run.team w)) (ap (λ o. unwrap_or o gap) is) (have.gaps w t at)
+
+  gaps : AreGaps d load run.team report.gaps
+  gaps = record {
+    count = ap length merged.gaps ∙ length-map told (λ (t : Telling). t.gap) ∙ have.count;
+    each = λ w gap got. gap-of w gap (slice_get told w) refl
+        (sym (slice_get-map (λ (t : Telling). t.gap) told w) ∙ ap (λ l. slice_get l w) (sym merged.gaps) ∙ got);
+  }
+
 pub merged-is-report : MergedIsReport
 merged-is-report d load run told report whole have merged = record {
   replies = replies d load run told report whole have merged;
   records = records d load run told report whole have merged;
   answered = answered d load run told report whole have merged;
   shares = shares d load run told report whole have merged;
-  gaps = merged.gaps;
+  gaps = gaps d load run told report whole have merged;
 }

@@ -26,7 +26,7 @@ use Rattle.turn_model.specs.Learned.{place_by}
 use Rattle.turn_model.specs.Runs.{Run, desk_at}
 use Rattle.run_laws.specs.Ends.{HaveStages}
 use Rattle.run_laws.specs.Completes.{releases_of, IsAllDone}
-use Rattle.run_laws.specs.Endings.{ended_by, gathered_by, HasRoom}
+use Rattle.turn_model.specs.Endings.{ended_by, gathered_by, work_by, HasRoom}
 use Rattle.run_laws.specs.Merging.{IsWhole, RoomIsLeft}
 use Rattle.run_laws.proofs.Least.{sum-most, sum-bounded, sum-member, sum-equal}
 use Rattle.run_laws.proofs.Made.{AreMade, played-made}
@@ -165,7 +165,7 @@ module _ (d : Shape) (load : Workload) (run : Run) (whole : IsWhole d load run) 
     abbrev ms : List Move
     ms = run.team w
 
-    pub room : HasRoom D ms
+    pub room : HasRoom D (work_by D ms)
     room = record {
       replies =
           let all : length (ended_by D ms) ≡ sum_below d.queries (λ q. ended_for q (ended_by D ms)) = length-ended d.queries (ended_by D ms)

@@ -27,7 +27,8 @@ use Rattle.turn_model.specs.Learned.{query_by}
 use Rattle.turn_model.specs.Runs.{Run, desk_at}
 use Rattle.turn_model.specs.Reports.{Ascend, IsShareOf, number_of_share, tuples_by}
 use Rattle.run_laws.specs.Ends.{IsPlayed}
-use Rattle.run_laws.specs.Shares.{AreSharesOf, SharesAreMerged}
+use Rattle.turn_model.specs.Shares.{AreSharesOf}
+use Rattle.run_laws.specs.Merging.{SharesAreMerged}
 use Rattle.run_laws.proofs.Least.{sum-member}
 use Rattle.run_laws.proofs.Lists.{all-of, RisesBy, rises-append, rises-of, rises-ascend, all-flat, has-flat}
 use Rattle.run_laws.proofs.Tallies.{total, by_moves, total-moves}

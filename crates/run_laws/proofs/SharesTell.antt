@@ -15,8 +15,8 @@ use Rattle.prio_decay.specs.declared.TheConstants.{QUANTUM_NS}
 use Rattle.prio_decay.specs.Priority.{priority_after}
 use Rattle.turn_model.specs.Learned.{params_of, query_by, time_in, priority_in}
 use Rattle.turn_model.specs.Reports.{Has, IsShareOf, tuples_by}
-use Rattle.run_laws.specs.Shares.{Worked, no_share, with_range, counted, AscendWithin, range_done, shares_by, CountsFit, SharesAreOfRanges}
-use Rattle.run_laws.proofs.Counting.{ascending-at, ascending-order, count-before, count-here, count-past, counted-ascends, some-is}
+use Rattle.turn_model.specs.Shares.{Worked, no_share, with_range, counted, AscendWithin, range_done, shares_by, CountsFit, SharesAreOfRanges}
+use Rattle.turn_model.proofs.Counting.{ascending-at, ascending-order, count-before, count-here, count-past, counted-ascends, some-is}
 
 pub sum-push : (ns : List ℕ) (n : ℕ) → sum (ns ++ n ∷ []) ≡ sum ns + n
 sum-push ns n = fold-append ◌+◌ 0 ns (n ∷ [])

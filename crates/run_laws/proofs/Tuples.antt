@@ -1,9 +1,8 @@
 -- Claims that tile a total hold each tuple once.
-use Rattle.std.proofs.Common.{◌≡◌, ℕ, ◌+◌, ◌<◌, ◌≤◌, Bool, true, false, cond, leb, ltb, ◌&&◌, List, [], ◌∷◌, refl, sym, ap, ap₂, ◌∙◌, ⊎_elim, lt-ltb}
+use Rattle.std.proofs.Common.{◌≡◌, ℕ, ◌+◌, ◌<◌, true, false, cond, leb, ltb, ◌&&◌, [], ◌∷◌, sym, ap, ap₂, ◌∙◌, ⊎_elim, lt-ltb}
 use Rattle.std.proofs.Common.{le-ltb, le-leb, arith}
 use Rattle.std.proofs.lemmas.Bool.{cases_lt, lt-leb}
-use Rattle.slot_history.specs.Histories.{Morsel, Tiles}
-use Rattle.run_laws.specs.Tuples.{morsels_with, TilesHoldEach}
+use Rattle.run_laws.specs.Tuples.{TilesHoldEach}
 
 -- a number is below the end of a morsel if it is in it or below its beginning
 in-or-below : (from to tuple : ℕ) → from < to

@@ -3,9 +3,9 @@ ghost use Rattle.run_laws.specs.OrdersDrive.{TurnsDrive, MovesDrive};
 ghost use Rattle.run_laws.specs.Ends.{IsAccounted, EndedAreFree, TurnsEndWell};
 ghost use Rattle.run_laws.specs.Ends.{LeftIsLow, TurnsFallAsOne};
 ghost use Rattle.run_laws.specs.Completes.{OverIsDone, StagesBefore};
-ghost use Rattle.run_laws.specs.Shares.{SharesAreOfRanges, CountsAreSmall, SharesAreMerged};
-ghost use Rattle.run_laws.specs.Endings.{RecordsStay};
-ghost use Rattle.run_laws.specs.Merging.{RoomIsLeft, MergedIsReport};
+ghost use Rattle.turn_model.specs.Shares.{SharesAreOfRanges};
+ghost use Rattle.run_laws.specs.Merging.{CountsAreSmall, SharesAreMerged, RoomIsLeft};
+ghost use Rattle.run_laws.specs.Merging.{MergedIsReport};
 ghost use Rattle.run_laws.specs.Scheduled.{WorkersAreFair, RunsAreScheduled};
 ghost use Rattle.run_laws.specs.Tuples.{TilesHoldEach};
 ghost use Rattle.run_laws.specs.Agreeing.{RunsByTurnsAgree, RunsByMovesAgree, OneReport};
@@ -53,11 +53,6 @@ pub fn shares_are_of_ranges()
     ensures one { SharesAreOfRanges }
     ensures small { CountsAreSmall }
     ensures all { SharesAreMerged }
-{}
-
-/// The record of a task set that was finalised stays right, whatever is called after it.
-pub fn records_stay()
-    ensures { RecordsStay }
 {}
 
 /// The report of a complete run is what its workers told: exactly one reply to each query, one

@@ -6,4 +6,6 @@ pub mod LetIn
 pub mod Activity
 pub mod Keeping
 pub mod Measure
+pub mod Counting
+pub mod RecordsStay
 mod Deciding

@@ -17,7 +17,7 @@ use Rattle.turn_model.specs.Workloads.{Workload, sets_of}
 use Rattle.turn_model.specs.Moves.{Move}
 use Rattle.turn_model.specs.Learned.{place_by, lets_in, strides_by, finished_by}
 use Rattle.turn_model.specs.Points.{Point, Ready, Return, Change, Count, Arrive, Scan, Admit, Fill, Opens, Tells, FreeIt, Enters, Look, Early, Take, Claim}
-use Rattle.turn_model.specs.Points.{Shut, Back, Leave, Ask, Sweep, Pay, Fetch, ended_as, picked, pick, asked, told, is_due, goes_on, after}
+use Rattle.turn_model.specs.Points.{Shut, Leave, Ask, Sweep, Pay, Fetch, ended_as, picked, pick, asked, told, is_due, goes_on, after}
 use Rattle.turn_model.specs.Driven.{held_by, MayCall}
 
 module _ (D : Desk Workload) (ms : List Move) where

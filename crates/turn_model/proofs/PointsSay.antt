@@ -1,5 +1,5 @@
 -- What some points of a turn say of the worker's place, and of the task set to which it was let in.
-use Rattle.std.proofs.Common.{◌≡◌, ℕ, ◌/◌, Bool, true, ◌&&◌, cond, List, [], ◌∷◌, Option, Some, refl, sym, ap, ◌∙◌, subst, eq-eqb}
+use Rattle.std.proofs.Common.{◌≡◌, ℕ, ◌/◌, true, ◌&&◌, cond, List, [], ◌∷◌, Some, refl, sym, ap, ◌∙◌, subst, eq-eqb}
 use Rattle.slot_history.specs.declared.shape.TheConstants.{STAGES}
 use Rattle.slot_history.specs.declared.act.Act.{Act}
 use Rattle.slot_history.specs.declared.act.Act.TheVariants.{LookOpen, ClaimRange}

@@ -1,6 +1,6 @@
 -- Worked examples: moves that the definitions allow, and what they give. The newest turn stands
 -- first, and each turn ends with its `begins`.
-use Rattle.std.specs.Prelude.{ℕ, cond, eqb, ltb, List, [], ◌∷◌, ◌++◌, Some, None}
+use Rattle.std.specs.Prelude.{cond, eqb, ltb, [], ◌∷◌, ◌++◌, Some, None}
 use Rattle.slot_history.specs.declared.act.Act.TheVariants.{Enter, LookVacant, LeaveLeft}
 use Rattle.slot_history.specs.declared.act.Act.TheVariants.{MarkMissed, SweepLast, ReserveTaken}
 use Rattle.slot_history.specs.declared.act.Act.TheVariants.{Release}

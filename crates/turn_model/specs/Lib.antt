@@ -6,6 +6,9 @@ pub mod Driven
 pub mod Runs
 pub mod Orders
 pub mod Reports
+pub mod Shares
+pub mod Endings
+pub mod Tellings
 pub mod Told
 pub mod Laws
 pub mod OneSlot

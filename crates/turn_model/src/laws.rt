@@ -9,6 +9,8 @@ ghost use Rattle.turn_model.specs.Fitting.{StridesAreCalls, SizeFits, RangeFits}
 ghost use Rattle.turn_model.specs.Activity.{ActiveByRecords};
 ghost use Rattle.turn_model.specs.Keeping.{LooksKeep, RangesKeep};
 ghost use Rattle.turn_model.specs.Measure.{FallsAsOne};
+ghost use Rattle.turn_model.specs.Endings.{RecordsStay};
+ghost use Rattle.turn_model.specs.Tellings.{ToldStays};
 ghost use Rattle.turn_model.specs.OneSlot.{LooksFit, ClaimsAreLetIn, OneSlotLetsIn};
 
 /// A worker's place and its notice records are those that its moves tell, whatever the others do.
@@ -46,6 +48,13 @@ pub fn one_slot_is_enough()
 pub fn slots_are_kept()
     ensures looks { LooksKeep }
     ensures ranges { RangesKeep }
+{}
+
+/// The record of a task set that was finalised stays right, whatever is called after it. So all
+/// that a worker told early still holds of a later history.
+pub fn told_stays()
+    ensures records { RecordsStay }
+    ensures told { ToldStays }
 {}
 
 /// The numbers that whole turns lower, in the order of a dictionary, are lowered as one number.

@@ -8,9 +8,9 @@ use Rattle.std.proofs.lemmas.Option.{slice_get-get_or, slice_get_within, get_or_
 use Rattle.std.specs.List.Sorted.{IsNonDecreasingBy, IsPartitionPoint, IsPartitionedBy}
 use Rattle.std.proofs.lemmas.List.Sorted.{IsPartitionedBy-ltb}
 use Rattle.report_text.specs.declared.report.Share.{Share}
-use Rattle.run_laws.specs.Shares.{Worked}
-use Rattle.run_laws.specs.Shares.{no_share, with_range, counted, AscendWithin}
-use Rattle.run_laws.proofs.Counting.{ascending-order, count-before, count-here, count-past, counted-ascends, some-is}
+use Rattle.turn_model.specs.Shares.{Worked}
+use Rattle.turn_model.specs.Shares.{no_share, with_range, counted, AscendWithin}
+use Rattle.turn_model.proofs.Counting.{ascending-order, count-before, count-here, count-past, counted-ascends, some-is}
 
 module _ (range : Worked) where
   -- the query has a share

@@ -29,10 +29,11 @@ use Rattle.worker_machine.specs.declared.kept.Core.{Core}
 use Rattle.worker_machine.specs.declared.phase.Phase.{Phase}
 use Rattle.worker_machine.specs.Loads.{load_of, model_desk}
 use Rattle.worker_machine.specs.Replies.{AreAnswers}
-use Rattle.worker_machine.specs.Telling.{HasBook, Work, book_of, given_up, work_by}
+use Rattle.turn_model.specs.Endings.{Work, work_by}
+use Rattle.worker_machine.specs.Telling.{Tells, given_up}
 use Rattle.worker_machine.proofs.Telling.{called-begins, told-grown, told-kept}
 use Rattle.slot_history.specs.declared.act.Entry.{Entry}
-use Rattle.run_laws.specs.Shares.{shares_by}
+use Rattle.turn_model.specs.Shares.{shares_by}
 use Rattle.worker_machine.specs.Counting.{HasShares}
 use Rattle.worker_machine.specs.PointsOf.{point_of}
 use Rattle.worker_machine.specs.Keeps.{HasMade, Moves, Knows, KeepsMind, KeepsRest, standing, chosen}
@@ -46,7 +47,7 @@ pub record CallMoves (may_take : ℕ → ℕ → ℕ → Type 0) (D : Desk Plan)
   pub point : point_of D.shape.workers phase' ≡ after (model_desk D) ms (point_of D.shape.workers phase) a
   pub shares : HasShares D.shape.queries (shares_by (model_desk D) (Made a t ∷ ms)) core.shares
   pub answers : AreAnswers D.subject core.replies.items
-  pub told : HasBook (model_desk D) trail (work_by (model_desk D) (Made a t ∷ ms)) (book_of core phase')
+  pub told : Tells (model_desk D) trail (work_by (model_desk D) (Made a t ∷ ms)) core phase'
 
 module _ {O : Type 0} {old new : Seen O Plan} {a : Act} (m : Makes total_of a old new) where
   mine-on : (t : ℕ) (ms : List Move) → own_calls old.desk.worker old.trail ≡ entries old.desk.worker ms
@@ -76,7 +77,7 @@ module _ {O : Type 0} {old new : Seen O Plan} {a : Act} {core core' : Core} {pha
           (s.point ∙ ap (λ x. after (model_desk old.desk) ms x a) made.point);
       shares = subst (λ (D : Desk Plan). HasShares D.shape.queries (shares_by (model_desk D) (Made a t ∷ ms)) core'.shares) (sym m.desk) s.shares;
       answers = subst (λ (D : Desk Plan). AreAnswers D.subject core'.replies.items) (sym m.desk) s.answers;
-      told = subst (λ (D : Desk Plan). HasBook (model_desk D) new.trail (work_by (model_desk D) (Made a t ∷ ms)) (book_of core' phase')) (sym m.desk)
+      told = subst (λ (D : Desk Plan). Tells (model_desk D) new.trail (work_by (model_desk D) (Made a t ∷ ms)) core' phase') (sym m.desk)
           (told-grown new.trail m.called.4 (called-begins m.called.1 m.called.2) s.told);
     };
   }
@@ -126,7 +127,7 @@ module _ {O : Type 0} {old new : Seen O Plan} {a : Act} {core core' : Core} {pha
     shares = shares-kept (subst (λ (l : List Share). HasShares old.desk.shape.queries l core.shares) (sym q.1) h.shares) same.0;
     answers = answers-kept h.answers same.1;
     told = told-kept core core' phase phase' same.1 same.2 gives
-        (subst (λ (w : Work). HasBook (model_desk old.desk) old.trail w (book_of core phase)) (sym q.2) h.told);
+        (subst (λ (w : Work). Tells (model_desk old.desk) old.trail w core phase) (sym q.2) h.told);
   })
 
 -- where the worker is
@@ -143,7 +144,7 @@ module _ {O : Type 0} {old new : Seen O Plan} {core core' : Core} {phase phase' 
       → point_of old.desk.shape.workers phase' ≡ exchanged (point_of old.desk.shape.workers phase)
       → core'.shares ≡ core.shares → core'.replies ≡ core.replies
       → ((ms : List Move) → HasMade (standing core phase old) ms
-      → HasBook (model_desk old.desk) old.trail (work_by (model_desk old.desk) (Exchanged ∷ ms)) (book_of core' phase'))
+      → Tells (model_desk old.desk) old.trail (work_by (model_desk old.desk) (Exchanged ∷ ms)) core' phase')
       → Moves may_take (standing core phase old) (standing core' phase' new)
   exchanges-by may knows point same replies told = record {
     move = Exchanged;
@@ -159,8 +160,8 @@ module _ {O : Type 0} {old new : Seen O Plan} {core core' : Core} {phase phase' 
       shares = subst (λ (D : Desk Plan). HasShares D.shape.queries (shares_by (model_desk D) (Exchanged ∷ ms)) core'.shares) (sym k.desk)
           (shares-kept made.shares same);
       answers = subst (λ (D : Desk Plan). AreAnswers D.subject core'.replies.items) (sym k.desk) (answers-kept made.answers replies);
-      told = subst (λ (D : Desk Plan). HasBook (model_desk D) new.trail (work_by (model_desk D) (Exchanged ∷ ms)) (book_of core' phase')) (sym k.desk)
-          (subst (λ (t : List Entry). HasBook (model_desk old.desk) t (work_by (model_desk old.desk) (Exchanged ∷ ms)) (book_of core' phase')) (sym k.trail)
+      told = subst (λ (D : Desk Plan). Tells (model_desk D) new.trail (work_by (model_desk D) (Exchanged ∷ ms)) core' phase') (sym k.desk)
+          (subst (λ (t : List Entry). Tells (model_desk old.desk) t (work_by (model_desk old.desk) (Exchanged ∷ ms)) core' phase') (sym k.trail)
           (told ms made));
     };
   }

@@ -32,7 +32,8 @@ use Rattle.worker_machine.specs.declared.kept.Core.{Core}
 use Rattle.worker_machine.specs.declared.phase.Phase.{Phase}
 use Rattle.worker_machine.specs.Hands.{HoldsAs, IsHistoryOf, IsTaskHeld, finalised_by}
 use Rattle.worker_machine.specs.Loads.{load_of, model_desk}
-use Rattle.worker_machine.specs.Telling.{HasBook, IsRecordAt, KeepsRecord, book_of, given_up, work_by}
+use Rattle.turn_model.specs.Endings.{IsRecordAt, work_by}
+use Rattle.worker_machine.specs.Telling.{Tells, KeepsRecord, given_up}
 use Rattle.worker_machine.proofs.Telling.{Gathers, told-gathered}
 use Rattle.worker_machine.proofs.Calls.{place-kept}
 use Rattle.worker_machine.proofs.Replying.{some-query}
@@ -136,8 +137,8 @@ pub fetch-told : {O : Type 0} (old new : Seen O Plan) → KeepsTrail old new →
     → FitClaims (arc_value core.plan) (finalised_by h) (claims_of new.desk.shape (finalised_by h) new.trail) core.benches.items
     → core'.replies ≡ core.replies → (q : Phase) → given_up q ≡ None → (ms : List Move) → own_place old ≡ place_by (model_desk old.desk) ms
     → point.Fetch (old.desk.shape.workers - 1) ≡ point_by (model_desk old.desk) ms → 0 < old.desk.shape.workers
-    → HasBook (model_desk old.desk) old.trail (work_by (model_desk old.desk) ms) (book_of core q)
-    → HasBook (model_desk old.desk) old.trail (work_by (model_desk old.desk) (Exchanged ∷ ms)) (book_of core' p)
+    → Tells (model_desk old.desk) old.trail (work_by (model_desk old.desk) ms) core q
+    → Tells (model_desk old.desk) old.trail (work_by (model_desk old.desk) (Exchanged ∷ ms)) core' p
 fetch-told old new k h held again known low task {core} {core'} {p} has owner r fit replies q none ms at last some told =
     let placed = subst (λ (y : Desk Plan). own_place new ≡ place_by (model_desk y) ms) (sym k.desk) (place-kept k ∙ at) in
     let gets : Gathers (model_desk old.desk) old.trail (held_by (model_desk old.desk) ms) core core' p =

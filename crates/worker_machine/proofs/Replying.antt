@@ -8,7 +8,7 @@ use Rattle.report_text.specs.declared.replies.QueryReply.{QueryReply}
 use Rattle.report_text.specs.declared.replies.Reply.{Reply}
 use Rattle.report_text.specs.declared.replies.Reply.TheVariants as reply
 use Rattle.bench_cell.specs.declared.plan.Plan.{Plan}
-use Rattle.run_laws.specs.Endings.{IsReplyAt}
+use Rattle.turn_model.specs.Endings.{IsReplyAt}
 use Rattle.worker_machine.specs.Loads.{load_of}
 use Rattle.worker_machine.specs.Hands.{EndsQuery}
 

@@ -1,6 +1,6 @@
 -- The replies and the records of a worker, from call to call.
 use Rattle.std.proofs.Common.{◌≡◌, ◌⊎◌, inl, inr, ⊎_elim, ℕ, zero, suc, ◌+◌, ◌-◌, ◌<◌}
-use Rattle.std.proofs.Common.{◌≤◌, true, cond, List, [], ◌∷◌, ◌++◌, All, Option, Some, None}
+use Rattle.std.proofs.Common.{◌≤◌, true, cond, List, [], ◌∷◌, ◌++◌, Some, None}
 use Rattle.std.proofs.Common.{length, slice_get, refl, sym, ap, ◌∙◌, subst, eq-eqb, ne_eqb, arith}
 use Rattle.std.specs.Prelude.{reverse}
 use Rattle.std.proofs.lemmas.List.{length-reverse, reverse-append}
@@ -27,18 +27,13 @@ use Rattle.turn_model.specs.Reports.{RanOut}
 use Rattle.worker_machine.specs.declared.kept.Core.{Core}
 use Rattle.worker_machine.specs.declared.phase.Phase.{Phase}
 use Rattle.worker_machine.specs.declared.phase.Phase.TheVariants as phase
-use Rattle.run_laws.proofs.RecordsStay.{record-stays}
-use Rattle.run_laws.specs.Endings.{Beside, IsReplyAt, ended_after, ended_by, gathered_by, gathered_after}
+use Rattle.turn_model.proofs.RecordsStay.{of-work-stays}
+use Rattle.turn_model.specs.Endings.{Beside, Work, HasRoom, IsRecordAt, IsReplyAt, ended_after, ended_by, gathered_by, gathered_after, work_by}
+use Rattle.turn_model.specs.Tellings.{AreShortOut, IsOfWork}
 use Rattle.worker_machine.specs.Outcomes.{IsAsked, IsPicked}
-use Rattle.worker_machine.specs.Telling.{Book, Work, FitsBook, HasBook, IsRecordAt, IsBookOf, book_of, given_up, work_by}
+use Rattle.worker_machine.specs.Telling.{Tells, given_up, telling_of}
 
 -- ---- lists, item by item
-
-pub beside-map : {A B : Type 0} (P Q : A → B → Type 0) (xs : List A) (ys : List B) → ((x : A) (y : B) → P x y → Q x y) → Beside P xs ys → Beside Q xs ys
-beside-map P Q [] [] f all = tt
-beside-map P Q (x ∷ xs) (y ∷ ys) f all = (f x y all.0, beside-map P Q xs ys f all.1)
-beside-map P Q [] (y ∷ ys) f all = absurd (all)
-beside-map P Q (x ∷ xs) [] f all = absurd (all)
 
 pub beside-length : {A B : Type 0} (P : A → B → Type 0) (xs : List A) (ys : List B) → Beside P xs ys → length xs ≡ length ys
 beside-length P [] [] all = refl
@@ -52,31 +47,30 @@ beside-length P (x ∷ xs) [] all = absurd (all)
 pub called-begins : {e : Entry} {new before old : List Entry} → new ≡ e ∷ before → Begins before old → Begins new old
 called-begins {e} is (more, rest) = (e ∷ more, is ∙ ap (λ l. e ∷ l) rest)
 
--- and what was written down of it stays right
-pub told-grown : {D : Desk Workload} {early : List Entry} {work : Work} {book : Book} (h : List Entry) → IsLegal D.shape h → Begins h early
-    → HasBook D early work book → HasBook D h work book
-told-grown {D} {early} {work} {book} h legal begins has = record {
+-- and what was told of it stays right
+pub told-grown : {D : Desk Workload} {early : List Entry} {work : Work} {core : Core} {p : Phase} (h : List Entry) → IsLegal D.shape h → Begins h early
+    → Tells D early work core p → Tells D h work core p
+told-grown {D} {early} {work} {core} {p} h legal begins has = record {
   reply_room = has.reply_room;
   record_room = has.record_room;
-  tells = λ room. let t = has.tells room in record {
-    replies = t.replies;
-    records = beside-map (IsRecordAt D early) (IsRecordAt D h) (reverse book.records.items) work.gathered
-        (λ kept id is. (is.0, record-stays D.shape D.subject h early kept legal begins is.1)) t.records;
-    short = t.short;
-  };
+  tells = λ room. of-work-stays D h early work (telling_of core p) legal begins (has.tells room);
 }
 
 -- ---- what stays
 
-abbrev book-with : Vec QueryReply Global → Vec Record Global → Option ℕ → Book
-book-with replies records gives_up = record { replies = replies; records = records; gives_up = gives_up }
-
 pub told-kept : {D : Desk Workload} {h : List Entry} {work : Work} (core core' : Core) (p p' : Phase) → core'.replies ≡ core.replies
-    → core'.records ≡ core.records → given_up p' ≡ given_up p → HasBook D h work (book_of core p) → HasBook D h work (book_of core' p')
-told-kept {D} {h} {work} core core' p p' replies records gives has =
-    subst (HasBook D h work)
-    (ap (λ x. book-with x core.records (given_up p)) (sym replies) ∙ ap (λ x. book-with core'.replies x (given_up p)) (sym records)
-    ∙ ap (λ x. book-with core'.replies core'.records x) (sym gives)) has
+    → core'.records ≡ core.records → given_up p' ≡ given_up p → Tells D h work core p → Tells D h work core' p'
+told-kept {D} {h} {work} core core' p p' replies records gives has = record {
+  reply_room = subst (λ (v : Vec QueryReply Global). D.shape.queries ≤ vec_capacity v) (sym replies) has.reply_room;
+  record_room = subst (λ (v : Vec Record Global). sets_of D.shape D.subject ≤ vec_capacity v) (sym records) has.record_room;
+  tells = λ room. let t = has.tells room in record {
+    replies = subst (λ (v : Vec QueryReply Global). Beside (IsReplyAt D.subject) (reverse v.items) work.ended) (sym replies) t.replies;
+    records = subst (λ (v : Vec Record Global). Beside (IsRecordAt D h) (reverse v.items) work.gathered) (sym records) t.records;
+    short = subst (λ (v : Vec QueryReply Global). AreShortOut v.items (given_up p') core'.records.items) (sym replies)
+        (subst (λ (v : Vec Record Global). AreShortOut core.replies.items (given_up p') v.items) (sym records)
+        (subst (λ o. AreShortOut core.replies.items o core.records.items) (sym gives) t.short));
+  };
+}
 
 pub asked-gives : (c : Coordinator) (p : Phase) → IsAsked c p → given_up p ≡ None
 asked-gives c (phase.Ask d) ok = refl
@@ -89,12 +83,14 @@ picked-gives slots (phase.Enter s) ok = refl
 picked-gives slots p ok = absurd (ok)
 
 -- an exchange with which no task set is gathered
-pub exchange-tells : (D : Desk Workload) (ms : List Move) (x : Point) {h : List Entry} {book : Book} → x ≡ point_by D ms
+pub exchange-tells : (D : Desk Workload) (ms : List Move) (x : Point) {h : List Entry} {core core' : Core} {p p' : Phase} → x ≡ point_by D ms
     → gathered_after x D.shape.workers (finalised_id (held_by D ms)) (gathered_by D ms) ≡ gathered_by D ms
-    → HasBook D h (work_by D ms) book → HasBook D h (work_by D (Exchanged ∷ ms)) book
-exchange-tells D ms x {h} {book} at none has =
-    subst (λ (g : List ℕ). HasBook D h (record { ended = ended_by D ms; gathered = g }) book)
-    (sym none ∙ ap (λ y. gathered_after y D.shape.workers (finalised_id (held_by D ms)) (gathered_by D ms)) at) has
+    → core'.replies ≡ core.replies → core'.records ≡ core.records → given_up p' ≡ given_up p
+    → Tells D h (work_by D ms) core p → Tells D h (work_by D (Exchanged ∷ ms)) core' p'
+exchange-tells D ms x {h} {core} {core'} {p} {p'} at none replies records gives has =
+    subst (λ (g : List ℕ). Tells D h (record { ended = ended_by D ms; gathered = g }) core' p')
+    (sym none ∙ ap (λ y. gathered_after y D.shape.workers (finalised_id (held_by D ms)) (gathered_by D ms)) at)
+    (told-kept core core' p p' replies records gives has)
 
 -- ---- one more
 
@@ -127,9 +123,9 @@ pub record Replies (D : Desk Workload) (held : Held) (old new : Core) : Type 0 w
   pub records : new.records ≡ old.records
 
 module _ (D : Desk Workload) (ms : List Move) (n : ℕ) (h : List Entry) (core core' : Core) (p p' : Phase) (r : Replies D (held_by D ms) core core')
-    (gives : (q : ℕ) → given_up p ≡ Some q → (r.reply.query ≡ q) × (r.reply.reply ≡ Memory)) (has : HasBook D h (work_by D ms) (book_of core p)) where
-  replied-tells : FitsBook D (record { ended = held_by D ms ∷ ended_by D ms; gathered = gathered_by D ms })
-      → IsBookOf D h (record { ended = held_by D ms ∷ ended_by D ms; gathered = gathered_by D ms }) (book_of core' p')
+    (gives : (q : ℕ) → given_up p ≡ Some q → (r.reply.query ≡ q) × (r.reply.reply ≡ Memory)) (has : Tells D h (work_by D ms) core p) where
+  replied-tells : HasRoom D (record { ended = held_by D ms ∷ ended_by D ms; gathered = gathered_by D ms })
+      → IsOfWork D h (record { ended = held_by D ms ∷ ended_by D ms; gathered = gathered_by D ms }) (telling_of core' p')
   replied-tells room =
       let most = room.replies in
       let t = has.tells (record { replies = omega (arith, most); records = room.records }) in
@@ -144,27 +140,29 @@ module _ (D : Desk Workload) (ms : List Move) (n : ℕ) (h : List Entry) (core c
         replies = subst (λ (l : List QueryReply). Beside (IsReplyAt D.subject) l (held_by D ms ∷ ended_by D ms))
             (sym (ap reverse is ∙ reverse-push core.replies.items r.reply)) (r.at, t.replies);
         records = subst (λ (v : Vec Record Global). Beside (IsRecordAt D h) (reverse v.items) (gathered_by D ms)) (sym r.records) t.records;
-        short = subst (λ (v : Vec Record Global). All (λ (kept : Record). kept.short ≡ true
-            → RanOut kept.query core'.replies.items ⊎ (given_up p' ≡ Some kept.query)) v.items) (sym r.records)
+        short = subst (λ (v : Vec Record Global). AreShortOut core'.replies.items (given_up p') v.items) (sym r.records)
             (λ k d lt is-short. out _ (t.short k d lt is-short));
       }
 
-  pub told-replied : point_by D (Made (NoteDone n) 0 ∷ ms) ≡ FreeIt → HasBook D h (work_by D (Made (NoteDone n) 0 ∷ ms)) (book_of core' p')
+  pub told-replied : point_by D (Made (NoteDone n) 0 ∷ ms) ≡ FreeIt → Tells D h (work_by D (Made (NoteDone n) 0 ∷ ms)) core' p'
   told-replied freed =
       let more-room = r.room in
       let cap = has.reply_room in
-      subst (λ (x : Point). HasBook D h (record { ended = ended_after (NoteDone n) x (held_by D ms) (ended_by D ms); gathered = gathered_by D ms })
-      (book_of core' p')) (sym freed) (record {
+      subst (λ (x : Point). Tells D h (record { ended = ended_after (NoteDone n) x (held_by D ms) (ended_by D ms); gathered = gathered_by D ms })
+      core' p') (sym freed) (record {
         reply_room = omega (arith, more-room, cap);
         record_room = subst (λ (v : Vec Record Global). sets_of D.shape D.subject ≤ vec_capacity v) (sym r.records) has.record_room;
         tells = replied-tells;
       })
 
 -- a note after which the holding goes on
-pub told-noted : (D : Desk Workload) (ms : List Move) (n : ℕ) {h : List Entry} {book : Book} → point.Fill 0 ≡ point_by D (Made (NoteDone n) 0 ∷ ms)
-    → HasBook D h (work_by D ms) book → HasBook D h (work_by D (Made (NoteDone n) 0 ∷ ms)) book
-told-noted D ms n {h} {book} goes has =
-    subst (λ (x : Point). HasBook D h (record { ended = ended_after (NoteDone n) x (held_by D ms) (ended_by D ms); gathered = gathered_by D ms }) book) goes has
+pub told-noted : (D : Desk Workload) (ms : List Move) (n : ℕ) {h : List Entry} {core core' : Core} {p p' : Phase} → point.Fill 0
+    ≡ point_by D (Made (NoteDone n) 0 ∷ ms)
+    → core'.replies ≡ core.replies → core'.records ≡ core.records → given_up p' ≡ given_up p
+    → Tells D h (work_by D ms) core p → Tells D h (work_by D (Made (NoteDone n) 0 ∷ ms)) core' p'
+told-noted D ms n {h} {core} {core'} {p} {p'} goes replies records gives has =
+    subst (λ (x : Point). Tells D h (record { ended = ended_after (NoteDone n) x (held_by D ms) (ended_by D ms); gathered = gathered_by D ms }) core' p') goes
+    (told-kept core core' p p' replies records gives has)
 
 -- ---- a record
 
@@ -178,9 +176,9 @@ pub record Gathers (D : Desk Workload) (h : List Entry) (held : Held) (old new :
   pub gives : kept.short ≡ true → given_up next ≡ Some kept.query
 
 module _ (D : Desk Workload) (ms : List Move) (h : List Entry) (core core' : Core) (p p' : Phase) (r : Gathers D h (held_by D ms) core core' p')
-    (none : given_up p ≡ None) (has : HasBook D h (work_by D ms) (book_of core p)) where
-  gathered-tells : FitsBook D (record { ended = ended_by D ms; gathered = finalised_id (held_by D ms) ∷ gathered_by D ms })
-      → IsBookOf D h (record { ended = ended_by D ms; gathered = finalised_id (held_by D ms) ∷ gathered_by D ms }) (book_of core' p')
+    (none : given_up p ≡ None) (has : Tells D h (work_by D ms) core p) where
+  gathered-tells : HasRoom D (record { ended = ended_by D ms; gathered = finalised_id (held_by D ms) ∷ gathered_by D ms })
+      → IsOfWork D h (record { ended = ended_by D ms; gathered = finalised_id (held_by D ms) ∷ gathered_by D ms }) (telling_of core' p')
   gathered-tells room =
       let most = room.records in
       let t = has.tells (record { replies = room.replies; records = omega (arith, most) }) in
@@ -195,16 +193,16 @@ module _ (D : Desk Workload) (ms : List Move) (h : List Entry) (core core' : Cor
         replies = subst (λ (v : Vec QueryReply Global). Beside (IsReplyAt D.subject) (reverse v.items) (ended_by D ms)) (sym r.replies) t.replies;
         records = subst (λ (l : List Record). Beside (IsRecordAt D h) l (finalised_id (held_by D ms) ∷ gathered_by D ms))
             (sym (ap reverse is ∙ reverse-push core.records.items r.kept)) (r.at, t.records);
-        short = subst (All (λ (kept : Record). kept.short ≡ true → RanOut kept.query core'.replies.items ⊎ (given_up p' ≡ Some kept.query))) (sym is)
+        short = subst (AreShortOut core'.replies.items (given_up p')) (sym is)
             (All-push (λ (kept : Record). kept.short ≡ true → RanOut kept.query core'.replies.items ⊎ (given_up p' ≡ Some kept.query))
             core.records.items r.kept (λ k d lt is-short. stays _ (t.short k d lt is-short)) (λ is-short. inr (r.gives is-short)));
       }
 
-  pub told-gathered : point.Fetch (D.shape.workers - 1) ≡ point_by D ms → 0 < D.shape.workers → HasBook D h (work_by D (Exchanged ∷ ms)) (book_of core' p')
+  pub told-gathered : point.Fetch (D.shape.workers - 1) ≡ point_by D ms → 0 < D.shape.workers → Tells D h (work_by D (Exchanged ∷ ms)) core' p'
   told-gathered at some =
       let more-room = r.room in
       let cap = has.record_room in
-      subst (λ (g : List ℕ). HasBook D h (record { ended = ended_by D ms; gathered = g }) (book_of core' p'))
+      subst (λ (g : List ℕ). Tells D h (record { ended = ended_by D ms; gathered = g }) core' p')
       (sym (ap (λ b. cond b (finalised_id (held_by D ms) ∷ gathered_by D ms) (gathered_by D ms))
       (eq-eqb (D.shape.workers - 1 + 1) D.shape.workers (omega (arith, some))))
       ∙ ap (λ (x : Point). gathered_after x D.shape.workers (finalised_id (held_by D ms)) (gathered_by D ms)) at) (record {
@@ -214,8 +212,9 @@ module _ (D : Desk Workload) (ms : List Move) (h : List Entry) (core core' : Cor
       })
 
 -- a fetch that is not the last one
-pub fetch-tells : (D : Desk Workload) (ms : List Move) (v : ℕ) {h : List Entry} {book : Book} → point.Fetch v ≡ point_by D ms → v + 1 < D.shape.workers
-    → HasBook D h (work_by D ms) book → HasBook D h (work_by D (Exchanged ∷ ms)) book
+pub fetch-tells : (D : Desk Workload) (ms : List Move) (v : ℕ) {h : List Entry} {core core' : Core} {p p' : Phase} → point.Fetch v ≡ point_by D ms
+    → v + 1 < D.shape.workers → core'.replies ≡ core.replies → core'.records ≡ core.records → given_up p' ≡ given_up p
+    → Tells D h (work_by D ms) core p → Tells D h (work_by D (Exchanged ∷ ms)) core' p'
 fetch-tells D ms v at more =
     exchange-tells D ms (point.Fetch v) at
     (ap (λ b. cond b (finalised_id (held_by D ms) ∷ gathered_by D ms) (gathered_by D ms)) (ne_eqb (v + 1) D.shape.workers (λ e. omega (arith, e, more))))

@@ -1,21 +1,22 @@
 -- A worker that has made no moves.
-use Rattle.std.proofs.Common.{◌≡◌, ◌⊎◌, ℕ, ◌≤◌, true, List, [], All, Option, Some, None, sym, subst}
+use Rattle.std.proofs.Common.{◌≡◌, ℕ, ◌≤◌, List, [], Option, Some, None, sym, subst}
 use Rattle.std.specs.Prelude.{reverse}
 use Rattle.std.specs.Vec.{vec_capacity}
 use Rattle.std.proofs.lemmas.List.Elements.{All-nil}
 use Rattle.slot_history.specs.declared.act.Entry.{Entry}
 use Rattle.report_text.specs.declared.replies.QueryReply.{QueryReply}
 use Rattle.report_text.specs.declared.report.Record.{Record}
-use Rattle.turn_model.specs.Reports.{RanOut}
 use Rattle.slot_station.specs.Desks.{Desk}
 use Rattle.turn_model.specs.Workloads.{Workload, sets_of}
 use Rattle.turn_model.specs.Told.{KeepsSlot, past_by, told_by}
 use Rattle.turn_model.specs.declared.turn.Turn.{Turn}
 use Rattle.worker_machine.specs.declared.kept.Core.{Core}
 use Rattle.worker_machine.specs.declared.kept.Known.{Known}
+use Rattle.worker_machine.specs.declared.phase.Phase.{Phase}
 use Rattle.worker_machine.specs.declared.phase.Phase.TheVariants.{Ready}
-use Rattle.run_laws.specs.Endings.{Beside, IsReplyAt}
-use Rattle.worker_machine.specs.Telling.{Book, HasBook, IsRecordAt, work_by}
+use Rattle.turn_model.specs.Endings.{Beside, IsRecordAt, IsReplyAt, work_by}
+use Rattle.turn_model.specs.Tellings.{AreShortOut}
+use Rattle.worker_machine.specs.Telling.{Tells, given_up}
 use Rattle.worker_machine.specs.Keeps.{IsUnknown, IsUntold, Knows, kept_of}
 
 no-some : (o : Option ℕ) (n : ℕ) → o ≡ None → o ≡ Some n → ⊥
@@ -39,16 +40,15 @@ none-told D is = record {
   slots = λ s known got. slot-untold D s known (is.slots_are s known got);
 }
 
--- it has written nothing down
-pub none-written : (D : Desk Workload) (h : List Entry) (book : Book) → book.replies.items ≡ [] → book.records.items ≡ []
-    → D.shape.queries ≤ vec_capacity book.replies → sets_of D.shape D.subject ≤ vec_capacity book.records → HasBook D h (work_by D []) book
-none-written D h book replies records few less = record {
+-- it has nothing to tell
+pub none-written : (D : Desk Workload) (h : List Entry) (core : Core) {phase : Phase} → core.replies.items ≡ [] → core.records.items ≡ []
+    → D.shape.queries ≤ vec_capacity core.replies → sets_of D.shape D.subject ≤ vec_capacity core.records → Tells D h (work_by D []) core phase
+none-written D h core {phase} replies records few less = record {
   reply_room = few;
   record_room = less;
   tells = λ room. record {
     replies = subst (λ (l : List QueryReply). Beside (IsReplyAt D.subject) (reverse l) []) (sym replies) tt;
     records = subst (λ (l : List Record). Beside (IsRecordAt D h) (reverse l) []) (sym records) tt;
-    short = subst (All (λ (kept : Record). kept.short ≡ true → RanOut kept.query book.replies.items ⊎ (book.gives_up ≡ Some kept.query))) (sym records)
-        (All-nil _);
+    short = subst (AreShortOut core.replies.items (given_up phase)) (sym records) (All-nil _);
   };
 }

@@ -51,10 +51,10 @@ use Rattle.worker_machine.specs.Loads.{load_of, model_desk}
 use Rattle.worker_machine.specs.PointsOf.{point_of}
 use Rattle.worker_machine.specs.Keeps.{HasMade, Knows, KeepsRest, chosen, kept_of, standing}
 use Rattle.worker_machine.specs.Knowing.{AreSpentOn, IsPriorityOf, SharesCount, WorkedOn}
-use Rattle.run_laws.specs.Shares.{Worked}
-use Rattle.run_laws.specs.Shares.{AscendWithin, counted, range_done, shares_by}
+use Rattle.turn_model.specs.Shares.{Worked}
+use Rattle.turn_model.specs.Shares.{AscendWithin, counted, range_done, shares_by}
 use Rattle.worker_machine.specs.Counting.{HasShares}
-use Rattle.run_laws.proofs.Counting.{counted-ascends}
+use Rattle.turn_model.proofs.Counting.{counted-ascends}
 use Rattle.worker_machine.proofs.Moving.{IsQuiet, group-on, keeps-on, place-made}
 
 -- ---- the asking of a coordinator

@@ -4,8 +4,8 @@ use Rattle.std.specs.Vec.{vec_capacity}
 use Rattle.std.specs.declared.vec.Vec.{Vec}
 use Rattle.std.specs.Global.{Global}
 use Rattle.report_text.specs.declared.report.Share.{Share}
-use Rattle.run_laws.specs.Shares as shares
-use Rattle.run_laws.specs.Shares.{AscendWithin}
+use Rattle.turn_model.specs.Shares as shares
+use Rattle.turn_model.specs.Shares.{AscendWithin}
 use Rattle.worker_machine.specs.declared.shares.Worked.{Worked}
 
 -- a range that was worked on, as the laws of runs see it

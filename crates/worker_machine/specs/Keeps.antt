@@ -21,10 +21,11 @@ use Rattle.worker_machine.specs.declared.kept.Known.{Known}
 use Rattle.worker_machine.specs.declared.phase.Phase.{Phase}
 use Rattle.worker_machine.specs.declared.phase.Phase.TheVariants.{Enter}
 use Rattle.worker_machine.specs.Desks.{desk_of}
-use Rattle.run_laws.specs.Shares.{shares_by}
+use Rattle.turn_model.specs.Shares.{shares_by}
 use Rattle.worker_machine.specs.Counting.{HasShares}
 use Rattle.worker_machine.specs.Replies.{AreAnswers}
-use Rattle.worker_machine.specs.Telling.{HasBook, book_of, work_by}
+use Rattle.turn_model.specs.Endings.{work_by}
+use Rattle.worker_machine.specs.Telling.{Tells}
 use Rattle.worker_machine.specs.Loads.{load_of, model_desk}
 use Rattle.worker_machine.specs.PointsOf.{point_of}
 
@@ -116,8 +117,7 @@ pub record HasMade (at : Standing) (ms : List Move) : Type 0 where
   pub point : point_of at.desk.shape.workers at.phase ≡ point_by (model_desk at.desk) ms
   pub shares : HasShares at.desk.shape.queries (shares_by (model_desk at.desk) ms) at.core.shares
   pub answers : AreAnswers at.desk.subject at.core.replies.items
-  pub told : HasBook (model_desk at.desk) at.trail (work_by (model_desk at.desk) ms)
-      (book_of at.core at.phase)
+  pub told : Tells (model_desk at.desk) at.trail (work_by (model_desk at.desk) ms) at.core at.phase
 
 -- The worker makes one move, whatever moves it has made: one that comes next, with a time that the
 -- meter may have answered.

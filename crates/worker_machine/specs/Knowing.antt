@@ -9,8 +9,8 @@ use Rattle.turn_model.specs.Keeping.{spent_on}
 use Rattle.worker_machine.specs.declared.kept.Core.{Core}
 use Rattle.worker_machine.specs.declared.kept.Known.{Known}
 use Rattle.std.specs.Vec.{vec_capacity}
-use Rattle.run_laws.specs.Shares.{Worked}
-use Rattle.run_laws.specs.Shares.{AscendWithin, counted}
+use Rattle.turn_model.specs.Shares.{Worked}
+use Rattle.turn_model.specs.Shares.{AscendWithin, counted}
 use Rattle.worker_machine.specs.Keeps.{kept_of}
 
 -- the range is spent in what is known of its slot, and what is known of the others stays

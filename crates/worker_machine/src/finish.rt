@@ -98,7 +98,7 @@ impl Core {
         }
     }
 
-    // Keeps the record of a task set. There is room for one of each (`HasBook`): a worker keeps
+    // Keeps the record of a task set. There is room for one of each (`Tells`): a worker keeps
     // no more than that.
     fn keep(&mut self, record: Record)
         ensures same { desk_of self.new ≡ desk_of self.old }

@@ -1,7 +1,7 @@
 // A slot that is held: a query is admitted, task sets are opened or given up, and the slot is
 // released.
 ghost use Rattle.std.specs.Prelude.{◌≡◌, ◌+◌, ◌<◌, unwrap_or};
-ghost use Rattle.slot_history.specs.declared.shape.TheConstants.{STAGES};
+ghost use Rattle.slot_history.specs.declared.shape.TheConstants.{MOST_QUERIES, STAGES};
 ghost use Rattle.worker_machine.specs.Hands.{next_by};
 
 use crate::benches::{first_inputs, make_benches};
@@ -21,7 +21,7 @@ use turn_model::Turn;
 
 // The task set that the holder installs next.
 pub(crate) fn next_of(holder: &Holder) -> u32
-    requires query { unwrap_or holder.now.query 0 < 4096 }
+    requires query { unwrap_or holder.now.query 0 < MOST_QUERIES }
     requires stage { holder.now.stage < STAGES }
     ensures { result ≡ next_by holder.now }
 {
@@ -281,7 +281,7 @@ impl Core {
     }
 
     // Keeps the reply to the query that the slot is held for. There is room for one to each query
-    // (`HasBook`): a worker keeps no more than that.
+    // (`Tells`): a worker keeps no more than that.
     pub(crate) fn reply(&mut self, holder: &Holder, reply: Reply)
         requires { IsReplyTo (load_of (arc_value self.old.plan))
             (unwrap_or holder.now.query 0) reply }

@@ -1,7 +1,7 @@
 // How much a worker worked for each query.
 ghost use Rattle.std.specs.Prelude.{◌≡◌, ◌≤◌, ◌<◌, ℕ};
 ghost use Rattle.std.specs.Vec.{vec_capacity};
-ghost use Rattle.run_laws.specs.Shares.{AscendWithin, counted, with_range};
+ghost use Rattle.turn_model.specs.Shares.{AscendWithin, counted, with_range};
 ghost use Rattle.worker_machine.specs.Counting.{as_range};
 
 use report_text::Share;

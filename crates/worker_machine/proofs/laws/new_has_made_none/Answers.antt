@@ -31,7 +31,7 @@ returns g c =
       point = ap (point_of seen.desk.shape.workers) made.ready;
       shares = made.untold.shares;
       answers = subst (AreAnswers seen.desk.subject) (sym made.untold.replies) (record { each = All-nil _ });
-      told = none-written (model_desk seen.desk) seen.trail _ made.untold.replies made.untold.records made.untold.reply_room
+      told = none-written (model_desk seen.desk) seen.trail core made.untold.replies made.untold.records made.untold.reply_room
           (subst (λ n. n ≤ vec_capacity core.records) (sets-are (arc_value core.plan) (desk_of core).shape refl
           ∙ ap (λ (x : Desk Plan). sets_of x.shape (load_of x.subject)) made.desk_is) made.untold.record_room);
     }

@@ -5,7 +5,7 @@ use Rattle.std.proofs.lemmas.Option.{slice_get_read, slice_get_within}
 use Rattle.std.proofs.lemmas.List.Sorted.{IsPartitionPoint-from_clause}
 use Rattle.report_text.specs.declared.report.Share.{Share}
 use Rattle.worker_machine.proofs.Counting.{PartsAt, below-at, counted-new, counted-old, from-at, inserted-few, parted}
-use Rattle.run_laws.proofs.Counting.{some-is}
+use Rattle.turn_model.proofs.Counting.{some-is}
 use Rattle.worker_machine.specs.Counting.{as_range}
 use Rattle.worker_machine.proofs.shares.count_range.Goals as goal
 use Rattle.worker_machine.proofs.shares.count_range.Goals.{else-at-len-via-then-at-len+else-index-range, else-at-len-via-else-at-len}

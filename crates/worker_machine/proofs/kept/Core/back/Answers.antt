@@ -9,4 +9,4 @@ pub returns-clause-moves : goal.returns-clause-moves
 returns-clause-moves g c =
     let old = g.S.Station.seen c.args.station.now in
     exchanges-by c.own_cell.ensures.put.stays tt (λ ms k. keeps-on k refl) refl refl refl
-    (λ ms h. exchange-tells (model_desk old.desk) ms point.Back h.point refl h.told)
+    (λ ms h. exchange-tells (model_desk old.desk) ms point.Back h.point refl refl refl refl h.told)

@@ -17,7 +17,7 @@ use Rattle.worker_machine.specs.declared.phase.Phase.TheVariants as phase
 use Rattle.worker_machine.proofs.Finishing.{fetched-fit}
 use Rattle.worker_machine.proofs.Moving.{place-made}
 use Rattle.worker_machine.proofs.Recording.{fetch-told}
-use Rattle.worker_machine.proofs.Telling.{fetch-tells}
+use Rattle.worker_machine.proofs.Telling.{fetch-tells, told-kept}
 use Rattle.worker_machine.proofs.kept.Core.fetch.Goals as goal
 
 pub unreachable-requires-in-Err : goal.unreachable-requires-in-Err
@@ -83,7 +83,7 @@ returns-then-v-self-clause-moves g c =
     let f = c.requires.follows in
     exchanges-by c.cell.ensures.put.stays f.hand.low
     (λ ms k. mind-on k (record { strides = refl; rest = rest-kept refl refl refl refl refl }) refl) refl refl refl
-    (λ ms h. fetch-tells (model_desk old.desk) ms c.args.v h.point (subst (λ (x : Desk Plan). c.args.v + 1 < x.shape.workers) f.desk c.if-v-self.true) h.told)
+    (λ ms h. fetch-tells (model_desk old.desk) ms c.args.v h.point (subst (λ (x : Desk Plan). c.args.v + 1 < x.shape.workers) f.desk c.if-v-self.true) refl refl refl h.told)
 
 pub returns-else-v-self-clause-moves : goal.returns-else-v-self-clause-moves
 returns-else-v-self-clause-moves g c =
@@ -113,4 +113,5 @@ returns-else-v-self-clause-moves g c =
     m.rest.shares c.gathered.ensures.replies
     (λ ms h. fetch-told old new x.stays c.cell.new.holder p.holds p.again p.known one p.task plan owner c.gathered.ensures.record fit
     c.gathered.ensures.replies (phase.Fetch c.args.holder c.args.v) refl ms (place-made old ms h)
-    (ap point.Fetch (omega (arith, all)) ∙ h.point) (omega (arith, all)) h.told)
+    (ap point.Fetch (omega (arith, all)) ∙ h.point) (omega (arith, all))
+    (told-kept c.args.self.now _ (phase.Fetch c.args.holder c.args.v) (phase.Fetch c.args.holder c.args.v) refl refl refl h.told))

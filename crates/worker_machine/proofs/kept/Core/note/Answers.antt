@@ -45,7 +45,7 @@ returns-in-None-clause-moves g c =
       timed = refl;
       shares = h.shares;
       answers = h.answers;
-      told = told-noted (model_desk old.desk) ms 1 (goes ∙ ap (λ (x : Point). after (model_desk old.desk) ms x (NoteDone 1)) h.point) h.told;
+      told = told-noted (model_desk old.desk) ms 1 (goes ∙ ap (λ (x : Point). after (model_desk old.desk) ms x (NoteDone 1)) h.point) refl refl refl h.told;
       knows = keeps-on h.knows refl;
       point = goes;
     })

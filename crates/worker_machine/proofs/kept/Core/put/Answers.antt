@@ -36,7 +36,7 @@ pub returns-then-v-self-clause-moves : goal.returns-then-v-self-clause-moves
 returns-then-v-self-clause-moves g c =
     exchanges-by c.cell.ensures.put.stays c.requires.follows.hand.low
     (λ ms k. mind-on k (record { strides = refl; rest = rest-kept refl refl refl refl refl }) refl) refl refl refl
-    (λ ms h. exchange-tells (model_desk (g.S.Station.seen c.args.station.now).desk) ms (point.Fill c.args.v) h.point refl h.told)
+    (λ ms h. exchange-tells (model_desk (g.S.Station.seen c.args.station.now).desk) ms (point.Fill c.args.v) h.point refl refl refl refl h.told)
 
 pub returns-else-v-self-clause-moves : goal.returns-else-v-self-clause-moves
 returns-else-v-self-clause-moves g c =
@@ -46,4 +46,4 @@ returns-else-v-self-clause-moves g c =
     let all : (g.S.Station.seen c.args.station.now).desk.shape.workers ≡ c.args.v + 1 = omega (arith, most, low) in
     exchanges-by c.cell.ensures.put.stays low
     (λ ms k. mind-on k (record { strides = refl; rest = rest-kept refl refl refl refl refl }) refl) (ap point.Fill all) refl refl
-    (λ ms h. exchange-tells (model_desk (g.S.Station.seen c.args.station.now).desk) ms (point.Fill c.args.v) h.point refl h.told)
+    (λ ms h. exchange-tells (model_desk (g.S.Station.seen c.args.station.now).desk) ms (point.Fill c.args.v) h.point refl refl refl refl h.told)

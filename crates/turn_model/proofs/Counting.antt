@@ -3,7 +3,7 @@ use Rattle.std.proofs.Common.{◌≡◌, ℕ, zero, suc, ◌+◌, ◌<◌, ◌�
 use Rattle.std.proofs.Common.{slice_get, unwrap_or, lt-ltb, le-ltb, eq-eqb, ne_eqb, arith}
 use Rattle.std.proofs.lemmas.Bool.{cases_order}
 use Rattle.report_text.specs.declared.report.Share.{Share}
-use Rattle.run_laws.specs.Shares.{Worked, no_share, with_range, counted, AscendWithin}
+use Rattle.turn_model.specs.Shares.{Worked, no_share, with_range, counted, AscendWithin}
 
 pub some-is : (x y : Share) → Some x ≡ Some y → x ≡ y
 some-is x y e = ap (λ o. unwrap_or o x) e

@@ -1,8 +1,6 @@
 -- The shares of a worker: what its ranges of each query come to.
 use Rattle.std.specs.Prelude.{◌≡◌, ℕ, ◌+◌, ◌-◌, ◌^◌, ◌<◌, ◌≤◌, ◌==◌, List, [], ◌∷◌, min, nat_lt}
-use Rattle.std.specs.Prelude.{if◌then◌else◌, length, sum, slice_get, flat_map, Some}
-use Rattle.slot_history.specs.declared.shape.Shape.{Shape}
-use Rattle.slot_history.specs.declared.shape.TheConstants.{MOST_QUERIES}
+use Rattle.std.specs.Prelude.{if◌then◌else◌, length, sum, slice_get, Some}
 use Rattle.slot_history.specs.declared.act.Act.{Act}
 use Rattle.slot_history.specs.declared.act.Act.TheVariants.{ClaimRange}
 use Rattle.slot_station.specs.Desks.{Desk}
@@ -10,9 +8,7 @@ use Rattle.report_text.specs.declared.report.Share.{Share}
 use Rattle.turn_model.specs.Workloads.{Workload}
 use Rattle.turn_model.specs.Moves.{Move, Made, Exchanged}
 use Rattle.turn_model.specs.Learned.{query_by, time_in, priority_in}
-use Rattle.turn_model.specs.Reports.{Ascend, Has, IsShareOf, AreShares, tuples_by}
-use Rattle.turn_model.specs.Runs.{Run, desk_at}
-use Rattle.run_laws.specs.Ends.{IsPlayed}
+use Rattle.turn_model.specs.Reports.{Ascend, Has, IsShareOf, tuples_by}
 
 -- a range that a worker worked on: its query, its tuples, the time that it took, and the priority
 -- that its query has after it
@@ -98,23 +94,3 @@ pub record AreSharesOf (D : Desk Workload) (ms : List Move) (shares : List Share
 abbrev pub SharesAreOfRanges : Type 0
 SharesAreOfRanges = (D : Desk Workload) (ms : List Move) → CountsFit D ms
     → AreSharesOf D ms (shares_by D ms)
-
--- no time is longer than a meter's answer is taken to be
-abbrev pub AreShort : List Move → Type 0
-AreShort [] = Unit {0}
-AreShort (Made a t ∷ ms) = (t ≤ 2 ^ 36) × AreShort ms
-AreShort (Exchanged ∷ ms) = AreShort ms
-
--- the counts of each worker of a run fit
-abbrev pub CountsAreSmall : Type 0
-CountsAreSmall = (d : Shape) (load : Workload) (run : Run) (w : ℕ) → d.queries ≤ MOST_QUERIES
-    → IsPlayed d load run → w < d.workers → AreShort (run.team w)
-    → CountsFit (desk_at d load w) (run.team w)
-
--- the shares of all workers, worker by worker, are those of the run
-abbrev pub SharesAreMerged : Type 0
-SharesAreMerged = (d : Shape) (load : Workload) (run : Run) (told : List (List Share))
-    → d.queries ≤ MOST_QUERIES → IsPlayed d load run → length told ≡ d.workers
-    → ((w : ℕ) (shares : List Share) → slice_get told w ≡ Some shares
-    → AreSharesOf (desk_at d load w) (run.team w) shares)
-    → AreShares d load run.team (flat_map (λ (shares : List Share). shares) told)

@@ -22,7 +22,9 @@ use Rattle.pool_run.specs.declared.stint.Stint.TheVariants.{WholeTurn}
 use Rattle.pool_run.specs.Plays.{Leads, stints_by}
 use Rattle.pool_run.specs.Scenes.{Scene, HasPlayed, TeamFollows, NoneTurns, HasGoing, Between}
 use Rattle.run_laws.proofs.CompleteRuns.{driven-played}
-use Rattle.pool_run.proofs.Ending.{driven, item-at}
+use Rattle.pool_run.proofs.Ended.{driven}
+use Rattle.pool_run.proofs.Ending.{table-done}
+use Rattle.pool_run.proofs.Places.{item-at}
 use Rattle.pool_run.proofs.Falling.{IsFree, Falls, in-range, number, range-below, turns-fall}
 use Rattle.pool_run.proofs.Points.{ended-in, over-of}
 
@@ -48,7 +50,7 @@ module _ {may_take : ℕ → ℕ → ℕ → Type 0} {at : Scene} {run : Run} (p
       (count-same at.table.shape.workers _ _ goes-same)
 
   is-played : IsLegal at.table.shape (calls_of at.table.log) → IsPlayed at.table.shape (load_of at.table.subject) run
-  is-played legal = driven-played may_take at.table.shape (load_of at.table.subject) run (driven played follows legal)
+  is-played legal = driven-played may_take at.table.shape (load_of at.table.subject) run (driven (table-done played follows legal))
 
   is-free : NoneTurns at.team → IsLegal at.table.shape (calls_of at.table.log) → IsFree at.table.shape (load_of at.table.subject) run
   is-free none legal = record {

@@ -11,7 +11,7 @@ use Rattle.pool_run.specs.declared.stint.Stint.{Stint}
 use Rattle.pool_run.specs.declared.stint.Stint.TheVariants.{WholeTurn}
 use Rattle.pool_run.specs.Plays.{Leads, stints_by, rounds, some_rounds}
 use Rattle.pool_run.specs.Scenes.{Scene, HasPlayed, TeamFollows, AreOver, HasGoing}
-use Rattle.pool_run.proofs.Ending.{item-at}
+use Rattle.pool_run.proofs.Places.{item-at}
 use Rattle.pool_run.proofs.Orders.{back, forth, leads-by, leads-on, stints-append}
 use Rattle.pool_run.proofs.Stints.{stands-still}
 use Rattle.pool_run.proofs.Points.{over-in, over-of}

@@ -1,26 +1,21 @@
 -- Whole runs, from workers that made no call.
-use Rattle.std.proofs.Common.{◌≡◌, ℕ, ◌<◌, ◌≤◌, Result, Ok, Err, IfOk, List, [], All, length, get_or, refl, sym, ap, ◌∙◌, subst, arith}
+use Rattle.std.proofs.Common.{◌≡◌, ℕ, ◌≤◌, true, Result, Ok, Err, IfOk, List, [], All, length, slice_get, Some, refl, sym, ap, ◌∙◌, subst, inl, inr}
+use Rattle.std.proofs.lemmas.Option.{slice_get_cases}
 use Rattle.std.specs.List.{range_with_len}
 use Rattle.run_laws.specs.Ends.{IsWork}
-use Rattle.run_laws.specs.Scheduled.{IsFairTo, ScheduledRun}
-use Rattle.run_laws.proofs.CompleteRuns.{complete-whole, driven-played}
-use Rattle.run_laws.proofs.Scheduled.{runs-are-scheduled}
 use Rattle.slot_history.specs.Bounds.{IsShape}
 use Rattle.pool_run.specs.Plays.{Play}
-use Rattle.std.proofs.lemmas.List.{length-map}
 use Rattle.std.proofs.lemmas.List.Elements.{All-nil}
 use Rattle.report_text.specs.declared.replies.QueryReply.{QueryReply}
-use Rattle.report_text.specs.declared.report.Gap.{Gap}
-use Rattle.std.proofs.lemmas.Option.{slice_get-get_or}
-use Rattle.turn_model.specs.Moves.{Move}
-use Rattle.turn_model.specs.Reports.{AreGaps, IsReplyTo, IsReportOf}
+use Rattle.turn_model.specs.Reports.{IsReplyTo}
 use Rattle.slot_history.specs.Histories.{IsLegal, own_calls, place_of}
 use Rattle.slot_station.specs.Desks.{Desk}
 use Rattle.slot_station.specs.Log.{calls_of}
 use Rattle.one_thread.specs.Tables.{TableStory}
 use Rattle.one_thread.specs.Seats.{desk_over, trail_in}
-use Rattle.turn_model.specs.Runs.{Run, IsComplete, nothing_done}
-use Rattle.turn_model.specs.Orders.{IsByTurns, IsByMoves}
+use Rattle.turn_model.specs.Runs.{Run, desk_at, nothing_done}
+use Rattle.turn_model.specs.Orders.{PlayRounds, none, passes, plays, point_in}
+use Rattle.turn_model.specs.Points.{has_ended, point_by}
 use Rattle.turn_model.specs.Told.{told_by}
 use Rattle.bench_cell.specs.declared.plan.Plan.{Plan}
 use Rattle.worker_machine.specs.declared.ran.Ran.{Ran}
@@ -38,15 +33,18 @@ use Rattle.std.specs.Arc.{arc_value}
 use Rattle.std.specs.Vec.{vec_capacity}
 use Rattle.turn_model.specs.Workloads.{Workload, sets_of}
 use Rattle.slot_history.specs.declared.shape.Shape.{Shape}
-use Rattle.pool_run.specs.Runs.{IsFairGap, ReportsBy, RanBy, RanByTurns, RanByMoves, asked_in}
+use Rattle.pool_run.specs.Runs.{AreWorkersOf, Course, RanBy, TakesCourse, asked_in, order_of}
+use Rattle.pool_run.specs.Stints.{IsOfOrder, PlayStints, course_by}
+use Rattle.pool_run.specs.declared.stint.Stint.{Stint}
 use Rattle.pool_run.specs.Plays.{Leads, stints_by, rounds}
 use Rattle.pool_run.specs.declared.stint.Stint.TheVariants.{WholeTurn, OneStep, RestOfTurn}
 use Rattle.pool_run.specs.Scenes.{Scene, IsNew, HasPlayed, TeamFollows, NoneTurns, AreOver, FollowsIn, shown, stands_in}
 use Rattle.pool_run.specs.Collected.{IsToldBy}
-use Rattle.pool_run.proofs.Ending.{completes, item-at, times-are}
+use Rattle.pool_run.proofs.Ended.{ran-by}
+use Rattle.pool_run.proofs.Ending.{table-done}
+use Rattle.pool_run.proofs.Places.{item-at}
+use Rattle.pool_run.proofs.Points.{ended-in}
 use Rattle.pool_run.proofs.Orders.{back, forth}
-use Rattle.pool_run.proofs.Reporting.{report-of}
-use Rattle.pool_run.proofs.Works.{none-past}
 
 -- ---- before the run
 
@@ -105,104 +103,88 @@ queries-are {at} follows shape =
 -- what every whole run leaves, at its table's end
 pub record Closes (at : Scene) (ran : Ran) : Type 0 where
   pub follows : TeamFollows at
-  pub none : NoneTurns at.team
   pub over : AreOver at.team
   pub limits : IsShape at.table.shape
   pub work : IsWork at.table.shape (load_of at.table.subject)
   pub legal : IsLegal at.table.shape (calls_of at.table.log)
   pub history : ran.history ≡ calls_of at.table.log
-  pub told : IsToldBy at.team ran
+  pub told : IsToldBy at.team ran.report ran.times.items
 
--- the gaps of a run that is fair to each worker
-gaps-fair : (d : Shape) (load : Workload) (team : ℕ → List Move) (gaps : List Gap) → AreGaps d load team gaps
-    → ((w : ℕ) → w < d.workers → IsFairTo d load w (team w)) → All IsFairGap gaps
-gaps-fair d load team gaps are fair = λ k other within.
-    let is = are.each k (get_or gaps k other) (slice_get-get_or gaps k other within) in
-    let count : length gaps ≡ d.workers = are.count in
-    let low = fair k (omega arith) in
-    let widest = is.widest in
-    let largest = is.largest in
-    omega (arith, widest, largest, low)
+-- ---- its course
 
-module _ {may_take : ℕ → ℕ → ℕ → Type 0} {at : Scene} {run : Run} {ran : Ran} (played : HasPlayed may_take at run) (end : Closes at ran) where
-  -- the report of a run that ends so, whatever its order
-  reports-by : (order : List ℕ) → All (λ w. w < at.table.shape.workers) order → (IsByOrder : Run → Type 0) → IsByOrder run
-      → ReportsBy may_take (asked_in at.table order) IsByOrder ran.report
-  reports-by order of_workers IsByOrder by =
-      let d = at.table.shape in
-      let load = load_of at.table.subject in
-      let complete : IsComplete may_take d load run = completes played end.follows end.legal end.over in
-      let told : IsReportOf d load run ran.report = report-of played end.follows end.legal end.none end.told (complete-whole may_take d load run end.work
-      (λ q past. none-past at.table.subject q (subst (λ n. n ≤ q) (queries-are end.follows end.limits) past)) complete) in
-      let scheduled : ScheduledRun d load run ran.report = runs-are-scheduled d load run ran.report (record {
-        work = end.work;
-        played = driven-played may_take d load run complete.driven;
-        of_load = complete.driven.of_load;
-        over = complete.over;
-      }) told in
-      record {
-        work = end.work;
-        of_workers = of_workers;
-        run = run;
-        by_order = by;
-        complete = complete;
-        told = told;
-        scheduled = scheduled;
-        fair = gaps-fair d load run.team ran.report.gaps told.gaps scheduled.fair;
-      }
+-- if no turn is under way, none has to be ended
+still : (d : Shape) (load : Workload) (order : List ℕ) (run end : Run) → ((w : ℕ) → has_ended (point_in d load run w) ≡ true)
+    → PlayStints d load RestOfTurn order run end → run ≡ end
+still d load order x z ended (none run) = refl
+still d load order x z ended (passes w others run end p rest) = still d load others run end ended rest
+still d load order x z ended (plays w others run next end not p rest) = absurd (not (ended w))
 
-  ran-by : (order : List ℕ) → All (λ w. w < at.table.shape.workers) order → (IsByOrder : Run → Type 0) → IsByOrder run
-      → RanBy may_take (asked_in at.table order) IsByOrder ran
-  unfolding reports-by
-  ran-by order of_workers IsByOrder by = record {
-    report = reports-by order of_workers IsByOrder by;
-    has = record { history = played.history ∙ sym end.history; times_are = λ w. times-are played end.follows ran.times.items end.told.times w };
-    times = ap length end.told.times ∙ length-map at.team (λ (w : Worker). w.core.times) ∙ end.follows.count;
-  }
+takes-course : (d : Shape) (load : Workload) (stint : Stint) (order : List ℕ) (x z y : Run) → IsOfOrder stint
+    → (stint ≡ WholeTurn → (w : ℕ) → has_ended (point_in d load x w) ≡ true) → PlayStints d load stint order nothing_done x
+    → PlayStints d load RestOfTurn (range_with_len 0 d.workers) x z → PlayRounds d load z y → TakesCourse d load (course_by stint order) y
+takes-course d load WholeTurn order x z y is ended first second last = record {
+  middle = x;
+  turns = first;
+  rounds = subst (λ r. PlayRounds d load r y) (sym (still d load (range_with_len 0 d.workers) x z (ended refl) second)) last;
+}
+takes-course d load OneStep order x z y is ended first second last = record { first = x; second = z; moves = first; ended = second; rounds = last }
+takes-course d load RestOfTurn order x z y is ended first second last = absurd (is refl)
 
--- these workers, and a run that was asked for, by shape and work
-abbrev OfWorkers : List ℕ → Shape → Workload → Type 0
-OfWorkers order d load = All (λ w. w < d.workers) order
+-- where no turn is under way, by the run
+none-under-way : {may_take : ℕ → ℕ → ℕ → Type 0} {at : Scene} {run : Run} → HasPlayed may_take at run → TeamFollows at → NoneTurns at.team
+    → (w : ℕ) → has_ended (point_in at.table.shape (load_of at.table.subject) run w) ≡ true
+none-under-way {may_take} {at} {run} played follows ready w = elim (slice_get_cases at.team w).1 [ inl p ↦ here p.0 p.2 | inr p ↦ past p.0 ] where
+  here : (x : Worker) → slice_get at.team w ≡ Some x → has_ended (point_in at.table.shape (load_of at.table.subject) run w) ≡ true
+  here x is = ended-in at.table (played.made w x is) ∙ ready w x is
 
-abbrev RanAs : (ℕ → ℕ → ℕ → Type 0) → List ℕ → Ran → (Run → Type 0) → Shape → Workload → Type 0
-RanAs may_take order ran IsByOrder d load = RanBy may_take (record { shape = d; load = load; order = order }) IsByOrder ran
+  past : length at.team ≤ w → has_ended (point_in at.table.shape (load_of at.table.subject) run w) ≡ true
+  past after = ap (λ ms. has_ended (point_by (desk_at at.table.shape (load_of at.table.subject) w) ms))
+      (played.no_more w (subst (λ n. n ≤ w) follows.count after))
 
-module _ {may_take : ℕ → ℕ → ℕ → Type 0} {a b c : Scene} {ran : Ran} (order : List ℕ) (new : IsNew a)
-    (of_workers : All (λ w. w < a.table.shape.workers) order) where
-  pub ran-by-turns : Leads may_take (stints_by WholeTurn order) a b → Leads may_take rounds b c → Closes c ran
-      → RanByTurns may_take (asked_in a.table order) ran
-  ran-by-turns p q end =
-      let x = p.leads nothing_done (new-played new may_take) in
-      let y = q.leads x.next x.played in
-      let IsBy = IsByTurns a.table.shape (load_of a.table.subject) order in
-      let by : IsBy y.next = record { middle = x.next; turns = x.plays; rounds = back p (λ d load. rounds d load x.next y.next) y.plays } in
-      let workers : OfWorkers order c.table.shape (load_of c.table.subject) = forth q (OfWorkers order) (forth p (OfWorkers order) of_workers) in
-      back p (RanAs may_take order ran IsBy) (back q (RanAs may_take order ran IsBy) (ran-by y.played end order workers IsBy by))
+-- the order of such a course
+pub same-order : (stint : Stint) (order : List ℕ) → order_of (course_by stint order) ≡ order
+same-order WholeTurn order = refl
+same-order OneStep order = refl
+same-order RestOfTurn order = refl
 
-  pub ran-by-moves : {m : Scene} → Leads may_take (stints_by OneStep order) a m
-      → Leads may_take (stints_by RestOfTurn (range_with_len 0 m.table.shape.workers)) m b → Leads may_take rounds b c → Closes c ran
-      → RanByMoves may_take (asked_in a.table order) ran
-  ran-by-moves {m} p r q end =
-      let x = p.leads nothing_done (new-played new may_take) in
-      let z = r.leads x.next x.played in
-      let y = q.leads z.next z.played in
-      let IsBy = IsByMoves a.table.shape (load_of a.table.subject) order in
-      let by : IsBy y.next = record {
-        first = x.next;
-        second = z.next;
-        moves = x.plays;
-        ended = back p (λ d load. stints_by RestOfTurn (range_with_len 0 d.workers) d load x.next z.next) z.plays;
-        rounds = back p (λ d load. rounds d load z.next y.next) (back r (λ d load. rounds d load z.next y.next) y.plays);
-      } in
-      let workers : OfWorkers order c.table.shape (load_of c.table.subject) =
-      forth q (OfWorkers order) (forth r (OfWorkers order) (forth p (OfWorkers order) of_workers)) in
-      back p (RanAs may_take order ran IsBy) (back r (RanAs may_take order ran IsBy) (back q (RanAs may_take order ran IsBy)
-      (ran-by y.played end order workers IsBy by)))
+-- a run that was asked for, by shape and work
+abbrev RanAs : (ℕ → ℕ → ℕ → Type 0) → Course → Ran → Shape → Workload → Type 0
+RanAs may_take course ran d load = RanBy may_take (record { shape = d; load = load; course = course }) ran.report ran.history ran.times.items
+
+module _ {may_take : ℕ → ℕ → ℕ → Type 0} {a b m c : Scene} (ran : Ran) (stint : Stint) (order : List ℕ) (new : IsNew a)
+    (first : Leads may_take (stints_by stint order) a b)
+    (second : Leads may_take (stints_by RestOfTurn (range_with_len 0 b.table.shape.workers)) b m) (third : Leads may_take rounds m c) where
+  pub ran-in-order : IsOfOrder stint → AreWorkersOf a.table.shape order → TeamFollows b → (stint ≡ WholeTurn → NoneTurns b.team) → Closes c ran
+      → RanBy may_take (asked_in a.table (course_by stint order)) ran.report ran.history ran.times.items
+  ran-in-order is of_workers follows ready end =
+      let x = first.leads nothing_done (new-played new may_take) in
+      let z = second.leads x.next x.played in
+      let y = third.leads z.next z.played in
+      let d = a.table.shape in
+      let load = load_of a.table.subject in
+      let by : TakesCourse d load (course_by stint order) y.next = takes-course d load stint order x.next z.next y.next is
+      (λ whole w. back first (λ d load. has_ended (point_in d load x.next w) ≡ true) (none-under-way x.played follows (ready whole) w)) x.plays
+      (back first (λ d load. PlayStints d load RestOfTurn (range_with_len 0 d.workers) x.next z.next) z.plays)
+      (back first (λ d load. PlayRounds d load z.next y.next) (back second (λ d load. PlayRounds d load z.next y.next) y.plays)) in
+      let there : TakesCourse c.table.shape (load_of c.table.subject) (course_by stint order) y.next =
+      forth third (λ d load. TakesCourse d load (course_by stint order) y.next) (forth second (λ d load. TakesCourse d load (course_by stint order) y.next)
+      (forth first (λ d load. TakesCourse d load (course_by stint order) y.next) by)) in
+      let workers : AreWorkersOf c.table.shape order = forth third (λ d load. AreWorkersOf d order)
+      (forth second (λ d load. AreWorkersOf d order) (forth first (λ d load. AreWorkersOf d order) of_workers)) in
+      let ended : RanAs may_take (course_by stint order) ran c.table.shape (load_of c.table.subject) =
+      ran-by (table-done y.played end.follows end.legal) end.over end.told (queries-are end.follows end.limits) end.work (course_by stint order)
+      (subst (AreWorkersOf c.table.shape) (sym (same-order stint order)) workers) there ran.history (y.played.history ∙ sym end.history) in
+      back first (RanAs may_take (course_by stint order) ran) (back second (RanAs may_take (course_by stint order) ran)
+      (back third (RanAs may_take (course_by stint order) ran) ended))
 
 -- an answer of which two facts hold, if there is one
 pub ends-with : {A E : Type 0} {H T P : A → Type 0} (r : Result A E) → ((x : A) → H x → T x → P x) → IfOk r H → IfOk r T → IfOk r P
 ends-with (Ok x) make h t = make x h t
 ends-with (Err e) make h t = tt
+
+pub ok-map : {A E : Type 0} {P Q : A → Type 0} (r : Result A E) → ((x : A) → P x → Q x) → IfOk r P → IfOk r Q
+ok-map (Ok x) make p = make x p
+ok-map (Err e) make p = tt
 
 pub still-works : {may_take : ℕ → ℕ → ℕ → Type 0} {play : Play} {a b : Scene} → Leads may_take play a b → IsWork a.table.shape (load_of a.table.subject)
     → IsWork b.table.shape (load_of b.table.subject)

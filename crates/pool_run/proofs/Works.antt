@@ -1,5 +1,5 @@
 -- The work of a plan.
-use Rattle.std.proofs.Common.{◌≡◌, ℕ, ◌<◌, ◌≤◌, List, All, length, slice_get, Some, sym, ap, ◌∙◌, subst, arith, inl, inr}
+use Rattle.std.proofs.Common.{◌≡◌, ℕ, ◌<◌, ◌≤◌, List, length, slice_get, Some, sym, ap, ◌∙◌, subst, arith, inl, inr}
 use Rattle.std.specs.Option.{option_map, option_map_or}
 use Rattle.std.specs.Arc.{arc_value}
 use Rattle.std.proofs.lemmas.List.{length-map}
@@ -18,7 +18,9 @@ use Rattle.bench_cell.proofs.PlanLemmas.{query-at}
 use Rattle.worker_machine.specs.Loads.{load_of}
 use Rattle.one_thread.specs.Tables.{TableStory}
 use Rattle.pool_run.specs.Scenes.{new_table}
-use Rattle.pool_run.specs.Runs.{MayRun, asked_of}
+use Rattle.slot_history.specs.declared.act.Entry.{Entry}
+use Rattle.report_text.specs.declared.report.Report.{Report}
+use Rattle.pool_run.specs.Runs.{AreWorkersOf, Course, MayRun, RanBy, asked_in, asked_of, order_of}
 
 few-merges : (o : Output) → merges_of o ≤ 1
 few-merges (Rows columns) = omega arith
@@ -41,9 +43,9 @@ stages-are : (plan : Plan) (q : ℕ) (c : Checked) → slice_get (checked_of pla
 stages-are plan q c here = ap (λ o. option_map_or stages_of o 0) (query-at plan q c here)
 
 -- what may be asked of a plan is work of a run that ends
-plan-works : (plan : Plan) (workers slots : ℕ) (order : List ℕ) → let asked = asked_of plan workers slots order in
+pub plan-works : (plan : Plan) (workers slots : ℕ) (course : Course) → let asked = asked_of plan workers slots course in
     MayRun asked → IsWork asked.shape asked.load
-plan-works plan workers slots order may = record {
+plan-works plan workers slots course may = record {
   shape = record { slots = may.slots; workers = may.workers; queries = plan.few };
   some = λ q low. let c = checked-at plan q low in subst (λ n. 0 < n) (sym (stages-are plan q c.0 c.1)) (omega arith);
   few = λ q low.
@@ -55,13 +57,19 @@ plan-works plan workers slots order may = record {
 }
 
 -- the same over the new table of the plan, whose workers are those of the order
-module _ (plan : Plan) (workers slots : ℕ) (order : List ℕ) {table : TableStory Plan} (new : table ≡ new_table plan workers slots)
-    (may : MayRun (asked_of plan workers slots order)) where
+module _ (plan : Plan) (workers slots : ℕ) (course : Course) {table : TableStory Plan} (new : table ≡ new_table plan workers slots)
+    (may : MayRun (asked_of plan workers slots course)) where
   pub table-works : IsWork table.shape (load_of table.subject)
-  table-works = subst (λ (t : TableStory Plan). IsWork t.shape (load_of t.subject)) (sym new) (plan-works plan workers slots order may)
+  table-works = subst (λ (t : TableStory Plan). IsWork t.shape (load_of t.subject)) (sym new) (plan-works plan workers slots course may)
 
-  pub of-workers : All (λ w. w < table.shape.workers) order
-  of-workers = subst (λ (t : TableStory Plan). All (λ w. w < t.shape.workers) order) (sym new) may.order
+  pub of-workers : AreWorkersOf table.shape (order_of course)
+  of-workers = subst (λ (t : TableStory Plan). AreWorkersOf t.shape (order_of course)) (sym new) may.order
+
+  -- what ran over that table ran as was asked for
+  pub ran-as-asked : {may_take : ℕ → ℕ → ℕ → Type 0} {report : Report} {history : List Entry} {elapsed : List (List ℕ)}
+      → RanBy may_take (asked_in table course) report history elapsed → RanBy may_take (asked_of plan workers slots course) report history elapsed
+  ran-as-asked {may_take} {report} {history} {elapsed} ran =
+      subst (λ (t : TableStory Plan). RanBy may_take (asked_in t course) report history elapsed) new ran
 
 -- past the last query there are none
 pub none-past : (plan : Plan) (q : ℕ) → length plan.queries.items ≤ q → (load_of plan).stages q ≡ 0

@@ -4,3 +4,4 @@ pub mod Plays
 pub mod Collected
 pub mod Runs
 pub mod Rests
+pub mod Seated

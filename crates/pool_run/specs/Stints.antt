@@ -16,6 +16,7 @@ use Rattle.worker_machine.specs.Keeps.{Standing, HasMade}
 use Rattle.worker_machine.specs.Left.{is_ready}
 use Rattle.worker_machine.specs.Loads.{model_desk}
 use Rattle.worker_machine.specs.Turning.{Adds}
+use Rattle.pool_run.specs.Runs.{Course, turns, moves}
 use Rattle.pool_run.specs.declared.stint.Stint.{Stint}
 use Rattle.pool_run.specs.declared.stint.Stint.TheVariants.{WholeTurn, OneStep, RestOfTurn}
 
@@ -28,6 +29,15 @@ IsPassedOver RestOfTurn phase = is_ready phase ≡ true
 -- the stint ends with no turn under way
 abbrev pub EndsTurns : Stint → Type 0
 EndsTurns stint = stint ≡ OneStep → ⊥
+
+-- the workers of an order play such a stint, and so follow this course
+abbrev pub IsOfOrder : Stint → Type 0
+IsOfOrder stint = stint ≡ RestOfTurn → ⊥
+
+abbrev pub course_by : Stint → List ℕ → Course
+course_by WholeTurn order = turns order
+course_by OneStep order = moves order
+course_by RestOfTurn order = moves order
 
 -- ---- by the model
 

@@ -2,6 +2,7 @@
 ghost use Rattle.std.specs.Prelude.{◌≡◌, ◌+◌, ◌<◌, ◌≤◌, [], ◌∷◌, All, IfOk, IsTrue};
 ghost use Rattle.std.specs.Arc.{arc_value};
 ghost use Rattle.std.specs.List.{range_with_len};
+ghost use Rattle.slot_history.specs.declared.shape.TheConstants.{MOST_SLOTS, MOST_WORKERS};
 ghost use Rattle.slot_history.specs.Histories.{IsLegal};
 ghost use Rattle.slot_station.specs.Log.{calls_of};
 ghost use Rattle.pool_run.specs.Plays.{Leads, stints_by, rounds};
@@ -14,7 +15,7 @@ ghost use Rattle.worker_machine.specs.Loads.{load_of};
 ghost use Rattle.slot_history.specs.Bounds.{IsShape};
 ghost use Rattle.pool_run.specs.Collected.{HaveTold, IsToldBy};
 
-use crate::report::Parts;
+use crate::report::{Parts, Told, collect};
 use crate::seats::play;
 use crate::stint::Stint;
 use bench_cell::{Bench, Plan};
@@ -56,8 +57,8 @@ impl<O: SlotObject> Pool<O> {
         workers: u32,
         slots: u32,
     ) -> Result<Pool<O>, AllocError>
-        requires workers { (0 < workers) × (workers ≤ 64) }
-        requires slots { (0 < slots) × (slots ≤ 128) }
+        requires workers { (0 < workers) × (workers ≤ MOST_WORKERS) }
+        requires slots { (0 < slots) × (slots ≤ MOST_SLOTS) }
         ensures table { IfOk result
             (λ pool. pool.table ≡ new_table (arc_value plan.now) workers slots) }
         ensures new { IfOk result (λ pool. IsNew (scene pool.table pool.team.items)) }
@@ -168,13 +169,13 @@ impl<O: SlotObject> Pool<O> {
     }
 
     // What the run leaves. No turn is under way.
-    pub(crate) fn end(self, mut parts: Parts) -> Result<Ran, AllocError>
+    pub(crate) fn end(self, parts: Parts) -> Result<Ran, AllocError>
         requires none { NoneTurns self.team.items }
         requires parts { HaveTold [] parts }
         ensures history { IfOk result (λ ran. ran.history ≡ calls_of self.table.log) }
         ensures limits { IsShape self.table.shape }
         ensures legal { IsLegal self.table.shape (calls_of self.table.log) }
-        ensures told { IfOk result (IsToldBy self.team.items) }
+        ensures told { IfOk result (λ ran. IsToldBy self.team.items ran.report ran.times.items) }
     {
         let Pool {
             alloc: _,
@@ -182,10 +183,13 @@ impl<O: SlotObject> Pool<O> {
             team,
         } = self;
         let _shape = table.object().shape();
-        for worker in team {
-            parts.add(worker)?;
-        }
-        Ok(parts.ran(table.end()))
+        let Told { report, times } = collect(team, parts)?;
+        let history = table.end();
+        Ok(Ran {
+            report,
+            history,
+            times,
+        })
     }
 }
 
@@ -196,8 +200,8 @@ fn new_team(
     workers: u32,
     slots: u32,
 ) -> Result<Vec<Worker>, AllocError>
-    requires workers { (0 < workers) × (workers ≤ 64) }
-    requires slots { (0 < slots) × (slots ≤ 128) }
+    requires workers { (0 < workers) × (workers ≤ MOST_WORKERS) }
+    requires slots { (0 < slots) × (slots ≤ MOST_SLOTS) }
     ensures { IfOk result
         (λ team. AreNew (new_table (arc_value plan.now) workers slots) workers team.items) }
 {

@@ -3,13 +3,22 @@ ghost use Rattle.std.specs.Prelude.{◌≡◌, ◌≤◌, ◌+◌, ◌*◌, ◌+
 ghost use Rattle.std.specs.Prelude.{IsPermutation, IsSortedByKey};
 ghost use Rattle.std.specs.Ordering.{nat_cmp};
 ghost use Rattle.turn_model.specs.Reports.{id_of_record};
+ghost use Rattle.pool_run.specs.Collected.{HaveTold, IsToldBy};
+ghost use Rattle.pool_run.specs.Scenes.{NoneTurns};
 
 use bench_cell::Plan;
 use col_table::ListOf;
 use report_text::{Gap, QueryReply, Record, Report, Share};
-use slot_station::{History, Memo};
+use slot_station::Memo;
 use std::alloc::{AllocError, Global};
-use worker_machine::{Ran, Worker, WorkerParts};
+use worker_machine::{Worker, WorkerParts};
+
+// The report of a run and, at place w, the elapsed times of worker w.
+#[derive(Drop)]
+pub(crate) struct Told {
+    pub report: Report,
+    pub times: Vec<Memo>,
+}
 
 // What workers told so far, in the order of the workers.
 #[derive(Drop)]
@@ -23,13 +32,14 @@ pub(crate) struct Parts {
 
 impl Parts {
     ghost use Rattle.std.specs.Prelude.{◌≡◌, ◌≤◌, ◌++◌, ◌∷◌, [], true, IfOk, OnOk, List};
+    ghost use Rattle.slot_history.specs.declared.shape.TheConstants.{MOST_WORKERS};
     ghost use Rattle.worker_machine.specs.declared.state.Worker.{Worker};
     ghost use Rattle.worker_machine.specs.Left.{is_ready};
     ghost use Rattle.pool_run.specs.Collected.{HaveTold, IsToldBy};
 
     // Nothing, with room for all that the workers of a plan tell.
     pub(crate) fn new(alloc: Global, plan: &Plan, workers: u32) -> Result<Parts, AllocError>
-        requires { workers ≤ 64 }
+        requires { workers ≤ MOST_WORKERS }
         ensures { IfOk result (HaveTold []) }
     {
         let workers = workers as usize;
@@ -64,10 +74,10 @@ impl Parts {
         Ok(())
     }
 
-    // The report, in its order, and what else the run answers.
-    pub(crate) fn ran(self, history: History) -> Ran
-        ensures history { result.history ≡ history }
-        ensures told { (team : List Worker) → HaveTold team self → IsToldBy team result }
+    // The report, in its order, and the times.
+    fn told(self) -> Told
+        ensures { (team : List Worker) → HaveTold team self
+            → IsToldBy team result.report result.times.items }
     {
         let Parts {
             mut replies,
@@ -84,12 +94,20 @@ impl Parts {
             shares: ListOf::of(shares),
             gaps: ListOf::of(gaps),
         };
-        Ran {
-            report,
-            history,
-            times,
-        }
+        Told { report, times }
     }
+}
+
+// What the workers of a run tell. No turn is under way.
+pub(crate) fn collect(team: Vec<Worker>, mut parts: Parts) -> Result<Told, AllocError>
+    requires none { NoneTurns team.items }
+    requires parts { HaveTold [] parts }
+    ensures { IfOk result (λ told. IsToldBy team.items told.report told.times.items) }
+{
+    for worker in team {
+        parts.add(worker)?;
+    }
+    Ok(parts.told())
 }
 
 fn sort_replies(replies: &mut Vec<QueryReply>)

@@ -4,16 +4,17 @@ ghost use Rattle.std.specs.Arc.{arc_value};
 ghost use Rattle.plan_ast.specs.Checks.{IsCheckedFor, query_of};
 ghost use Rattle.worker_machine.specs.Loads.{load_of};
 
-use crate::{Ran, run_steps, run_turns};
+use crate::{Ran, ThreadRan, run_steps, run_threads, run_turns};
 use bench_cell::Plan;
 use col_table::{ListOf, Name, Table, Text};
-use outside_io::CostMeter;
+use outside_io::{CostMeter, OpenGate};
 use plan_ast::{Agg, Checked, Func, NameRef, NamedTable, Output, Query, check};
 use report_text::{Report, answers_text, report_text};
 use std::alloc::Global;
 use std::process::Abort;
-use std::sync::Arc;
+use std::sync::{Arc, Wait};
 use std::test::Fail;
+use std::thread::Threads;
 
 fn name(rt: &impl Abort, alloc: Global, text: &str) -> Result<Name, Fail> {
     Ok(Name::new(String::from_str(alloc, text)?).expect(rt, "a name"))
@@ -163,6 +164,22 @@ fn steps(
     Ok(run_steps(alloc, plan, workers, 128, order, &mut CostMeter)?)
 }
 
+// The run of a plan by threads, over 128 slots.
+fn by_threads<R: Threads + Wait + Abort + Sync>(
+    rt: &R,
+    alloc: Global,
+    plan: &Arc<Plan>,
+    workers: u32,
+    meters: &mut Vec<CostMeter>,
+) -> Result<ThreadRan, Fail>
+    requires { (q : ℕ) → (load_of (arc_value plan.now)).after q ≡ 0 }
+{
+    may_run(rt, workers, 128, &[]);
+    assert!(rt; workers as usize <= meters.len());
+    let plan = Arc::try_clone(plan)?;
+    Ok(run_threads(rt, alloc, plan, workers, 128, meters, &OpenGate)?)
+}
+
 // The three rows of the first example.
 const THREE: [[i64; 2]; 3] = [[1, 10], [1, 20], [2, 5]];
 
@@ -276,5 +293,22 @@ fn steps_in_any_order_give_the_answers(rt: HostRuntime) -> Result<(), Fail> {
         answers_are(&rt, alloc, &ran.report, text)?;
         assert_eq!(rt; ran.times.len(), 3);
     }
+    Ok(())
+}
+
+// Two workers on threads answer as by whole turns, and their meters come back.
+#[test]
+fn threads_give_the_answers(rt: HostRuntime) -> Result<(), Fail> {
+    let alloc = rt.alloc();
+    let queries = vec![in alloc; counts(&rt, alloc, 10)?, sums(&rt, alloc)?]?;
+    let plan = plan(&rt, alloc, THREE.as_slice(), queries)?;
+    let text = "query 0 lines 1\ntotal 3\nquery 1 lines 2\ngroup 1: 30\ngroup 2: 5\n";
+    let ran = turns(&rt, alloc, &plan, 2, 128, &[])?;
+    answers_are(&rt, alloc, &ran.report, text)?;
+    let mut meters = vec![in alloc; CostMeter, CostMeter]?;
+    let ran = by_threads(&rt, alloc, &plan, 2, &mut meters)?;
+    answers_are(&rt, alloc, &ran.report, text)?;
+    assert_eq!(rt; ran.times.len(), 2);
+    assert_eq!(rt; meters.len(), 2);
     Ok(())
 }

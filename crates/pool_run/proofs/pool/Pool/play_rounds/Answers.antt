@@ -1,7 +1,6 @@
 use Rattle.std.proofs.Common.{refl, sym, ◌∙◌, subst}
 use Rattle.std.proofs.lemmas.Bool.{false≢true}
 use Rattle.run_laws.specs.Ends.{IsWork}
-use Rattle.worker_machine.specs.Loads.{load_of}
 use Rattle.pool_run.specs.Scenes.{AreOver, HasGoing}
 use Rattle.pool_run.proofs.Orders.{forth}
 use Rattle.pool_run.proofs.Lowering.{round-lowers}

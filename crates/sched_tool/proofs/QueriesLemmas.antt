@@ -15,7 +15,7 @@ use Rattle.plan_ast.specs.declared.refusals.PlanRefusal.{PlanRefusal}
 use Rattle.plan_ast.specs.declared.refusals.PlanRefusal.TheVariants.{UnknownTable, UnknownColumn, OutOfMemory}
 use Rattle.report_text.specs.declared.replies.QueryReply.{QueryReply}
 use Rattle.report_text.specs.declared.replies.Reply.TheVariants.{Answer}
-use Rattle.sched_tool.specs.Behaviours.{replies_of}
+use Rattle.sched_tool.specs.CheckCommand.{replies_of}
 use Rattle.sched_tool.specs.Refusals.{AreQueriesRefused, IsFirstRefused, query_refusal}
 use Rattle.sched_tool.specs.Subjects.{AllAnswerable, IsAnswerable}
 

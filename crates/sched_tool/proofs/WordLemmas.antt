@@ -1,5 +1,5 @@
 -- Numbers among the words.
-use Rattle.std.proofs.Common.{◌≡◌, ◌<◌, ◌≤◌, ◌-◌, ◌^◌, ◌∙◌, false, ℕ, suc, Bool, Option, true, List, [], ◌∷◌, ◌++◌, length, Some, None, ap, refl, sym, subst}
+use Rattle.std.proofs.Common.{◌≡◌, ◌<◌, ◌≤◌, ◌-◌, ◌^◌, ◌∙◌, false, ℕ, suc, Bool, Option, true, List, [], ◌∷◌, ◌++◌, length, Some, None, ap, inl, inr, refl, sym, subst}
 use Rattle.std.proofs.Common.{All, append_assoc, arith}
 use Rattle.std.proofs.lemmas.List.Elements.{All-cons, All-nil}
 use Rattle.std.proofs.lemmas.Bool.{and_parts, false_from_ne_true}
@@ -11,10 +11,12 @@ use Rattle.std.specs.List.{after_first, before_first, list_all, position_or_len}
 use Rattle.std.specs.Option.{option_and_then, option_map}
 use Rattle.std.proofs.lemmas.List.Splits.{length-slice_split, slice_split_first, slice_split_none}
 use Rattle.std.proofs.lemmas.List.Sums.{fails_before_first}
-use Rattle.std.specs.Prelude.{◌==◌, if◌then◌else◌, is_some, nat_le, not, unwrap_or}
+use Rattle.std.specs.Prelude.{◌==◌, ◌⊎◌, if◌then◌else◌, nat_le}
 use Rattle.std.specs.Str.Parse.{AllDigits, digits_value, IsNumeral, without_leading_plus}
 use Rattle.csv_tables.proofs.Digits.{digit_range}
+use Rattle.sched_tool.specs.Requests.{IsOrder, IsUnread}
 use Rattle.sched_tool.specs.Words.{fields_of, is_number_word, list_of, number_of, numbers_of, order_of}
+use Rattle.sched_tool.specs.declared.program.refusal.Refusal.{Refusal}
 
 digit_below : (c : ℕ) → is_ascii_digit c ≡ true → digit_value c < 10
 digit_below c is = let range = digit_range c is in omega (arith, range, digit_value_digit c range)
@@ -60,93 +62,67 @@ first_field text field more within is rest =
 pub some_field : (text : List ℕ) → 1 ≤ length (fields_of text)
 some_field text = omega (arith, length-slice_split (λ byte. byte == 44) text)
 
--- a number is added to those of the other fields
-pub number_first : (greatest : ℕ) (field : List ℕ) (fields : List (List ℕ)) → is_some (number_of 9 0 greatest field) ≡ true
-    → is_some (numbers_of greatest (field ∷ fields)) ≡ is_some (numbers_of greatest fields)
-number_first greatest field fields is =
-    elim (number_of 9 0 greatest field) as (λ o. is_some o ≡ true → is_some (option_and_then (λ number. option_map (λ numbers. number ∷ numbers)
-    (numbers_of greatest fields)) o) ≡ is_some (numbers_of greatest fields)) [
-      | None ↦ λ none. absurd cc
-      | Some number ↦ λ some. elim (numbers_of greatest fields) as (λ o. is_some (option_map (λ numbers. number ∷ numbers) o) ≡ is_some o) [
-        | None ↦ refl
-        | Some numbers ↦ refl
-      ]
-    ] is
-
-pub no_number_first : (greatest : ℕ) (field : List ℕ) (fields : List (List ℕ)) → number_of 9 0 greatest field ≡ None
-    → is_some (numbers_of greatest (field ∷ fields)) ≡ false
-no_number_first greatest field fields none = rw none refl
-
-pub number_last : (greatest : ℕ) (field : List ℕ) → is_some (numbers_of greatest (field ∷ [])) ≡ is_some (number_of 9 0 greatest field)
-number_last greatest field =
-    elim (number_of 9 0 greatest field) as (λ o. is_some (option_and_then (λ number. Some (number ∷ [])) o) ≡ is_some o) [
-      | None ↦ refl
-      | Some number ↦ refl
-    ]
-
 -- a text without a comma is one field
 pub one_field : (text : List ℕ) → position_or_len (λ byte. byte == 44) text ≡ length text → fields_of text ≡ text ∷ []
 one_field text none =
     slice_split_none (λ byte. byte == 44) text
     (λ place any within. fails_before_first (λ byte. byte == 44) text place any (omega (arith, none, within)))
 
--- a list is read if it has few fields and each is a number
-pub list_read : (greatest : ℕ) (text : List ℕ) → length (fields_of text) ≤ 4096
-    → is_some (numbers_of greatest (fields_of text)) ≡ is_some (list_of greatest text)
-list_read greatest text few =
-    let yes : nat_le (length (fields_of text)) 4096 ≡ true = grind (arith, nat_tests) in
-    sym (ap (λ test. is_some (if test then numbers_of greatest (fields_of text) else None)) yes)
+-- ---- the numbers of a list
 
-pub list_too_long : (greatest : ℕ) (text : List ℕ) → 4096 < length (fields_of text) → false ≡ is_some (list_of greatest text)
-list_too_long greatest text many =
-    let no : nat_le (length (fields_of text)) 4096 ≡ false = grind (arith, nat_tests) in
-    sym (ap (λ test. is_some (if test then numbers_of greatest (fields_of text) else None)) no)
+-- the numbers so far, and then those of these fields
+abbrev pub with_fields : ℕ → List ℕ → List (List ℕ) → Option (List ℕ)
+with_fields greatest so_far fields = option_map (λ more. so_far ++ more) (numbers_of greatest fields)
 
-pub list_refused : (greatest : ℕ) (text : List ℕ) → is_some (numbers_of greatest (fields_of text)) ≡ false → false ≡ is_some (list_of greatest text)
-list_refused greatest text none =
-    elim (nat_le (length (fields_of text)) 4096) as (λ test. false ≡ is_some (if test then numbers_of greatest (fields_of text) else None)) [
-      | false ↦ refl
-      | true ↦ sym none
-    ]
-
-pub no_value : (o : Option ℕ) (test : Bool) → is_some o ≡ not test → test ≡ true → o ≡ None
-no_value None test is none = refl
-no_value (Some n) test is none = let both : true ≡ false = is ∙ ap not none in absurd cc
-
-pub a_value : (o : Option ℕ) (test : Bool) → is_some o ≡ not test → test ≡ false → is_some o ≡ true
-a_value o test is some = is ∙ ap not some
-
--- ---- the numbers of a list that is read
-
--- a number more is read: the list of those so far, and of those to come, is the same
-pub number_read : (o : Option ℕ) (rest whole : Option (List ℕ)) (order : List ℕ) → option_map (λ more. order ++ more) (option_and_then (λ number.
-    option_map (λ numbers. number ∷ numbers) rest) o) ≡ whole → is_some whole ≡ true
-    → option_map (λ more. order ++ (unwrap_or o 0 ∷ []) ++ more) rest ≡ whole
-number_read None rest whole order is some = let none : false ≡ true = ap is_some is ∙ some in absurd cc
-number_read (Some number) None whole order is some = is
-number_read (Some number) (Some numbers) whole order is some = ap Some (append_assoc order (number ∷ []) numbers) ∙ is
+-- a number more is read
+pub number_read : (greatest : ℕ) (so_far field : List ℕ) (fields : List (List ℕ)) (number : ℕ) → number_of 9 0 greatest field ≡ Some number
+    → with_fields greatest so_far (field ∷ fields) ≡ with_fields greatest (so_far ++ (number ∷ [])) fields
+number_read greatest so_far field fields number is =
+    let added = elim (numbers_of greatest fields) as (λ o. option_map (λ more. so_far ++ more) (option_map (λ numbers. number ∷ numbers) o)
+    ≡ option_map (λ more. so_far ++ (number ∷ []) ++ more) o) [
+      | None ↦ refl
+      | Some numbers ↦ ap Some (sym (append_assoc so_far (number ∷ []) numbers))
+    ] in
+    rw is added
 
 -- the last number is read
-pub last_read : (o : Option ℕ) (whole : Option (List ℕ)) (order : List ℕ) → option_map (λ more. order ++ more) (option_and_then (λ number. option_map (λ
-    numbers. number ∷ numbers) (Some [])) o) ≡ whole → is_some whole ≡ true → whole ≡ Some (order ++ (unwrap_or o 0 ∷ []))
-last_read None whole order is some = let none : false ≡ true = ap is_some is ∙ some in absurd cc
-last_read (Some number) whole order is some = sym is
+pub last_read : (greatest : ℕ) (so_far field : List ℕ) (number : ℕ) → number_of 9 0 greatest field ≡ Some number
+    → with_fields greatest so_far (field ∷ []) ≡ Some (so_far ++ (number ∷ []))
+last_read greatest so_far field number is = rw is refl
 
--- the fields of a list that is read are numbers
-pub list_is : (greatest : ℕ) (text : List ℕ) → is_some (list_of greatest text) ≡ true → list_of greatest text ≡ numbers_of greatest (fields_of text)
-list_is greatest text some =
-    elim (nat_le (length (fields_of text)) 4096) as (λ test. is_some (if test then numbers_of greatest (fields_of text) else None) ≡ true
-    → (if test then numbers_of greatest (fields_of text) else None) ≡ numbers_of greatest (fields_of text)) [
-      | false ↦ λ none. absurd cc
-      | true ↦ λ is. refl
-    ] some
+-- a field is no number
+pub no_number : (greatest : ℕ) (so_far field : List ℕ) (fields : List (List ℕ)) → number_of 9 0 greatest field ≡ None
+    → with_fields greatest so_far (field ∷ fields) ≡ None
+no_number greatest so_far field fields none = rw none refl
 
-list_short : (greatest : ℕ) (text : List ℕ) → is_some (list_of greatest text) ≡ true → length (fields_of text) ≤ 4096
-list_short greatest text some =
+-- a list with few fields is read
+pub list_is : (greatest : ℕ) (text : List ℕ) → length (fields_of text) ≤ 4096 → list_of greatest text ≡ numbers_of greatest (fields_of text)
+list_is greatest text few =
+    let yes : nat_le (length (fields_of text)) 4096 ≡ true = grind (arith, nat_tests) in
+    ap (λ test. if test then numbers_of greatest (fields_of text) else None) yes
+
+pub list_too_long : (greatest : ℕ) (text : List ℕ) → 4096 < length (fields_of text) → list_of greatest text ≡ None
+list_too_long greatest text many =
+    let no : nat_le (length (fields_of text)) 4096 ≡ false = grind (arith, nat_tests) in
+    ap (λ test. if test then numbers_of greatest (fields_of text) else None) no
+
+-- a list with a field that is no number is not read
+pub list_none : (greatest : ℕ) (text : List ℕ) → numbers_of greatest (fields_of text) ≡ None → list_of greatest text ≡ None
+list_none greatest text none =
+    elim (nat_le (length (fields_of text)) 4096) as (λ test. (if test then numbers_of greatest (fields_of text) else None) ≡ None) [
+      | false ↦ refl
+      | true ↦ none
+    ]
+
+-- a list that is read has few fields, and is that of their numbers
+list_some : (greatest : ℕ) (text order : List ℕ) → list_of greatest text ≡ Some order
+    → (length (fields_of text) ≤ 4096) × (numbers_of greatest (fields_of text) ≡ Some order)
+list_some greatest text order some =
     elim (nat_le (length (fields_of text)) 4096) as (λ test. nat_le (length (fields_of text)) 4096 ≡ test
-    → is_some (if test then numbers_of greatest (fields_of text) else None) ≡ true → length (fields_of text) ≤ 4096) [
+    → (if test then numbers_of greatest (fields_of text) else None) ≡ Some order
+    → (length (fields_of text) ≤ 4096) × (numbers_of greatest (fields_of text) ≡ Some order)) [
       | false ↦ λ no none. absurd cc
-      | true ↦ λ yes is. grind (arith, nat_tests)
+      | true ↦ λ yes is. (grind (arith, nat_tests), is)
     ] refl some
 
 -- the number of a word is within its bounds
@@ -179,14 +155,19 @@ numbers_within greatest (field ∷ fields) numbers is =
           ] refl
     ] refl is
 
--- an order has workers alone, and at most 4,096 of them
-pub order_within : (workers : ℕ) (text : Option (List ℕ)) (order : List ℕ) → 1 ≤ workers → order_of workers text ≡ Some order
-    → All (λ worker. worker < workers) order × (length order ≤ 4096)
+-- an order has workers alone, and at most so many of them
+pub order_within : (workers : ℕ) (text : Option (List ℕ)) (order : List ℕ) → 1 ≤ workers → order_of workers text ≡ Some order → IsOrder workers order
 order_within workers None order some is =
     let same : [] ≡ order = cc in
-    subst (λ ns. All (λ worker. worker < workers) ns × (length ns ≤ 4096)) same (All-nil (λ n. n < workers), omega arith)
+    subst (IsOrder workers) same (All-nil (λ n. n < workers), omega arith)
 order_within workers (Some text) order some is =
-    let read : is_some (list_of (workers - 1) text) ≡ true = ap is_some is in
-    let within = numbers_within (workers - 1) (fields_of text) order (sym (list_is (workers - 1) text read) ∙ is) in
-    let few : length (fields_of text) ≤ 4096 = list_short (workers - 1) text read in
-    (λ k default short. omega (arith, within.0 k default short, some), omega (arith, within.1, few))
+    let read = list_some (workers - 1) text order is in
+    let within = numbers_within (workers - 1) (fields_of text) order read.1 in
+    (λ k default short. omega (arith, within.0 k default short, some), omega (arith, within.1, read.0))
+
+-- ---- words that are not read
+
+-- what rests on words that are not read is not read
+pub unread_then : {A B : Type 0} (a : Option A) (b : Option B) (refusal : Refusal) → (a ≡ None → b ≡ None) → IsUnread a refusal → IsUnread b refusal
+unread_then a b refusal carry (inl none) = inl (none.0, carry none.1)
+unread_then a b refusal carry (inr out) = inr out

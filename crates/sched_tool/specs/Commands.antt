@@ -1,60 +1,54 @@
--- What the commands that were read ask for, and what a command gives.
-use Rattle.std.specs.Prelude.{◌≡◌, ◌≤◌, ◌⊎◌, ℕ, List, [], Option, String, is_some, map, true}
-use Rattle.std.specs.Prelude.{unwrap_or}
+-- What each command does, and what it gives.
+use Rattle.std.specs.Prelude.{◌≡◌, ◌⊎◌, List, ℕ, Option, None, Some, String}
 use Rattle.std.specs.Global.{Global}
-use Rattle.std.specs.String.{string_bytes}
-use Rattle.sched_tool.specs.Behaviours.{Behaviour, behaviour_of}
-use Rattle.sched_tool.specs.Lines.{text_of}
+use Rattle.pool_run.specs.declared.threads.ThreadRan.{ThreadRan}
+use Rattle.pool_run.specs.Runs.{Course, threads}
+use Rattle.sched_tool.specs.Behaviours.{Behaviour, usage_behaviour}
+use Rattle.sched_tool.specs.CheckCommand.{check_behaviour}
+use Rattle.sched_tool.specs.MakeCommand.{make_behaviour, summary_behaviour}
 use Rattle.sched_tool.specs.Outsides.{Outside}
 use Rattle.sched_tool.specs.ReadFaults.{FaultsAt}
+use Rattle.sched_tool.specs.Requests.{asked}
+use Rattle.sched_tool.specs.RunCommands.{order_behaviour, threads_behaviour}
 use Rattle.sched_tool.specs.Statuses.{answer_status, memory_status}
-use Rattle.sched_tool.specs.Words.{AskedRun, check, make, Meaning, meaning_of, order_of, run, steps}
-use Rattle.sched_tool.specs.Words.{turns}
+use Rattle.sched_tool.specs.Words.{check, make, Meaning, run}
 use Rattle.sched_tool.specs.declared.program.output.Output.{Output}
 use Rattle.sched_tool.specs.declared.program.refusal.Refusal.{Refusal}
-use Rattle.sched_tool.specs.declared.program.words.Command.{Command}
-use Rattle.sched_tool.specs.declared.program.words.Command.TheVariants.{Check, Make, Run, Steps}
-use Rattle.sched_tool.specs.declared.program.words.Command.TheVariants.{Turns}
-use Rattle.sched_tool.specs.declared.program.words.RunWords.{RunWords}
 
--- the run that a command asks for, by its words; the text of an order is read when the run begins
-abbrev pub run_meant : RunWords → AskedRun
-run_meant told = record {
-  script = told.script.now;
-  workers = told.workers;
-  slots = told.slots;
-  order = unwrap_or (order_of told.workers (text_of told.order)) [];
-}
+-- a run on one thread does this; one by threads is refused as words outside the grammar are
+abbrev pub if_on_one_thread : Course → Behaviour → Behaviour
+if_on_one_thread threads does = usage_behaviour
+if_on_one_thread course does = does
 
--- what a command asks for
-abbrev pub asked_by : Command → Meaning
-asked_by (Check file) = check file.now
-asked_by (Turns told) = turns (run_meant told)
-asked_by (Steps told) = steps (run_meant told)
-asked_by (Run told) = run (run_meant told)
-asked_by (Make number part) = make number part
+-- a run by threads does this; one on one thread is refused as words outside the grammar are
+abbrev pub if_by_threads : Course → Behaviour → Behaviour
+if_by_threads threads does = does
+if_by_threads course does = usage_behaviour
 
--- the numbers of a run are within their limits, and its order is a list of its workers
-pub record IsRunnable (told : RunWords) : Type 0 where
-  pub workers : (1 ≤ told.workers) × (told.workers ≤ 64)
-  pub slots : (1 ≤ told.slots) × (told.slots ≤ 128)
-  pub order : is_some (order_of told.workers (text_of told.order)) ≡ true
+-- what `command` does by what words ask for; none if they are outside the grammar
+abbrev pub behaviour_of : Outside → Option Meaning → Behaviour
+behaviour_of outside None = usage_behaviour
+behaviour_of outside (Some (check file)) = check_behaviour outside.holds file
+behaviour_of outside (Some (run request)) =
+    if_on_one_thread request.course (order_behaviour outside request)
+behaviour_of outside (Some (make number None)) = summary_behaviour outside.gives number
+behaviour_of outside (Some (make number (Some part))) = make_behaviour number part
 
--- if a command asks for a run, it can begin
-abbrev pub CanRun : Command → Type 0
-CanRun (Check file) = Unit {0}
-CanRun (Turns told) = IsRunnable told
-CanRun (Steps told) = IsRunnable told
-CanRun (Run told) = IsRunnable told
-CanRun (Make number part) = Unit {0}
+-- what `command_run` does by what words ask for, and by what it leaves in `ran`
+abbrev pub behaviour_by : Outside → Option ThreadRan → Option Meaning → Behaviour
+behaviour_by outside ran (Some (run request)) =
+    if_by_threads request.course (threads_behaviour outside ran request)
+behaviour_by outside ran meaning = usage_behaviour
 
--- what the words ask for; none if they are outside the grammar
-abbrev pub asked : List (String Global) → Option Meaning
-asked words = meaning_of (map string_bytes words)
-
--- the behaviour of the command that the words ask for
+-- what `command` does by the words
 abbrev pub behaviour_asked : Outside → List (String Global) → Behaviour
 behaviour_asked outside words = behaviour_of outside (asked words)
+
+-- what `command_run` does by the words, and by what it leaves in `ran`
+abbrev pub behaviour_run : Outside → Option ThreadRan → List (String Global) → Behaviour
+behaviour_run outside ran words = behaviour_by outside ran (asked words)
+
+-- ---- what a command gives
 
 -- a command gave a text, and no read met a fault: it answers the command whole, at the status of an
 -- answer, or in part, at that of memory

@@ -2,16 +2,12 @@
 use Rattle.std.specs.Prelude.{◌≡◌, ◌⊎◌, ℕ, List}
 use Rattle.outside_io.specs.Faults.{CountRose, NameFailed, OnlyFailed}
 use Rattle.sched_tool.specs.declared.program.refusal.Refusal.{Refusal}
-use Rattle.sched_tool.specs.declared.program.refusal.Refusal.TheVariants.{Usage, CannotRead, Script}
-use Rattle.sched_tool.specs.declared.program.refusal.Refusal.TheVariants.{Table, OutOfMemory}
+use Rattle.sched_tool.specs.declared.program.refusal.Refusal.TheVariants.{CannotRead}
 
 -- reads met a fault only if the refusal names a file, and then just one, of that file
 abbrev pub FaultsAt : Refusal → List (List ℕ) → List (List ℕ) → Type 0
 FaultsAt (CannotRead file) old new = OnlyFailed old new file
-FaultsAt Usage old new = new ≡ old
-FaultsAt (Script fault) old new = new ≡ old
-FaultsAt (Table file fault) old new = new ≡ old
-FaultsAt OutOfMemory old new = new ≡ old
+FaultsAt refusal old new = new ≡ old
 
 -- reads met no fault, or one, of a file that is read
 abbrev pub OneFaultAtMost : (List ℕ → Type 0) → List (List ℕ) → List (List ℕ) → Type 0

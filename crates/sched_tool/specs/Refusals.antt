@@ -55,12 +55,11 @@ IsCheckRefused holds file OutOfMemory = Unit {0}
 
 -- why the table of an entry is refused
 abbrev pub IsEntryRefused : Contents → TableEntry → Refusal → Type 0
-IsEntryRefused holds entry Usage = ⊥
 IsEntryRefused holds entry (CannotRead name) = name ≡ entry.file
-IsEntryRefused holds entry (Script fault) = ⊥
 IsEntryRefused holds entry (Table name fault) =
     IsTableRefused holds name fault × (name ≡ entry.file)
 IsEntryRefused holds entry OutOfMemory = Unit {0}
+IsEntryRefused holds entry refusal = ⊥
 
 -- why the tables of a script are refused: the next to be read is, or memory ran out
 abbrev pub AreTablesRefused : Contents → List TableEntry → Refusal → Type 0

@@ -8,8 +8,8 @@ use Rattle.report_text.specs.AnswersText.{answer_lines}
 use Rattle.report_text.specs.declared.replies.Reply.{Reply}
 use Rattle.report_text.specs.declared.replies.Reply.TheVariants.{Answer, Memory}
 use Rattle.report_text.specs.declared.report.Report.{Report}
-use Rattle.sched_tool.specs.Runs.{Course}
-use Rattle.sched_tool.specs.declared.program.pace.Pace.TheVariants.{Turns}
+use Rattle.pool_run.specs.Runs.{Asked, turns}
+use Rattle.sched_tool.specs.Runs.{asked_over}
 
 -- the large input of a number, as a subject
 abbrev pub subject_of : ℕ → Subject
@@ -19,8 +19,8 @@ subject_of number = record {
 }
 
 -- a large input is run by 8 workers over 128 slots, in rounds
-abbrev pub rounds_of_eight : Course
-rounds_of_eight = record { pace = Turns; workers = 8; slots = 128; order = [] }
+abbrev pub rounds_of_eight : ℕ → Asked
+rounds_of_eight number = asked_over (subject_of number) 8 128 (turns [])
 
 abbrev pub is_answer : Reply → Bool
 is_answer (Answer answer) = true

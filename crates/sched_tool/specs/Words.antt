@@ -7,21 +7,22 @@ use Rattle.std.specs.Option.{option_and_then, option_map}
 use Rattle.std.specs.Str.Parse.{digits_value}
 use Rattle.load_gen.specs.declared.parts.Part.{Part}
 use Rattle.load_gen.specs.declared.parts.Part.TheVariants.{Script, TableT, TableU}
+use Rattle.slot_history.specs.declared.shape.TheConstants.{MOST_SLOTS, MOST_WORKERS}
+use Rattle.pool_run.specs.Runs.{Course, moves, threads, turns}
+use Rattle.pool_run.specs.declared.runs.TheConstants.{MOST_NUMBERS}
 use Rattle.sched_tool.specs.Grammar.{Given, given_by, nothing}
 
--- a run of the script in a file: so many workers and slots, and the order of the workers' turns
-pub record AskedRun : Type 0 where
+-- a run of the script in a file: so many workers and slots, and how the workers follow one another
+pub record Request : Type 0 where
   pub script : List ℕ
   pub workers : ℕ
   pub slots : ℕ
-  pub order : List ℕ
+  pub course : Course
 
 -- what a list of words asks for
 pub data Meaning : Type 0 where
   check : List ℕ → Meaning
-  turns : AskedRun → Meaning
-  steps : AskedRun → Meaning
-  run : AskedRun → Meaning
+  run : Request → Meaning
   make : ℕ → Option Part → Meaning
 
 -- ---- values
@@ -55,21 +56,22 @@ part_of word =
 -- `--workers N`: it must be given
 abbrev pub workers_of : Option (List ℕ) → Option ℕ
 workers_of None = None
-workers_of (Some text) = number_of 9 1 64 text
+workers_of (Some text) = number_of 9 1 MOST_WORKERS text
 
--- `--slots N`: 128 if it isn't given
+-- `--slots N`: the most if it isn't given
 abbrev pub slots_of : Option (List ℕ) → Option ℕ
-slots_of None = Some 128
-slots_of (Some text) = number_of 9 1 128 text
+slots_of None = Some MOST_SLOTS
+slots_of (Some text) = number_of 9 1 MOST_SLOTS text
 
 -- the fields of a list, which have a comma between
 abbrev pub fields_of : List ℕ → List (List ℕ)
 fields_of text = slice_split (λ byte. byte == 44) text
 
--- 1 to 4,096 numbers with a comma between, each at most the greatest
+-- 1 to so many numbers with a comma between, each at most the greatest
 abbrev pub list_of : ℕ → List ℕ → Option (List ℕ)
 list_of greatest text =
-    if nat_le (length (fields_of text)) 4096 then numbers_of greatest (fields_of text) else None
+    if nat_le (length (fields_of text)) MOST_NUMBERS
+    then numbers_of greatest (fields_of text) else None
 
 -- `--order LIST`: numbers of workers; the empty order if it isn't given
 abbrev pub order_of : ℕ → Option (List ℕ) → Option (List ℕ)
@@ -92,14 +94,23 @@ make_of (Some number) (Some part) = option_and_then
     (λ n. option_map (λ told. make n (Some told)) (part_of part))
     (number_of 10 0 4_294_967_295 number)
 
--- `SCRIPT --workers N [--slots N] [--order LIST]`
-abbrev pub run_of : Given → Option AskedRun
-run_of given = option_and_then
+-- how the workers of a command follow one another: by an order, if it has one. `run` has none.
+abbrev pub course_in : List ℕ → ℕ → Option (List ℕ) → Option Course
+course_in command workers order =
+    if bytes_eq command (codes "turns") then option_map turns (order_of workers order)
+    else if bytes_eq command (codes "steps") then option_map moves (order_of workers order)
+    else if bytes_eq command (codes "run") then
+    (if is_none order then Some threads else None)
+    else None
+
+-- `SCRIPT --workers N [--slots N] [--order LIST]`, with the options that the command has
+abbrev pub run_of : List ℕ → Given → Option Request
+run_of command given = option_and_then
     (λ file. option_and_then
     (λ count. option_and_then
     (λ width. option_map
-    (λ numbers. record { script = file; workers = count; slots = width; order = numbers })
-    (order_of count given.order))
+    (λ way. record { script = file; workers = count; slots = width; course = way })
+    (course_in command count given.order))
     (slots_of given.slots))
     (workers_of given.workers))
     (script_of given.first given.second)
@@ -115,11 +126,7 @@ meaning_in command given =
     (if is_bare given then option_map check (script_of given.first given.second) else None)
     else if bytes_eq command (codes "make") then
     (if is_bare given then make_of given.first given.second else None)
-    else if bytes_eq command (codes "turns") then option_map turns (run_of given)
-    else if bytes_eq command (codes "steps") then option_map steps (run_of given)
-    else if bytes_eq command (codes "run") then
-    (if is_none given.order then option_map run (run_of given) else None)
-    else None
+    else option_map run (run_of command given)
 
 -- what a list of words means; none if it is outside the grammar
 abbrev pub meaning_of : List (List ℕ) → Option Meaning

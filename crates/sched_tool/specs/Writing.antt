@@ -8,8 +8,7 @@ use Rattle.sched_tool.specs.ErrorLines.{error_bytes}
 use Rattle.sched_tool.specs.ReadFaults.{FaultsAt}
 use Rattle.sched_tool.specs.Statuses.{status_of, write_status}
 use Rattle.sched_tool.specs.declared.program.refusal.Refusal.{Refusal}
-use Rattle.sched_tool.specs.declared.program.refusal.Refusal.TheVariants.{Usage, CannotRead, Script}
-use Rattle.sched_tool.specs.declared.program.refusal.Refusal.TheVariants.{Table, OutOfMemory}
+use Rattle.sched_tool.specs.declared.program.refusal.Refusal.TheVariants.{CannotRead, OutOfMemory}
 
 -- the bytes written to a sink, if they are known, and the count of its faults
 pub record SinkState : Type 0 where
@@ -36,11 +35,9 @@ pub record IsRefusalWritten (old new : SinkState) (refusal : Refusal) (result : 
 
 -- a refusal that rests on the words and on what the files hold, not on a fault or on memory
 abbrev pub IsFinding : Refusal → Type 0
-IsFinding Usage = Unit {0}
 IsFinding (CannotRead file) = ⊥
-IsFinding (Script fault) = Unit {0}
-IsFinding (Table file fault) = Unit {0}
 IsFinding OutOfMemory = ⊥
+IsFinding refusal = Unit {0}
 
 -- a refusal is told: it has its cause, the status is its own, and its line was written
 pub record TellsRefusal (does : Behaviour) (old new : Option (List ℕ)) (result : ℕ) : Type 0 where

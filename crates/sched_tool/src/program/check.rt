@@ -1,7 +1,7 @@
 //! The command `check`: the answers to the queries of a script, one after another.
 ghost use Rattle.std.specs.Prelude.{◌≡◌, ◌≤◌, ℕ, List, All, IfErr, IfOk, length, map};
 ghost use Rattle.plan_ast.specs.Checks.{IsCheckedFor, query_of};
-ghost use Rattle.sched_tool.specs.Behaviours.{check_behaviour, check_text, replies_of};
+ghost use Rattle.sched_tool.specs.CheckCommand.{check_behaviour, check_text, replies_of};
 ghost use Rattle.sched_tool.specs.Commands.{Gives, GivesUp};
 ghost use Rattle.sched_tool.specs.Outsides.{may_hold};
 

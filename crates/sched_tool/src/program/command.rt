@@ -12,7 +12,6 @@ use super::check::check_script;
 use super::error_lines::OUT_OF_MEMORY_LINE;
 use super::make::make_text;
 use super::output::Output;
-use super::pace::Pace;
 use super::refusal::Refusal;
 use super::reports::run_script;
 use super::status::{CANNOT_WRITE, OUT_OF_MEMORY, status_of};
@@ -28,11 +27,11 @@ use std::alloc::{AllocError, Global};
 /// says how long the ranges of a run take.
 ///
 /// The first refusal in this order is written, as its line, in place of all else: the words are
-/// outside the grammar, or ask for a command that isn't built (2); the script can't be read (3) or
-/// is refused (5); table by table in the script's order, the table can't be read (3) or is refused
-/// (6); a query is refused (5). If memory runs out, the command ends there (7); but if only queries
-/// of a run run out of memory, the report or the summary says so, and the status is 7 too. If a
-/// write fails, the status is 4, and a prefix of the text was written.
+/// outside the grammar, or ask for `run`, which `command_run` does (2); the script can't be read
+/// (3) or is refused (5); table by table in the script's order, the table can't be read (3) or is
+/// refused (6); a query is refused (5). If memory runs out, the command ends there (7); but if only
+/// queries of a run run out of memory, the report or the summary says so, and the status is 7 too.
+/// If a write fails, the status is 4, and a prefix of the text was written.
 pub fn command<F: Files, S: Sink, M: Meter>(
     alloc: Global,
     words: &[String],
@@ -68,20 +67,16 @@ fn run_command<F: Files, M: Meter>(
         (behaviour_asked (possible (F.content files.old) M.may_take) words.now)
         (F.failed files.old) (F.failed files.new)) }
 {
-    match read_words(words) {
-        Some(Command::Check(script)) => check_script(alloc, files, script),
-        Some(Command::Turns(run)) => run_script(alloc, files, meter, Pace::Turns, run),
-        Some(Command::Steps(run)) => run_script(alloc, files, meter, Pace::Steps, run),
-        Some(Command::Make(number, Some(part))) => make_text(alloc, number, part),
-        Some(Command::Make(number, None)) => make_summary(alloc, number, meter),
-        // This isn't built.
-        Some(Command::Run(_)) => Err(Refusal::Usage),
-        None => Err(Refusal::Usage),
+    match read_words(alloc, words)? {
+        Command::Check(script) => check_script(alloc, files, script),
+        Command::Run(request) => run_script(alloc, files, meter, &request),
+        Command::Make(number, Some(part)) => make_text(alloc, number, part),
+        Command::Make(number, None) => make_summary(alloc, number, meter),
     }
 }
 
-// Writes what a command ended with, its text or the line of its refusal, and answers the status.
-fn tell<S: Sink>(alloc: Global, out: &mut S, ended: Result<Output, Refusal>) -> u8
+/// Writes what a command ended with, its text or the line of its refusal, and answers the status.
+pub fn tell<S: Sink>(alloc: Global, out: &mut S, ended: Result<Output, Refusal>) -> u8
     ensures answered { IfOk ended (λ output. IsWritten
         (record { written = S.written out.old; faults = S.faults out.old })
         (record { written = S.written out.new; faults = S.faults out.new })

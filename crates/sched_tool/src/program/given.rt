@@ -1,5 +1,6 @@
 //! The words that the process was given, or why there are none.
 ghost use Rattle.std.specs.Prelude.{◌≡◌, ◌≢◌, IfErr, IfOk};
+ghost use Rattle.sched_tool.specs.Programs.{asks_for_run, words_in};
 ghost use Rattle.std.specs.IoError.{error_kind};
 ghost use Rattle.std.specs.declared.io.ErrorKind.{ErrorKind};
 ghost use Rattle.sched_tool.specs.declared.program.given.GivenWords.{GivenWords};
@@ -31,5 +32,25 @@ impl GivenWords {
             Err(error) if error.kind() == io::ErrorKind::InvalidData => GivenWords::NotText,
             Err(_) => GivenWords::OutOfMemory,
         }
+    }
+
+    /// Whether the first word is `run`.
+    pub fn ask_for_run(&self) -> bool
+        ensures { result ≡ asks_for_run (words_in self.now) }
+    {
+        match self {
+            GivenWords::Words(words) => asks_for_run(words.as_slice()),
+            _ => false,
+        }
+    }
+}
+
+/// Whether the first of the words is `run`.
+pub fn asks_for_run(words: &[String]) -> bool
+    ensures { result ≡ asks_for_run words.now }
+{
+    match words {
+        [] => false,
+        [first, ..] => first.as_str() == "run",
     }
 }

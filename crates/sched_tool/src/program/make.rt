@@ -1,6 +1,6 @@
 //! The command `make`: the text of a part of a large input.
 ghost use Rattle.std.specs.Prelude.{ℕ, List, IfErr, IfOk};
-ghost use Rattle.sched_tool.specs.Behaviours.{make_behaviour};
+ghost use Rattle.sched_tool.specs.MakeCommand.{make_behaviour};
 ghost use Rattle.sched_tool.specs.Commands.{Gives, GivesUp};
 
 use super::output::Output;

@@ -2,7 +2,7 @@
 ghost use Rattle.std.specs.Prelude.{◌≡◌, ◌≤◌, All, IfOk, length, map};
 ghost use Rattle.std.specs.Arc.{arc_value};
 ghost use Rattle.plan_ast.specs.Checks.{IsCheckedFor};
-ghost use Rattle.sched_tool.specs.Runs.{subject_of_plan};
+ghost use Rattle.bench_cell.specs.Plans.{subject_of_plan};
 ghost use Rattle.sched_tool.specs.Subjects.{subject_in};
 
 use super::subject::Opened;

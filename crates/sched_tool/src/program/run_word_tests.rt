@@ -1,22 +1,44 @@
 //! Tests of `read_words`: worked words of runs, the limits of an order, and very long words.
+use super::refusal::Refusal;
+use super::request::{Course, Request};
 use super::tests::{repeated, texts};
 use super::words::{Command, read_words};
 use std::alloc::{AllocError, Global};
 use std::test::Fail;
 
-// The run that words ask for, as text.
-fn run_text(alloc: Global, words: &[String]) -> Result<String, AllocError> {
-    let (name, run) = match read_words(words) {
-        Some(Command::Turns(run)) => ("turns", run),
-        Some(Command::Steps(run)) => ("steps", run),
-        Some(Command::Run(run)) => ("run", run),
-        _ => return String::from_str(alloc, "no run"),
+// Numbers with a comma between.
+fn numbers_text(alloc: Global, numbers: &[u32]) -> Result<String, AllocError> {
+    let mut text = String::new(alloc);
+    for (place, number) in numbers.iter().enumerate() {
+        let digits = format!(in alloc; "{number}")?;
+        if place > 0 {
+            text.push_str(",")?;
+        }
+        text.push_str(digits.as_str())?;
+    }
+    Ok(text)
+}
+
+// A request as text: its command, its script and numbers, and its order.
+fn request_text(alloc: Global, request: &Request<'_>) -> Result<String, AllocError> {
+    let (name, order): (&str, &[u32]) = match &request.course {
+        Course::Turns(order) => ("turns", order.as_slice()),
+        Course::Steps(order) => ("steps", order.as_slice()),
+        Course::Threads => ("run", &[]),
     };
-    let order = run.order.unwrap_or("");
+    let order = numbers_text(alloc, order)?;
     format!(in alloc;
         "{name} {} {} {} [{order}]",
-        run.script, run.workers, run.slots
+        request.script, request.workers, request.slots
     )
+}
+
+// The run that words ask for, as text.
+fn run_text(alloc: Global, words: &[String]) -> Result<String, AllocError> {
+    match read_words(alloc, words) {
+        Ok(Command::Run(request)) => request_text(alloc, &request),
+        _ => String::from_str(alloc, "no run"),
+    }
 }
 
 // Words with a space between, and the run that they ask for.
@@ -35,7 +57,7 @@ fn reads_words_of_runs(rt: HostRuntime) -> Result<(), Fail> {
         ),
         (
             "turns s --workers 2 --order=0,000000001",
-            "turns s 2 128 [0,000000001]",
+            "turns s 2 128 [0,1]",
         ),
         (
             "turns --slots=1 --workers 64 -- --order",
@@ -119,7 +141,8 @@ fn refuses_words_of_runs(rt: HostRuntime) -> Result<(), Fail> {
     ];
     for words in cases {
         let words = texts(rt.alloc(), words)?;
-        assert!(rt; read_words(words.as_slice()).is_none(), "{words:?}");
+        let read = read_words(rt.alloc(), words.as_slice());
+        assert!(rt; matches!(read, Err(Refusal::Usage)), "{words:?}");
     }
     Ok(())
 }
@@ -155,7 +178,7 @@ fn reads_long_words(rt: HostRuntime) -> Result<(), Fail> {
     for (words, fits) in cases {
         let mut given = texts(alloc, words)?;
         given.push(long.clone()?)?;
-        let reads = read_words(given.as_slice()).is_some();
+        let reads = read_words(alloc, given.as_slice()).is_ok();
         assert_eq!(rt; reads, fits, "{words:?}");
     }
     Ok(())

@@ -1,6 +1,6 @@
 //! The command `make` of a number alone: the summary of the run of its large input.
-ghost use Rattle.std.specs.Prelude.{◌≡◌, ◌≤◌, ℕ, List, All, IfErr, IfOk, None, count_by, length};
-ghost use Rattle.std.specs.Prelude.{map, sum_by};
+ghost use Rattle.std.specs.Prelude.{◌≡◌, ◌≤◌, ℕ, List, [], All, IfErr, IfOk, None, count_by};
+ghost use Rattle.std.specs.Prelude.{length, map, sum_by};
 ghost use Rattle.std.specs.Arc.{arc_value};
 ghost use Rattle.load_gen.specs.Summaries.{summary_text};
 ghost use Rattle.plan_ast.specs.declared.queries.NamedTable.{NamedTable};
@@ -8,22 +8,23 @@ ghost use Rattle.report_text.specs.AnswersText.{answer_lines};
 ghost use Rattle.report_text.specs.declared.replies.QueryReply.{QueryReply};
 ghost use Rattle.report_text.specs.declared.report.Record.{Record};
 ghost use Rattle.script_json.specs.Format.{first_early};
-ghost use Rattle.sched_tool.specs.Behaviours.{summary_behaviour};
+ghost use Rattle.sched_tool.specs.MakeCommand.{summary_behaviour};
 ghost use Rattle.sched_tool.specs.Commands.{Gives, GivesUp};
-ghost use Rattle.sched_tool.specs.Runs.{FitsReplies, IsReportIn, subject_of_plan};
-ghost use Rattle.sched_tool.specs.Summaries.{is_answer, lines_in, rounds_of_eight, subject_of};
+ghost use Rattle.bench_cell.specs.Plans.{subject_of_plan};
+ghost use Rattle.pool_run.specs.Runs.{ReportsBy, turns};
+ghost use Rattle.sched_tool.specs.Runs.{FitsReplies, asked_over};
+ghost use Rattle.sched_tool.specs.Summaries.{is_answer, lines_in, subject_of};
 ghost use Rattle.sched_tool.specs.Summaries.{summary_of};
 
 use super::output::Output;
-use super::pace::Pace;
 use super::plan::plan_of;
 use super::refusal::Refusal;
-use super::reports::report_of;
 use super::subject::{Opened, check_queries};
 use bench_cell::Plan;
 use load_gen::{Generated, Summary, generate};
 use outside_io::Meter;
 use plan_ast::{Answer, NamedTable};
+use pool_run::run_turns;
 use report_text::{QueryReply, Record, Reply, Report};
 use std::alloc::{AllocError, Global};
 use std::sync::Arc;
@@ -42,18 +43,19 @@ pub fn make_summary<M: Meter>(alloc: Global, number: u32, meter: &mut M) -> Resu
         → GivesUp (summary_behaviour M.may_take number) failed failed refusal) }
 {
     let plan = generated_plan(alloc, number)?;
-    let report = report_of(
-        alloc,
-        Arc::try_clone(&plan)?,
-        Pace::Turns,
-        WORKERS,
-        SLOTS,
-        &[],
-        meter,
-    )?;
+    let report = run_rounds(alloc, Arc::try_clone(&plan)?, meter)?;
     let summary = summary_of(number, &plan, &report);
     let text = format!(in alloc; "{summary}")?;
     Ok(Output::of_run(text.into_bytes(), report.replies.as_slice()))
+}
+
+// The report of the run of a large input's plan.
+fn run_rounds<M: Meter>(alloc: Global, plan: Arc<Plan>, meter: &mut M) -> Result<Report, AllocError>
+    requires { first_early 0 0 (subject_of_plan (arc_value plan)).queries ≡ None }
+    ensures { IfOk result (ReportsBy M.may_take
+        (asked_over (subject_of_plan (arc_value plan)) 8 128 (turns []))) }
+{
+    Ok(run_turns(alloc, plan, WORKERS, SLOTS, &[], meter)?.report)
 }
 
 // The plan of a number's large input.

@@ -3,6 +3,7 @@
 ghost use Rattle.std.specs.Prelude.{◌≤◌, length};
 
 use super::command::command;
+use super::thread_tests::all_meters;
 use super::{Ended, GivenWords, run_program};
 use outside_io::{CostMeter, MemFiles, MemSink};
 use std::alloc::{AllocError, Global};
@@ -677,14 +678,13 @@ fn takes_names_of_many_bytes(rt: HostRuntime) -> Result<(), Fail> {
 #[test]
 fn ends_by_its_words(rt: HostRuntime) -> Result<(), Fail> {
     let alloc = rt.alloc();
-    let check = vec![in alloc;
-        String::from_str(alloc, "check")?,
-        String::from_str(alloc, "s")?,
-    ]?;
+    let check = texts(alloc, &["check", "s"])?;
+    let run = texts(alloc, &["run", "s", "--workers=1"])?;
     let usage = "error: usage\n";
     let memory = "error: out of memory\n";
     let cases = [
         (Ok(check), 3, "error: cannot read s\n"),
+        (Ok(run), 3, "error: cannot read s\n"),
         (Ok(Vec::new(alloc)), 2, usage),
         (Err(io::ErrorKind::InvalidData), 2, usage),
         (Err(io::ErrorKind::OutOfMemory), 7, memory),
@@ -695,7 +695,16 @@ fn ends_by_its_words(rt: HostRuntime) -> Result<(), Fail> {
         let mut files = MemFiles::new(alloc, Vec::new(alloc));
         let mut out = MemSink::new(alloc, 100, 100, Vec::new(alloc))?;
         let mut meter = CostMeter::new();
-        let ended = run_program(alloc, words, &mut files, &mut out, &mut meter);
+        let mut clocks = all_meters(alloc)?;
+        let ended = run_program(
+            &rt,
+            alloc,
+            words,
+            &mut files,
+            &mut out,
+            &mut meter,
+            &mut clocks,
+        );
         let Ended { status: answered } = ended;
         assert_eq!(rt; out.written(), text.as_bytes(), "{text}");
         assert_eq!(rt; answered, status, "{text}");

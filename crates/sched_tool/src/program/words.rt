@@ -1,47 +1,36 @@
 //! What the words after the program's name mean.
-ghost use Rattle.std.specs.Prelude.{◌≡◌, ◌≤◌, None, Some, IfSome, MatchOption, is_some};
+ghost use Rattle.std.specs.Prelude.{◌≡◌, ◌≤◌, Some, IfErr, IfOk};
 ghost use Rattle.std.specs.Char.{is_ascii_digit};
 ghost use Rattle.std.specs.List.{list_all};
-ghost use Rattle.sched_tool.specs.Commands.{asked, asked_by, run_meant};
-ghost use Rattle.sched_tool.specs.Commands.{CanRun, IsRunnable};
+ghost use Rattle.slot_history.specs.declared.shape.TheConstants.{MOST_SLOTS, MOST_WORKERS};
+ghost use Rattle.sched_tool.specs.Requests.{CanRun, IsRunnable, IsOrder, IsUnread, asked};
+ghost use Rattle.sched_tool.specs.Requests.{asked_by, course_of, request_of};
+ghost use Rattle.pool_run.specs.Runs.{order_of};
 ghost use Rattle.sched_tool.specs.Lines.{seen, text_of};
-ghost use Rattle.sched_tool.specs.Words.{is_bare, list_of, make_of, meaning_in, number_of};
-ghost use Rattle.sched_tool.specs.Words.{order_of};
-ghost use Rattle.sched_tool.specs.Words.{part_of, run_of, script_of, slots_of};
+ghost use Rattle.sched_tool.specs.Words.{course_in, is_bare, make_of, meaning_in, number_of};
+ghost use Rattle.sched_tool.specs.Words.{part_of, run_of, script_of, slots_of, workers_of};
 
 use super::line::{Line, read_line};
+use super::order::read_order;
+use super::refusal::Refusal;
+use super::request::{Course, Request};
 use load_gen::Part;
-
-// The most numbers in an order.
-const MOST_FIELDS: usize = 4096;
+use slot_history::{MOST_SLOTS, MOST_WORKERS};
+use std::alloc::Global;
 
 /// What the program is asked for.
-#[derive(Clone, Copy, Debug)]
+#[derive(Drop)]
 pub enum Command<'a> {
     /// The answers to the queries of the script in this file.
     Check(&'a str),
-    /// A run by whole turns.
-    Turns(RunWords<'a>),
-    /// A run by single steps.
-    Steps(RunWords<'a>),
-    /// A run by threads. Its order is empty.
-    Run(RunWords<'a>),
+    /// A run of a script, on one thread or by threads.
+    Run(Request<'a>),
     /// The text of this part of the large input of this number, or the summary of its run.
     Make(u32, Option<Part>),
 }
 
-/// How a script is to be run.
-#[derive(Clone, Copy, Debug)]
-pub struct RunWords<'a> {
-    pub script: &'a str,
-    pub workers: u32,
-    pub slots: u32,
-    /// The order of the workers' turns: their numbers with a comma between.
-    pub order: Option<&'a str>,
-}
-
 /// Reads the words after the program's name: the command first, then those that its line in the
-/// grammar has. All other lists of words are outside the grammar. It never allocates.
+/// grammar has. All other lists of words are outside the grammar.
 ///
 /// ```text
 /// check SCRIPT
@@ -51,52 +40,47 @@ pub struct RunWords<'a> {
 /// make NUMBER [PART]
 /// ```
 ///
-/// SCRIPT has at least one byte. N is written in one to nine digits: 1 to 64 workers, and 1 to 128
-/// slots (128 by default). LIST is 1 to 4,096 such numbers with a comma between, each below the
-/// number of workers. NUMBER is at most 4,294,967,295, in one to ten digits. PART is `script`, `t`
-/// or `u`.
-pub fn read_words(words: &[String]) -> Option<Command<'_>>
-    ensures meant { MatchOption result (asked words.now ≡ None)
-        (λ command. asked words.now ≡ Some (asked_by command)) }
-    ensures runnable { IfSome result CanRun }
+/// SCRIPT has at least one byte. N is written in one to nine digits: 1 to `MOST_WORKERS` workers,
+/// and 1 to `MOST_SLOTS` slots (that many by default). LIST is 1 to `MOST_NUMBERS` such numbers with
+/// a comma between, each below the number of workers. NUMBER is at most 4,294,967,295, in one to
+/// ten digits. PART is `script`, `t` or `u`.
+pub fn read_words(alloc: Global, words: &[String]) -> Result<Command<'_>, Refusal>
+    ensures meant { IfOk result (λ command. asked words.now ≡ Some (asked_by command)) }
+    ensures runnable { IfOk result CanRun }
+    ensures err { IfErr result (IsUnread (asked words.now)) }
 {
     match words {
-        [] => None,
-        [command, rest @ ..] => read_command(command.as_str(), read_line(rest)?),
+        [] => Err(Refusal::Usage),
+        [command, rest @ ..] => match read_line(rest) {
+            Some(line) => read_command(alloc, command.as_str(), line),
+            None => Err(Refusal::Usage),
+        },
     }
 }
 
 // Reads a command with what the words after it give.
-fn read_command<'a>(command: &str, line: Line<'a>) -> Option<Command<'a>>
-    ensures meant { MatchOption result (meaning_in command.now (seen line.entry) ≡ None)
+fn read_command<'a>(alloc: Global, command: &str, line: Line<'a>) -> Result<Command<'a>, Refusal>
+    ensures meant { IfOk result
         (λ told. meaning_in command.now (seen line.entry) ≡ Some (asked_by told)) }
-    ensures runnable { IfSome result CanRun }
+    ensures runnable { IfOk result CanRun }
+    ensures err { IfErr result (IsUnread (meaning_in command.now (seen line.entry))) }
 {
     match command {
         "check" => {
             if is_bare(line) {
-                Some(Command::Check(read_script(line.first, line.second)?))
+                Ok(Command::Check(read_script(line.first, line.second)?))
             } else {
-                None
+                Err(Refusal::Usage)
             }
         }
         "make" => {
             if is_bare(line) {
-                read_make(line.first?, line.second)
+                read_make(line.first, line.second)
             } else {
-                None
+                Err(Refusal::Usage)
             }
         }
-        "turns" => Some(Command::Turns(read_run(line)?)),
-        "steps" => Some(Command::Steps(read_run(line)?)),
-        "run" => {
-            if line.order.is_none() {
-                Some(Command::Run(read_run(line)?))
-            } else {
-                None
-            }
-        }
-        _ => None,
+        _ => Ok(Command::Run(read_run(alloc, command, line)?)),
     }
 }
 
@@ -108,88 +92,99 @@ fn is_bare(line: Line<'_>) -> bool
 }
 
 // Reads the positional words of a command that has a script's file alone.
-fn read_script<'a>(file: Option<&'a str>, more: Option<&'a str>) -> Option<&'a str>
-    ensures { let script = script_of (text_of file.entry) (text_of more.entry) in
-        MatchOption result (script ≡ None) (λ told. script ≡ Some told.now) }
+fn read_script<'a>(file: Option<&'a str>, more: Option<&'a str>) -> Result<&'a str, Refusal>
+    ensures ok { IfOk result
+        (λ script. script_of (text_of file.entry) (text_of more.entry) ≡ Some script.now) }
+    ensures err { IfErr result (IsUnread (script_of (text_of file.entry) (text_of more.entry))) }
 {
     match (file, more) {
-        (Some(file), None) if !file.is_empty() => Some(file),
-        _ => None,
+        (Some(file), None) if !file.is_empty() => Ok(file),
+        _ => Err(Refusal::Usage),
     }
 }
 
 // Reads the number and the part of `make`.
-fn read_make<'a>(number: &str, part: Option<&'a str>) -> Option<Command<'a>>
-    ensures meant { let meaning = make_of (Some number.now) (text_of part.entry) in
-        MatchOption result (meaning ≡ None) (λ told. meaning ≡ Some (asked_by told)) }
-    ensures runnable { IfSome result CanRun }
+fn read_make<'a>(number: Option<&str>, part: Option<&str>) -> Result<Command<'a>, Refusal>
+    ensures meant { IfOk result
+        (λ told. make_of (text_of number.entry) (text_of part.entry) ≡ Some (asked_by told)) }
+    ensures runnable { IfOk result CanRun }
+    ensures err { IfErr result (IsUnread (make_of (text_of number.entry) (text_of part.entry))) }
 {
+    let Some(number) = number else {
+        return Err(Refusal::Usage);
+    };
     let number = number_of(number, 10, 0, u32::MAX)?;
     match part {
-        None => Some(Command::Make(number, None)),
-        Some(part) => Some(Command::Make(number, Some(part_of(part)?))),
+        None => Ok(Command::Make(number, None)),
+        Some(part) => match part_of(part) {
+            Some(part) => Ok(Command::Make(number, Some(part))),
+            None => Err(Refusal::Usage),
+        },
     }
 }
 
-// Reads a script's file and the options of its run.
-fn read_run<'a>(line: Line<'a>) -> Option<RunWords<'a>>
-    ensures meant { MatchOption result (run_of (seen line.entry) ≡ None)
-        (λ told. run_of (seen line.entry) ≡ Some (run_meant told)) }
-    ensures runnable { IfSome result IsRunnable }
+// Reads a run: a script's file, the options, and the course of this command.
+fn read_run<'a>(alloc: Global, command: &str, line: Line<'a>) -> Result<Request<'a>, Refusal>
+    ensures meant { IfOk result
+        (λ told. run_of command.now (seen line.entry) ≡ Some (request_of told)) }
+    ensures runnable { IfOk result (λ told. IsRunnable (request_of told)) }
+    ensures err { IfErr result (IsUnread (run_of command.now (seen line.entry))) }
 {
     let script = read_script(line.first, line.second)?;
-    let workers = number_of(line.workers?, 9, 1, 64)?;
+    let workers = workers_of(line.workers)?;
     let slots = slots_of(line.slots)?;
-    if !is_order(line.order, workers) {
-        return None;
-    }
-    Some(RunWords {
+    let course = read_course(alloc, command, workers, line.order)?;
+    Ok(Request {
         script,
         workers,
         slots,
-        order: line.order,
+        course,
     })
 }
 
+// The number of workers, which must be given.
+fn workers_of(text: Option<&str>) -> Result<u32, Refusal>
+    ensures is { IfOk result (λ workers. workers_of (text_of text.entry) ≡ Some workers) }
+    ensures within { IfOk result (λ workers. (1 ≤ workers) × (workers ≤ MOST_WORKERS)) }
+    ensures err { IfErr result (IsUnread (workers_of (text_of text.entry))) }
+{
+    match text {
+        None => Err(Refusal::Usage),
+        Some(text) => number_of(text, 9, 1, MOST_WORKERS),
+    }
+}
+
 // The number of slots.
-fn slots_of(text: Option<&str>) -> Option<u32>
-    ensures is { result ≡ slots_of (text_of text.entry) }
-    ensures within { IfSome result (λ slots. (1 ≤ slots) × (slots ≤ 128)) }
+fn slots_of(text: Option<&str>) -> Result<u32, Refusal>
+    ensures is { IfOk result (λ slots. slots_of (text_of text.entry) ≡ Some slots) }
+    ensures within { IfOk result (λ slots. (1 ≤ slots) × (slots ≤ MOST_SLOTS)) }
+    ensures err { IfErr result (IsUnread (slots_of (text_of text.entry))) }
 {
     match text {
-        None => Some(128),
-        Some(text) => number_of(text, 9, 1, 128),
+        None => Ok(MOST_SLOTS),
+        Some(text) => number_of(text, 9, 1, MOST_SLOTS),
     }
 }
 
-// Whether an order, if it is given, is a list of workers.
-fn is_order(text: Option<&str>, workers: u32) -> bool
+// The course of the runs of a command, with the order if one is given: `run` has none.
+fn read_course(
+    alloc: Global,
+    command: &str,
+    workers: u32,
+    order: Option<&str>,
+) -> Result<Course, Refusal>
     requires { 1 ≤ workers }
-    ensures { result ≡ is_some (order_of workers (text_of text.entry)) }
+    ensures meant { IfOk result
+        (λ course. course_in command.now workers (text_of order.entry) ≡ Some (course_of course)) }
+    ensures within { IfOk result (λ course. IsOrder workers (order_of (course_of course))) }
+    ensures err { IfErr result (IsUnread (course_in command.now workers (text_of order.entry))) }
 {
-    match text {
-        None => true,
-        Some(text) => is_list(text, workers - 1),
+    match command {
+        "turns" => Ok(Course::Turns(read_order(alloc, workers, order)?)),
+        "steps" => Ok(Course::Steps(read_order(alloc, workers, order)?)),
+        "run" if order.is_none() => Ok(Course::Threads),
+        _ => Err(Refusal::Usage),
     }
-}
-
-// Whether a text is 1 to 4,096 numbers with a comma between, each at most the greatest.
-fn is_list(text: &str, greatest: u32) -> bool
-    ensures { result ≡ is_some (list_of greatest text.now) }
-{
-    let mut rest = text;
-    let mut fields = 1;
-    while let Some((field, more)) = rest.split_once(',') {
-        if fields == MOST_FIELDS {
-            return false;
-        }
-        if number_of(field, 9, 0, greatest).is_none() {
-            return false;
-        }
-        fields += 1;
-        rest = more;
-    }
-    number_of(rest, 9, 0, greatest).is_some()
 }
 
 // The part of a large input that a word names.
@@ -205,22 +200,23 @@ fn part_of(word: &str) -> Option<Part>
 }
 
 /// The number that a word writes: one to so many decimal digits, from the least to the greatest.
-pub fn number_of(word: &str, most: usize, least: u32, greatest: u32) -> Option<u32>
-    ensures is { result ≡ number_of most least greatest word.now }
-    ensures within { IfSome result (λ number. (least ≤ number) × (number ≤ greatest)) }
+pub fn number_of(word: &str, most: usize, least: u32, greatest: u32) -> Result<u32, Refusal>
+    ensures is { IfOk result (λ number. number_of most least greatest word.now ≡ Some number) }
+    ensures within { IfOk result (λ number. (least ≤ number) × (number ≤ greatest)) }
+    ensures err { IfErr result (IsUnread (number_of most least greatest word.now)) }
 {
     if word.len() > most || !are_digits(word.as_bytes()) {
-        return None;
+        return Err(Refusal::Usage);
     }
     match word.parse::<u32>() {
         Ok(number) => {
             if least <= number && number <= greatest {
-                Some(number)
+                Ok(number)
             } else {
-                None
+                Err(Refusal::Usage)
             }
         }
-        Err(_) => None,
+        Err(_) => Err(Refusal::Usage),
     }
 }
 

@@ -1,6 +1,6 @@
 use Rattle.std.proofs.Common.{◌≡◌, map, take}
 use Rattle.plan_ast.specs.Checks.{query_of}
-use Rattle.sched_tool.specs.Behaviours.{replies_of}
+use Rattle.sched_tool.specs.CheckCommand.{replies_of}
 use Rattle.sched_tool.proofs.program.check.answer_queries.Given as goal
 
 abbrev pub invariant-loop-query : goal.invariant-loop-query

@@ -1,6 +1,6 @@
 use Rattle.std.proofs.Common.{ap, inl, map, ◌∙◌}
 use Rattle.plan_ast.specs.Checks.{query_of}
-use Rattle.sched_tool.specs.Behaviours.{check_text}
+use Rattle.sched_tool.specs.CheckCommand.{check_text}
 use Rattle.sched_tool.specs.Subjects.{subject_in}
 use Rattle.sched_tool.proofs.program.check.check_script.Goals as goal
 

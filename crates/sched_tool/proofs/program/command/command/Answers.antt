@@ -1,5 +1,6 @@
 use Rattle.sched_tool.specs.Behaviours.{Behaviour}
-use Rattle.sched_tool.specs.Commands.{asked, behaviour_asked}
+use Rattle.sched_tool.specs.Commands.{behaviour_asked}
+use Rattle.sched_tool.specs.Requests.{asked}
 use Rattle.sched_tool.specs.Outsides.{possible}
 use Rattle.sched_tool.specs.Writing.{SinkState}
 use Rattle.sched_tool.proofs.CommandLemmas.{Ends, Ends-from}
@@ -19,6 +20,6 @@ returns g c =
     let ended : Ends may before after old new result = Ends-from may before after old new result c.run_command-ended.result
     c.run_command-ended.ensures.ok c.run_command-ended.ensures.err c.tell.ensures.answered c.tell.ensures.refused in
     record {
-      ends = ends_rightly content times before after old new result (asked c.args.words.now) ended;
+      ends = ends_rightly before after old new result content times (asked c.args.words.now) ended;
       kept = c.run_command-ended.ensures.kept;
     }

@@ -8,7 +8,7 @@ trap 'rm -rf "$work"' EXIT
 
 # NAME: compiles a plain program of this folder.
 compile() {
-    "${CXX:-c++}" -O2 -std=c++17 -o "$work/$1" "$here/$1.cpp"
+    "${CXX:-c++}" -O2 -std=c++17 -pthread -o "$work/$1" "$here/$1.cpp"
 }
 
 # FILE COLUMN: the median of a column.
@@ -25,17 +25,20 @@ built_program() {
     [ "$status" -eq 2 ] && ls -t "$here"/../out/sched_tool-* | head -n 1
 }
 
-# CRATE..: copies crates of the repository into a repository of their own, in which programs of this
-# folder are proved and built.
+# CRATE..: copies crates of the repository, with those below them, into a repository of their own, in
+# which programs of this folder are proved and built.
 copy_crates() {
     for name in "$@"; do
+        line=$(grep "^$name[ :]" "$here/../crates.txt") || continue
+        [ ! -d "$work/crates/$name" ] || continue
         mkdir -p "$work/crates/$name"
         for part in src specs proofs; do
             if [ -d "$here/../crates/$name/$part" ]; then
                 cp -R "$here/../crates/$name/$part" "$work/crates/$name"
             fi
         done
-        grep "^$name:" "$here/../crates.txt" >>"$work/crates.txt"
+        echo "$line" >>"$work/crates.txt"
+        copy_crates ${line#*:}
     done
 }
 

@@ -18,7 +18,7 @@ here=$(CDPATH='' cd -- "$(dirname -- "$0")" && pwd)
 . "$here/common.sh"
 
 compile queries
-copy_crates col_table plan_ast build_sides csv_tables script_json load_gen pipe_ops report_text
+copy_crates load_gen pipe_ops report_text
 add_crate whole_stages pipe_ops plan_ast report_text
 add_crate query_times build_sides load_gen plan_ast report_text whole_stages
 program=$(build query_times)

@@ -19,13 +19,13 @@ here=$(CDPATH='' cd -- "$(dirname -- "$0")" && pwd)
 . "$here/common.sh"
 program=$(built_program)
 
-copy_crates $(sed -n 's/^\([a-z_]*\):.*/\1/p' "$here/../crates.txt")
+copy_crates sched_tool
 add_crate whole_stages pipe_ops plan_ast report_text
 cp "$here/run_times/main.rt.txt" "$work/crates/sched_tool/src/main.rt"
 sed -i 's/^mod \(pace\|reports\|summary\);/pub mod \1;/' "$work/crates/sched_tool/src/program.rt"
 sed -i 's/^fn generated_plan/pub fn generated_plan/' \
     "$work/crates/sched_tool/src/program/summary.rt"
-sed -i 's/^sched_tool:.*/& whole_stages/' "$work/crates.txt"
+sed -i 's/^sched_tool[ :].*/& whole_stages/' "$work/crates.txt"
 times=$(build sched_tool)
 
 cd "$work"

@@ -269,8 +269,8 @@ def read_claims(lines, name, total, workers):
         expect(0 < size <= MOST_TUPLES, f"set {name}: a claim of {size} tuples")
         expect(worker < workers, f"set {name}: a claim of worker {worker}")
         if worker not in seen:
-            right = min(FIRST_SIZE, total - begin)
-            expect(size == right, f"set {name}: the first claim of worker {worker} has {size} tuples")
+            first = min(FIRST_SIZE, total - begin)
+            expect(size == first, f"set {name}: worker {worker} begins with {size} tuples")
         seen.add(worker)
         end = claim[1]
         claims.append((worker, size))

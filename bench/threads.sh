@@ -59,21 +59,26 @@ time_round() {
     paste -d ' ' ours plain >>"$1/rows"
 }
 
-# ROWS WORKERS RUN PLAIN: a line of the table. RUN and PLAIN are columns of the rounds.
+# ROWS WORKERS RUN PLAIN: a line of the table. RUN and PLAIN are columns of the rounds, and the next
+# one after RUN has the morsels; PLAIN is 0 if there are no such threads.
 row() {
     awk -v run="$3" -v plain="$4" '{
-        print $run / 1000000, $run / $1, $3 / $run, $plain / 1000000, $run / $plain, $(run + 1)
+        printf "%.2f %.3f %.2f %d", $run / 1000000, $run / $1, $2 / $run, $(run + 1)
+        if (plain) printf " %.2f %.3f", $plain / 1000000, $run / $plain
+        print ""
     }' "$1/rows" >medians
-    [ "$4" -gt 0 ] && plain="$(median medians 4) $(median medians 5)" || plain='- -'
+    beside='- -'
+    [ "$4" -eq 0 ] || beside="$(median medians 5) $(median medians 6)"
     printf "$format" "$1" "$2" "$(median medians 1)" "$(median medians 2)" "$(median medians 3)" \
-        $plain "$(median medians 6)"
+        $beside "$(median medians 4)"
 }
 
 # ROWS WORKERS: how often a run yielded.
 yields() {
     command -v strace >/dev/null || { echo -; return; }
-    strace -f -c -e trace=sched_yield -o counts "$program" run "$1/s.json" --workers "$2" >/dev/null
-    awk '$NF == "sched_yield" { count = $4 } END { print count + 0 }' counts
+    (cd "$1" && strace -f -c -e trace=sched_yield -o counts "$program" run s.json --workers "$2") \
+        >/dev/null
+    awk '$NF == "sched_yield" { count = $4 } END { print count + 0 }' "$1/counts"
 }
 
 # ROUNDS WORKERS: the functions of a process that makes so many runs, each with its samples before
@@ -111,11 +116,11 @@ done
 format='%8s %8s %8s %9s %9s %9s %10s %8s\n'
 printf "$format" rows workers 'run ms' 'run/work' 'one/run' 'plain ms' 'run/plain' morsels
 for rows in $all_rows; do
-    row "$rows" 1 3 13
-    row "$rows" 2 5 14
-    row "$rows" 4 7 15
-    row "$rows" 8 9 16
-    row "$rows" 64 11 0
+    row "$rows" 1 2 12
+    row "$rows" 2 4 13
+    row "$rows" 4 6 14
+    row "$rows" 8 8 15
+    row "$rows" 64 10 0
 done
 format='%8s %8s %8s %9s\n'
 printf "$format" rows workers yields 'own %'

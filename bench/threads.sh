@@ -1,21 +1,22 @@
 #!/bin/sh
-# Times runs by threads (`run`) of the large input of `make 7`, over 128 slots, with the 200,000 rows
-# that it has and with 1,048,576, which repeat these. A run is held against two other ways to answer
-# the same 40 queries: their work alone, by the stages of `pipe_ops`, each over all of its tuples,
-# one query after another on one thread; and the plain C++ threads of threads.cpp, which must give
-# the answers of `check`.
+# Times runs by threads (`run`) of the large input of `make 7`, over 128 slots, with the 200,000
+# rows that it has and with 1,048,576, which repeat these. A run is held against two other ways to
+# answer the same 40 queries: their work alone, by the stages of `pipe_ops`, each over all of its
+# tuples, one query after another on one thread; and the plain C++ threads of threads.cpp, which
+# must give the answers of `check`.
 #
-# In each round two programs run one after the other: thread_times, which is the program itself with
-# another main file and times the work and a run by 1, 2, 4, 8 and 64 workers, over the same tables,
-# so that no reading counts; and threads.cpp by 1, 2, 4 and 8 threads. Each does so five times. For
-# each number of workers it prints the median time of a run, in milliseconds, and the medians of
-# these: the ratio to the work of the same round, the ratio of a run by one worker to it, the time
-# of the plain threads, the ratio to it, and how many morsels the run had.
+# In each round two programs run one after the other. The first is thread_times, the program itself
+# with another main file. It times the work and a run by 1, 2, 4, 8 and 64 workers, over the same
+# tables, so that no reading counts. The other is threads.cpp by 1, 2, 4 and 8 threads. Each does so
+# five times. For each number of workers the script prints the median time of a run, in
+# milliseconds, and the medians of these: its ratio to the work of the same round, how many times as
+# fast as one worker it was, the time of the plain threads, the ratio to it, and the morsels of the
+# run.
 #
 # Then it prints, for 1, 4 and 64 workers, how often a run yielded because its worker was idle (by
-# strace), and which share of all samples, or of all instructions, was in the scheduler's own code
-# (by perf, or else by valgrind), as far as there are these commands. That code is the crates named
-# below and what the compiler put into the threads. It is no test. It needs the command rt, a C++
+# strace), and which share of all samples (by perf), or of all instructions (by valgrind), was in
+# the scheduler's own code, as far as there are these commands. That code is the crates named below,
+# and what the compiler put into the threads. It is no test. It needs the command rt, a C++
 # compiler, and a machine that is otherwise idle.
 #
 #   bench/threads.sh [ROUNDS]        10 rounds by default
@@ -89,13 +90,13 @@ functions() {
         perf report -q -i samples --stdio -F sample,symbol 2>/dev/null | sed 's/ \[.\]//'
     elif command -v valgrind >/dev/null; then
         valgrind -q --tool=callgrind --callgrind-out-file=calls "$times" s.json "$1" "$2" >/dev/null
-        callgrind_annotate --threshold=100 calls | sed -n 's/([^)]*)//; /[0-9] .*:/s/[^ ]*://p' |
-            tr -d ,
+        callgrind_annotate --threshold=100 calls |
+            sed -n 's/^ *\([0-9][0-9,]*\) *([^)]*) *[^ :]*:/\1 /p' | tr -d ,
     fi
 }
 
-# ROWS WORKERS: the share of the scheduler's own code in the runs of a process, in percent. There are
-# so many runs that reading the input takes little beside them.
+# ROWS WORKERS: the share of the scheduler's own code in the runs of a process, in percent. The runs
+# are so many that reading the input takes little beside them.
 own_share() {
     (cd "$1" && functions $((20000000 / $1)) "$2") | awk -v own="^($own)(::|\$)" '
         $1 > 0 { all += $1; if ($2 ~ own) part += $1 }

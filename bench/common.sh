@@ -54,6 +54,13 @@ add_crate() {
     echo "$name: $*" >>"$work/crates.txt"
 }
 
+# MODULE..: lets the main file of a copy of the program call these modules of `program`.
+open_modules() {
+    for name in "$@"; do
+        sed -i "s/^mod $name;/pub mod $name;/" "$work/crates/sched_tool/src/program.rt"
+    done
+}
+
 # NAME: proves and builds the program of a crate, runs it once, and prints where it is.
 build() {
     echo "bench: proving and building $1, which can take minutes" >&2

@@ -33,8 +33,10 @@ compile threads
 program=$(built_program)
 copy_crates sched_tool
 add_crate whole_stages pipe_ops plan_ast report_text
-sed -i 's/^sched_tool[ :].*/& whole_stages/' crates.txt
+sed -i 's/^sched_tool[ :].*/& whole_stages/' "$work/crates.txt"
 cp "$here/thread_times/main.rt.txt" "$work/crates/sched_tool/src/main.rt"
+open_modules plan request subject threads
+sed -i 's/^fn run_plan/pub fn run_plan/' "$work/crates/sched_tool/src/program/threads.rt"
 times=$(build sched_tool)
 cd "$work"
 

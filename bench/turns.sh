@@ -22,9 +22,10 @@ program=$(built_program)
 copy_crates sched_tool
 add_crate whole_stages pipe_ops plan_ast report_text
 cp "$here/run_times/main.rt.txt" "$work/crates/sched_tool/src/main.rt"
-sed -i 's/^mod \(pace\|reports\|summary\);/pub mod \1;/' "$work/crates/sched_tool/src/program.rt"
+open_modules reports request summary
 sed -i 's/^fn generated_plan/pub fn generated_plan/' \
     "$work/crates/sched_tool/src/program/summary.rt"
+sed -i 's/^fn run_plan/pub fn run_plan/' "$work/crates/sched_tool/src/program/reports.rt"
 sed -i 's/^sched_tool[ :].*/& whole_stages/' "$work/crates.txt"
 times=$(build sched_tool)
 

@@ -23,6 +23,8 @@ MOST_TUPLES = 65536
 MOST_NS = 2**36
 MERGE_PARTS = 16
 MOST_JOINED = 200000
+# `check` joins by nested loops, so it looks at each pair of rows.
+MOST_PAIRS = 30000000
 MOST_PRINTED = 2000
 
 ROWS = [0, 1, 2, 3, 15, 16, 17, 47, 48, 49, 100, 257, 1000, 1000, 3000, 5000, 5000, 20000, 200000]
@@ -102,9 +104,10 @@ def draw_joins(draw, tables, scanned):
     for side in range(draw.choice([0, 0, 1, 1, 2])):
         name = draw.choice(list(tables))
         right = draw.choice(COLUMNS)
-        rows *= tables[name].rows_of_a_key(right)
-        if rows > MOST_JOINED:
-            return joins, rows / tables[name].rows_of_a_key(right)
+        joined = rows * tables[name].rows_of_a_key(right)
+        if rows * tables[name].rows > MOST_PAIRS or joined > MOST_JOINED:
+            return joins, rows
+        rows = joined
         left = draw_reference(draw, side + 1)
         where = draw_filters(draw, tables[name], 1)
         joins.append({"table": name, "left": left, "right": right, "where": where})
